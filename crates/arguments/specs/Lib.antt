@@ -1,6 +1,7 @@
 pub mod Arguments
 pub mod Dependencies
 pub mod Disablers
+pub mod Each
 pub mod Given
 pub mod Leaves
 pub mod Maybe
@@ -12,4 +13,5 @@ pub mod Row
 pub mod RowView
 pub mod Rows
 pub mod Rules
+pub mod Said
 pub mod Words

@@ -1,7 +1,10 @@
 //! What a call asks of its arguments beside its row, and the words that say what breaks it.
 ghost use Rattle.std.specs.Prelude.{◌≡◌, IfOk, string_bytes};
+ghost use Rattle.arguments.specs.Refused.{breaks, refused_data};
 ghost use Rattle.arguments.specs.Rules.{broken, rule_words, sign_of};
 
+use crate::refused::Refused;
+use basics::faults::Refusal;
 use std::alloc::{AllocError, Global};
 
 /// A rule that a text or the value of a keyword breaks.
@@ -142,5 +145,16 @@ impl Rule {
     {
         let (sign, words) = (self.sign(), self.words());
         format!(in alloc; "{sign}{text}': {words}")
+    }
+
+    /// The refusal of arguments of which this text breaks the rule, or the keyword of this name.
+    pub fn refused(self, alloc: Global, text: &str) -> Result<Refused, AllocError>
+        ensures { IfOk result (λ refused. refused_data refused ≡ breaks self text.now) }
+    {
+        let detail = self.broken(alloc, text)?;
+        Ok(Refused {
+            refusal: Refusal::Arguments,
+            detail,
+        })
     }
 }

@@ -1,5 +1,5 @@
 -- The names of configuration data that is made of a dictionary ascend, and are its keys.
-use Rattle.std.proofs.Common.{◌≡◌, ℕ, Bool, true, false, List, [], ◌∷◌, Option, Some, None, refl, sym, ap, ◌∙◌, subst, bytes_eq}
+use Rattle.std.proofs.Common.{◌≡◌, ℕ, Bool, true, false, List, [], ◌∷◌, Result, Ok, Err, refl, sym, ap, ◌∙◌, subst, bytes_eq}
 use Rattle.std.specs.Prelude.{◌||◌}
 use Rattle.std.specs.Ordering.{nat_cmp, match_ordering, ordering_reverse, is_eq}
 use Rattle.std.specs.declared.cmp.Ordering.{Ordering}
@@ -13,7 +13,8 @@ use Rattle.std.proofs.lemmas.Map.Text.{is_eq-slice_cmp}
 use Rattle.std.proofs.lemmas.Slice.Eq.{bytes_eq-Decides}
 use Rattle.data.specs.Data.{Entries as DictionaryEntries, no_entries, entry, keys_in, entry_values}
 use Rattle.template.specs.Config.{Content, Entries, names, with_value}
-use Rattle.configuration_calls.specs.Contents.{content_at, set_then, all_set}
+use Rattle.arguments.specs.Said.{Said, ◌>>=◌}
+use Rattle.configuration_calls.specs.Contents.{content_at, all_set}
 use Rattle.basics.specs.Among.{is_among}
 use Rattle.configuration_calls.specs.NameOrder.{Ascend, NamesAscend}
 
@@ -100,25 +101,25 @@ names_with entries k v = names_inserted entries k v
 abbrev Kept : (before keys : List (List ℕ)) (result : Entries) → Type 0
 Kept before keys result = Ascend (names result) × ((q : List ℕ) → is_among (names result) q ≡ (is_among before q || is_among keys q))
 
-absent : {X : Type 0} (r : X) → None ≡ Some r → {P : Type 0} → P
-absent r e = absurd cc
+refused_not : {X E : Type 0} (refused : E) (r : X) → ◌≡◌ {A = Result X E} (Err refused) (Ok r) → {P : Type 0} → P
+refused_not refused r e = absurd cc
 
-some_is : {X : Type 0} (a b : X) → Some a ≡ Some b → a ≡ b
-some_is a b e = cc
+same_said : {X E : Type 0} (a b : X) → ◌≡◌ {A = Result X E} (Ok a) (Ok b) → a ≡ b
+same_said a b e = cc
 
-all_kept : (entries : Entries) (es : DictionaryEntries) (r : Entries) → Ascend (names entries) → all_set entries (keys_in es) (entry_values es) ≡ Some r
+all_kept : (entries : Entries) (es : DictionaryEntries) (r : Entries) → Ascend (names entries) → all_set entries (keys_in es) (entry_values es) ≡ Ok r
     → Kept (names entries) (keys_in es) r
 all_kept entries no_entries r a e =
-    subst (λ x. Kept (names entries) [] x) (some_is entries r e) (a, λ q. or_none (is_among (names entries) q))
+    subst (λ x. Kept (names entries) [] x) (same_said entries r e) (a, λ q. or_none (is_among (names entries) q))
 all_kept entries (entry k d es) r a e =
     by (content_at k d) e
     (λ content. all_kept (with_value entries k content) es r (subst Ascend (sym (names_with entries k content)) (ascend_inserted (names entries) k a)))
   where
-    by : (c : Option Content) → set_then c (λ content. all_set (with_value entries k content) (keys_in es) (entry_values es)) ≡ Some r
-        → ((content : Content) → all_set (with_value entries k content) (keys_in es) (entry_values es) ≡ Some r → Kept (names (with_value entries k content)) (keys_in es) r)
+    by : (c : Said Content) → (c >>= (λ content. all_set (with_value entries k content) (keys_in es) (entry_values es))) ≡ Ok r
+        → ((content : Content) → all_set (with_value entries k content) (keys_in es) (entry_values es) ≡ Ok r → Kept (names (with_value entries k content)) (keys_in es) r)
         → Kept (names entries) (k ∷ keys_in es) r
-    by None f next = absent r f
-    by (Some content) f next =
+    by (Err refused) f next = refused_not refused r f
+    by (Ok content) f next =
         let h = next content f in (
           h.0,
           λ q.

@@ -7,13 +7,12 @@ use Rattle.data.specs.declared.object.Object.TheVariants as objects
 use Rattle.template.specs.Config.{Configuration}
 use Rattle.world.specs.Configuring.{add_configuration}
 use Rattle.world.specs.Deed.{Deed, give, ◌>>=◌}
-use Rattle.world.specs.Ruled.{ruled}
-use Rattle.configuration_calls.specs.Breaches.{values_breach}
+use Rattle.world.specs.Fit.{passed}
 use Rattle.configuration_calls.specs.Given.{data_given}
 
 -- the data that the arguments describe: E9 where a key is no name, or a value no text, integer or truth value
 unfoldable pub said_data : ArgumentsData → Deed Configuration
-said_data a = ruled (data_given (argument 0 a)) (values_breach (argument 0 a)).0 (values_breach (argument 0 a)).1
+said_data a = passed (data_given (argument 0 a))
 
 -- `configuration_data(dictionary)`: data with the values of the dictionary, which may be left out
 unfoldable pub configuration_data : ArgumentsData → Deed (Option Data)

@@ -1,31 +1,28 @@
 -- `configure_file`: a file that is made while the definition files are read.
-use Rattle.std.specs.Prelude.{ℕ, Bool, true, false, List, [], ◌∷◌, Option, Some, None, codes, bytes_eq, is_some, option_and_then}
-use Rattle.std.specs.Prelude.{option_map}
-use Rattle.std.specs.Prelude.{if◌then◌else◌}
+use Rattle.std.specs.Prelude.{ℕ, Bool, true, false, [], Option, Some, None, codes, bytes_eq, option_map}
 use Rattle.arguments.specs.Arguments.{ArgumentsData}
 use Rattle.arguments.specs.Given.{keyword, text_given, text_of}
-use Rattle.arguments.specs.Leaves.{leaves_named}
 use Rattle.data.specs.Data.{Data, object, text}
 use Rattle.data.specs.Limits.{within_bytes}
-use Rattle.data.specs.declared.object.Object.{Object}
 use Rattle.data.specs.declared.object.Object.TheVariants as objects
 use Rattle.edge.specs.Texts.{Path, Text}
 use Rattle.arguments.specs.declared.rule.Rule.TheVariants as rules
 use Rattle.basics.specs.declared.faults.refusal.Refusal.TheVariants as refusals
 use Rattle.paths.specs.Below.{path_below}
-use Rattle.paths.specs.Paths.{tree_path, path_in}
+use Rattle.paths.specs.Paths.{path_in}
 use Rattle.paths.specs.Names.{is_file_name}
 use Rattle.project.specs.World.{InstallData}
 use Rattle.resources.specs.Installs.{destination}
 use Rattle.world.specs.Configuring.{freeze_configured}
 use Rattle.world.specs.Declaring.{add_install}
 use Rattle.world.specs.Deed.{Deed, give, read, make, ◌>>=◌, answered, need}
-use Rattle.world.specs.Ruled.{obeyed, ruled}
-use Rattle.configuration_calls.specs.Breaches.{input_breach, values_breach}
+use Rattle.world.specs.Fit.{passed}
+use Rattle.world.specs.Ruled.{obeyed}
 use Rattle.world.specs.Making.{Filling}
 use Rattle.world.specs.Options.{option_text}
 use Rattle.world.specs.World.{Facts}
-use Rattle.configuration_calls.specs.Given.{GivenData, given_by}
+use Rattle.configuration_calls.specs.Given.{GivenData, configuration_given}
+use Rattle.configuration_calls.specs.Inputs.{input_named}
 use Rattle.configuration_calls.specs.Written.{header_filling, template_at, template_filling}
 
 -- ---- what the arguments say
@@ -42,41 +39,17 @@ fits_format (Some d) = is_meson d
 abbrev pub has_meson_format : ArgumentsData → Bool
 has_meson_format a = fits_format (keyword (codes "format") a)
 
--- a file of the tree; one that is built is none
-abbrev pub tree_file : Object → Option Path
-tree_file (objects.File path true) = None
-tree_file (objects.File path false) = Some path
-tree_file _ = None
-
--- the file of the tree that a value names in a definition file of a folder
-abbrev pub file_named : (source_root folder : Path) → Data → Option Path
-file_named source_root folder (text t) = tree_path source_root folder t
-file_named source_root folder (object o) = tree_file o
-file_named source_root folder _ = None
-
--- that of just one value
-abbrev pub one_file : (source_root folder : Path) → List Data → Option Path
-one_file source_root folder (d ∷ []) = file_named source_root folder d
-one_file source_root folder _ = None
-
--- the path that `input` names, which may be left out; none where it names no file, or several
-abbrev pub input_named : (source_root folder : Path) → ArgumentsData → Option (Option Path)
-input_named source_root folder a =
-    if is_some (keyword (codes "input") a) then option_map Some (one_file source_root folder (leaves_named (codes "input") a))
-    else Some None
-
 -- the template: E9 where `input` names none
 unfoldable pub input_given : ArgumentsData → Deed (Option Path)
 input_given a = do
   facts ← read
-  ruled (input_named facts.settings.source_root facts.folder a) (input_breach a).0 (input_breach a).1
+  passed (input_named facts.settings.source_root facts.folder a)
 
 -- the values of `configuration`: E9 where they are no configuration data
 unfoldable pub values_given : ArgumentsData → Deed GivenData
 values_given a = do
   facts ← read
-  ruled (option_and_then (given_by facts) (keyword (codes "configuration") a)) (values_breach (keyword (codes "configuration") a)).0
-      (values_breach (keyword (codes "configuration") a)).1
+  passed (configuration_given facts a)
 
 -- ---- where the output is installed
 

@@ -1,11 +1,13 @@
 -- Values of the language in configuration data.
 use Rattle.std.specs.Prelude.{ℕ, ◌==◌, List, [], ◌∷◌, Option, Some, None, option_map, unwrap_or, Result, Ok, Err, if◌then◌else◌}
+use Rattle.arguments.specs.Said.{Said, ◌>>=◌, found, kept}
+use Rattle.arguments.specs.declared.rule.Rule.TheVariants as rules
 use Rattle.data.specs.Data.{Data, boolean, integer, text, Entries as DictionaryEntries, Items, no_items, item}
 use Rattle.data.specs.Data.{entry_values, keys_in}
 use Rattle.data.specs.Limits.{within}
 use Rattle.data.specs.declared.refusal.Refusal.{Refusal}
 use Rattle.data.specs.declared.refusal.Refusal.TheVariants as refusal
-use Rattle.template.specs.Config.{Bytes, Content, Entries, Flag, Number, with_value}
+use Rattle.template.specs.Config.{Bytes, Configuration, Content, Entries, Flag, Number, unfrozen, with_value}
 use Rattle.template.specs.Line.{is_name}
 
 -- configuration data hold texts, integers and truth values
@@ -22,23 +24,29 @@ data_in (Bytes t) = text t
 
 -- ---- a dictionary as configuration data
 
--- what a name may stand for; none where it is no name or the value is of another type
-abbrev pub content_at : List ℕ → Data → Option Content
-content_at name d = if is_name name then content_in d else None
+-- what a name stands for: one that is no name breaks a rule, and one whose value is of another type
+abbrev pub content_at : List ℕ → Data → Said Content
+content_at name d = do
+  _ ← kept (is_name name) rules.IsValueName name
+  found (content_in d) rules.IsSetting name
 
-abbrev pub set_then : Option Content → (Content → Option Entries) → Option Entries
-set_then None next = None
-set_then (Some content) next = next content
-
--- names with their values, set in turn behind what is there; none where one of them can't be set
-abbrev pub all_set : Entries → List (List ℕ) → Items → Option Entries
-all_set entries [] ds = Some entries
-all_set entries (k ∷ ks) no_items = Some entries
-all_set entries (k ∷ ks) (item d ds) = set_then (content_at k d) (λ content. all_set (with_value entries k content) ks ds)
+-- names with their values, set in turn behind what is there
+abbrev pub all_set : Entries → List (List ℕ) → Items → Said Entries
+all_set entries [] ds = Ok entries
+all_set entries (k ∷ ks) no_items = Ok entries
+all_set entries (k ∷ ks) (item d ds) = do
+  content ← content_at k d
+  all_set (with_value entries k content) ks ds
 
 -- a dictionary as configuration data, where its keys are names and its values texts, integers and truth values
-abbrev pub entries_in : DictionaryEntries → Option Entries
+abbrev pub entries_in : DictionaryEntries → Said Entries
 entries_in es = all_set [] (keys_in es) (entry_values es)
+
+-- data with these values
+abbrev pub data_with : Said Entries → Said Configuration
+data_with said = do
+  entries ← said
+  Ok (unfrozen entries)
 
 -- ---- what is asked of a name
 

@@ -1,9 +1,9 @@
-pub mod Breaches
 pub mod ConfigurationData
 pub mod ConfigureFile
 pub mod Contents
 pub mod Given
 pub mod GivenView
+pub mod Inputs
 pub mod Methods
 pub mod Rows
 pub mod Written

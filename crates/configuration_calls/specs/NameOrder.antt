@@ -1,5 +1,5 @@
 -- What configuration data that is made of a dictionary comes to.
-use Rattle.std.specs.Prelude.{◌≡◌, ℕ, List, [], ◌∷◌, Some}
+use Rattle.std.specs.Prelude.{◌≡◌, ℕ, List, [], ◌∷◌, Ok}
 use Rattle.std.specs.Ordering.{nat_cmp}
 use Rattle.std.specs.Cmp.Lexicographic.{slice_cmp}
 use Rattle.std.specs.List.{AllByRecursion}
@@ -16,5 +16,5 @@ Ascend (t ∷ ts) = AllByRecursion (λ u. slice_cmp nat_cmp t u ≡ Less) ts × 
 
 -- its names ascend, and they are the keys of the dictionary
 abbrev pub NamesAscend : Type 0
-NamesAscend = (es : DictionaryEntries) (entries : Entries) → entries_in es ≡ Some entries
+NamesAscend = (es : DictionaryEntries) (entries : Entries) → entries_in es ≡ Ok entries
     → Ascend (names entries) × ((k : List ℕ) → is_among (names entries) k ≡ is_among (keys_in es) k)

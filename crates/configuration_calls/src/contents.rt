@@ -1,14 +1,16 @@
 //! Values of the language in configuration data.
 ghost use Rattle.std.specs.Prelude.{◌≡◌, [], IfOk, OnOk, option_map};
 ghost use Rattle.std.specs.List.{list_all};
+ghost use Rattle.arguments.specs.Refused.{answer_data, said_data};
 ghost use Rattle.data.specs.Data.{text as text_data};
-ghost use Rattle.template.specs.Config.{unfrozen, with_value};
+ghost use Rattle.template.specs.Config.{with_value};
 ghost use Rattle.template.specs.ConfigData.{content_of};
 ghost use Rattle.template.specs.Line.{is_name, is_name_byte};
 ghost use Rattle.world.specs.Prelude.{Answers, data_of, items_of, within};
-ghost use Rattle.configuration_calls.specs.Contents.{all_set, content_at, content_in, data_in, entries_in, fallback_or_none, found_or};
-ghost use Rattle.configuration_calls.specs.Contents.{found_unquoted, unquoted, unquoted_fallback, unquoted_text};
+ghost use Rattle.configuration_calls.specs.Contents.{all_set, content_at, content_in, data_in, data_with, entries_in, fallback_or_none};
+ghost use Rattle.configuration_calls.specs.Contents.{found_or, found_unquoted, unquoted, unquoted_fallback, unquoted_text};
 
+use arguments::{Refused, Rule};
 use data::{Dictionary, Refusal, Text, Value};
 use std::alloc::{AllocError, Global};
 use template::{ConfigData, ConfigValue};
@@ -49,14 +51,20 @@ pub fn content_in(alloc: Global, value: &Value) -> Result<Option<ConfigValue>, A
     }
 }
 
-// The same where the name may be one of configuration data.
-fn content_at(alloc: Global, name: &str, value: &Value) -> Result<Option<ConfigValue>, AllocError>
-    ensures { IfOk result (λ c. option_map content_of c ≡ content_at name.now (data_of value.now)) }
+// What a name stands for. One that configuration data can't have breaks a rule, and one whose value they can't hold.
+fn content_at(
+    alloc: Global,
+    name: &str,
+    value: &Value,
+) -> Result<Result<ConfigValue, Refused>, AllocError>
+    ensures { IfOk result (λ c. said_data content_of c ≡ content_at name.now (data_of value.now)) }
 {
-    if is_name(name) {
-        content_in(alloc, value)
-    } else {
-        Ok(None)
+    if !is_name(name) {
+        return Ok(Err(Rule::IsValueName.refused(alloc, name)?));
+    }
+    match content_in(alloc, value)? {
+        Some(content) => Ok(Ok(content)),
+        None => Ok(Err(Rule::IsSetting.refused(alloc, name)?)),
     }
 }
 
@@ -70,30 +78,33 @@ fn set(held: &mut ConfigData, name: &str, content: ConfigValue) -> Result<(), Al
     }
 }
 
-// Data with these values at these names, where all of them can be set.
+// Data with these values at these names, up to the first that can't be set.
 fn all_set(
     alloc: Global,
     names: &[Text],
     values: &[Value],
-) -> Result<Option<ConfigData>, AllocError>
-    ensures { IfOk result (λ c. c ≡ option_map unfrozen (all_set [] names.now (items_of values.now))) }
+) -> Result<Result<ConfigData, Refused>, AllocError>
+    ensures { IfOk result (λ c. answer_data c ≡ data_with (all_set [] names.now (items_of values.now))) }
 {
     let mut held = ConfigData::new(alloc);
     for (i, name) in names.iter().enumerate() {
         match values.get(i) {
             Some(value) => match content_at(alloc, name.as_str(), value)? {
-                Some(content) => set(&mut held, name.as_str(), content)?,
-                None => return Ok(None),
+                Ok(content) => set(&mut held, name.as_str(), content)?,
+                Err(refused) => return Ok(Err(refused)),
             },
-            None => return Ok(Some(held)),
+            None => return Ok(Ok(held)),
         }
     }
-    Ok(Some(held))
+    Ok(Ok(held))
 }
 
-/// A dictionary as configuration data: none where a key is no name of such, or a value no text, integer or truth value.
-pub fn entries_in(alloc: Global, dictionary: &Dictionary) -> Result<Option<ConfigData>, AllocError>
-    ensures { IfOk result (λ c. c ≡ option_map unfrozen (entries_in dictionary.now)) }
+/// A dictionary as configuration data. A key that is no name of such breaks a rule, and a value that is no text, integer or truth value.
+pub fn entries_in(
+    alloc: Global,
+    dictionary: &Dictionary,
+) -> Result<Result<ConfigData, Refused>, AllocError>
+    ensures { IfOk result (λ c. answer_data c ≡ data_with (entries_in dictionary.now)) }
 {
     all_set(alloc, dictionary.keys(), dictionary.values())
 }

@@ -1,33 +1,36 @@
 //! `configuration_data`.
 ghost use Rattle.std.specs.Prelude.{◌≡◌, IfOk, option_map};
+ghost use Rattle.arguments.specs.Refused.{answer_data};
 ghost use Rattle.world.specs.Prelude.{Does, arguments_data, data_of};
 ghost use Rattle.configuration_calls.specs.ConfigurationData.{configuration_data, said_data};
-ghost use Rattle.configuration_calls.specs.Given.{data_given, data_with};
+ghost use Rattle.configuration_calls.specs.Given.{data_given, data_in};
 
-use crate::breaches::values_breach;
 use crate::contents::entries_in;
-use arguments::Arguments;
+use arguments::{Arguments, Refused, Rule};
 use data::{Object, Value};
 use ports::{Outputs, Tree};
 use std::alloc::{AllocError, Global};
 use template::ConfigData;
 use world::{Caller, Stop};
 
-fn data_with(alloc: Global, value: &Value) -> Result<Option<ConfigData>, AllocError>
-    ensures { IfOk result (λ c. c ≡ data_with (data_of value.now)) }
+fn data_in(alloc: Global, value: &Value) -> Result<Result<ConfigData, Refused>, AllocError>
+    ensures { IfOk result (λ c. answer_data c ≡ data_in (data_of value.now)) }
 {
     match value {
         Value::Dictionary(dictionary) => entries_in(alloc, dictionary),
-        _ => Ok(None),
+        _ => Ok(Err(Rule::IsValueName.refused(alloc, "")?)),
     }
 }
 
-fn data_given(alloc: Global, value: Option<&Value>) -> Result<Option<ConfigData>, AllocError>
-    ensures { IfOk result (λ c. c ≡ data_given (option_map (λ v. data_of v.now) value.entry)) }
+fn data_given(
+    alloc: Global,
+    value: Option<&Value>,
+) -> Result<Result<ConfigData, Refused>, AllocError>
+    ensures { IfOk result (λ c. answer_data c ≡ data_given (option_map (λ v. data_of v.now) value.entry)) }
 {
     match value {
-        Some(value) => data_with(alloc, value),
-        None => Ok(Some(ConfigData::new(alloc))),
+        Some(value) => data_in(alloc, value),
+        None => Ok(Ok(ConfigData::new(alloc))),
     }
 }
 
@@ -38,15 +41,8 @@ fn said_data<T: Tree, O: Outputs>(
 ) -> Result<ConfigData, Stop>
     ensures { Does T.seen O.seen (λ c. c) (said_data (arguments_data arguments.now)) caller.now result caller.now }
 {
-    let value = arguments.argument(0);
-    let found = data_given(caller.alloc, value)?;
-    match found {
-        Some(values) => Ok(values),
-        None => {
-            let breach = values_breach(value);
-            caller.refuse_by(breach.0, breach.1)
-        }
-    }
+    let values = data_given(caller.alloc, arguments.argument(0))?;
+    caller.passed(values)
 }
 
 /// `configuration_data(dictionary)`: E9 where a key is no name, or a value no text, integer or truth value.

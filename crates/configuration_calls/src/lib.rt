@@ -2,7 +2,6 @@
 //! methods of its type `cfg_data`.
 #![tactic(auto)]
 
-mod breaches;
 mod contents;
 mod data_call;
 mod file_call;

@@ -1,15 +1,18 @@
 //! What the arguments of `configure_file` say.
-ghost use Rattle.std.specs.Prelude.{◌≡◌, IfOk, map, option_and_then, option_map, string_bytes};
+ghost use Rattle.std.specs.Prelude.{◌≡◌, IfOk, codes, map, option_map, string_bytes};
+ghost use Rattle.arguments.specs.Refused.{said_data};
+ghost use Rattle.arguments.specs.Said.{found};
+ghost use Rattle.arguments.specs.declared.rule.Rule.TheVariants.{TakesTreeFile};
+ghost use Rattle.data.specs.Data.{text as text_data};
 ghost use Rattle.world.specs.Prelude.{Does, arguments_data, data_of, world_of};
-ghost use Rattle.configuration_calls.specs.ConfigureFile.{file_named, has_meson_format, input_given, input_named, one_file, tree_file};
-ghost use Rattle.configuration_calls.specs.ConfigureFile.{values_given};
-ghost use Rattle.configuration_calls.specs.Given.{dictionary_given, given_by};
+ghost use Rattle.configuration_calls.specs.ConfigureFile.{has_meson_format, input_given, values_given};
+ghost use Rattle.configuration_calls.specs.Given.{configuration_given, dictionary_given, given_by};
 ghost use Rattle.configuration_calls.specs.GivenView.{given_view};
+ghost use Rattle.configuration_calls.specs.Inputs.{file_named, input_named, one_file, tree_file};
 
-use crate::breaches::{input_breach, values_breach};
 use crate::contents::entries_in;
 use crate::methods::number_in;
-use arguments::Arguments;
+use arguments::{Arguments, Refused, Rule};
 use data::{Object, Value};
 use paths::tree_path;
 use ports::{Outputs, Tree};
@@ -52,19 +55,44 @@ fn tree_file(alloc: Global, object: &Object) -> Result<Option<String>, AllocErro
     }
 }
 
+// The path of a text that names a file of the tree.
+fn text_named(
+    alloc: Global,
+    source_root: &str,
+    folder: &str,
+    text: &str,
+) -> Result<Result<String, Refused>, AllocError>
+    ensures { IfOk result (λ p. said_data string_bytes p ≡ file_named source_root.now folder.now (text_data text.now)) }
+{
+    match tree_path(alloc, source_root, folder, text)? {
+        Some(path) => Ok(Ok(path)),
+        None => Ok(Err(Rule::NamesFile.refused(alloc, text)?)),
+    }
+}
+
+// The path of an object that is a file of the tree.
+fn object_named(alloc: Global, object: &Object) -> Result<Result<String, Refused>, AllocError>
+    ensures { IfOk result (λ p. said_data string_bytes p ≡ found (tree_file object.now) TakesTreeFile (codes "input")) }
+{
+    match tree_file(alloc, object)? {
+        Some(path) => Ok(Ok(path)),
+        None => Ok(Err(Rule::TakesTreeFile.refused(alloc, "input")?)),
+    }
+}
+
 // The file of the tree that a value names in a definition file of a folder.
 fn file_named(
     alloc: Global,
     source_root: &str,
     folder: &str,
     value: &Value,
-) -> Result<Option<String>, AllocError>
-    ensures { IfOk result (λ p. option_map string_bytes p ≡ file_named source_root.now folder.now (data_of value.now)) }
+) -> Result<Result<String, Refused>, AllocError>
+    ensures { IfOk result (λ p. said_data string_bytes p ≡ file_named source_root.now folder.now (data_of value.now)) }
 {
     match value {
-        Value::Text(text) => tree_path(alloc, source_root, folder, text.as_str()),
-        Value::Object(object) => tree_file(alloc, object),
-        _ => Ok(None),
+        Value::Text(text) => text_named(alloc, source_root, folder, text.as_str()),
+        Value::Object(object) => object_named(alloc, object),
+        _ => Ok(Err(Rule::TakesTreeFile.refused(alloc, "input")?)),
     }
 }
 
@@ -74,32 +102,32 @@ fn one_file(
     source_root: &str,
     folder: &str,
     values: &[&Value],
-) -> Result<Option<String>, AllocError>
-    ensures { IfOk result (λ p. option_map string_bytes p ≡ one_file source_root.now folder.now (map (λ v. data_of v.now) values.now)) }
+) -> Result<Result<String, Refused>, AllocError>
+    ensures { IfOk result (λ p. said_data string_bytes p ≡ one_file source_root.now folder.now (map (λ v. data_of v.now) values.now)) }
 {
     match values {
         [value] => file_named(alloc, source_root, folder, value),
-        _ => Ok(None),
+        _ => Ok(Err(Rule::TakesOneFile.refused(alloc, "input")?)),
     }
 }
 
-// The path that the keyword `input` names; none where it names no file, or several.
+// The path that the keyword `input` names, which may be left out.
 fn input_named(
     alloc: Global,
     source_root: &str,
     folder: &str,
     arguments: &Arguments,
-) -> Result<Option<Option<String>>, AllocError>
-    ensures { IfOk result (λ p. option_map (option_map string_bytes) p
+) -> Result<Result<Option<String>, Refused>, AllocError>
+    ensures { IfOk result (λ p. said_data (option_map string_bytes) p
         ≡ input_named source_root.now folder.now (arguments_data arguments.now)) }
 {
     if arguments.keyword("input").is_none() {
-        return Ok(Some(None));
+        return Ok(Ok(None));
     }
     let values = arguments.leaves(alloc, "input")?;
     match one_file(alloc, source_root, folder, &values)? {
-        Some(path) => Ok(Some(Some(path))),
-        None => Ok(None),
+        Ok(path) => Ok(Ok(Some(path))),
+        Err(refused) => Ok(Err(refused)),
     }
 }
 
@@ -112,37 +140,35 @@ pub fn input_given<T: Tree, O: Outputs>(
 {
     let source_root = caller.store.settings().source_root.as_str();
     let input = input_named(caller.alloc, source_root, caller.store.folder(), arguments)?;
-    match input {
-        Some(input) => Ok(input),
-        None => {
-            let breach = input_breach(caller.alloc, arguments)?;
-            caller.refuse_by(breach.0, breach.1)
-        }
-    }
+    caller.passed(input)
 }
 
 // The values of a dictionary.
-fn dictionary_given(alloc: Global, value: &Value) -> Result<Option<Given>, AllocError>
-    ensures { IfOk result (λ g. option_map given_view g ≡ dictionary_given (data_of value.now)) }
+fn dictionary_given(alloc: Global, value: &Value) -> Result<Result<Given, Refused>, AllocError>
+    ensures { IfOk result (λ g. said_data given_view g ≡ dictionary_given (data_of value.now)) }
 {
     match value {
         Value::Dictionary(dictionary) => match entries_in(alloc, dictionary)? {
-            Some(values) => Ok(Some(Given {
+            Ok(values) => Ok(Ok(Given {
                 values,
                 number: None,
             })),
-            None => Ok(None),
+            Err(refused) => Ok(Err(refused)),
         },
-        _ => Ok(None),
+        _ => Ok(Err(Rule::IsValueName.refused(alloc, "")?)),
     }
 }
 
 // The values of configuration data or of a dictionary.
-fn given_by(alloc: Global, store: &Store, value: &Value) -> Result<Option<Given>, AllocError>
-    ensures { IfOk result (λ g. option_map given_view g ≡ given_by (world_of store.now).facts (data_of value.now)) }
+fn given_by(
+    alloc: Global,
+    store: &Store,
+    value: &Value,
+) -> Result<Result<Given, Refused>, AllocError>
+    ensures { IfOk result (λ g. said_data given_view g ≡ given_by (world_of store.now).facts (data_of value.now)) }
 {
     match number_in(value) {
-        Some(number) => Ok(Some(Given {
+        Some(number) => Ok(Ok(Given {
             values: store.copy_of_configuration(alloc, number)?,
             number: Some(number),
         })),
@@ -150,17 +176,18 @@ fn given_by(alloc: Global, store: &Store, value: &Value) -> Result<Option<Given>
     }
 }
 
-fn values_of(
+// Those of the keyword `configuration`.
+fn configuration_given(
     alloc: Global,
     store: &Store,
-    value: Option<&Value>,
-) -> Result<Option<Given>, AllocError>
-    ensures { IfOk result (λ g. option_map given_view g
-        ≡ option_and_then (given_by (world_of store.now).facts) (option_map (λ v. data_of v.now) value.entry)) }
+    arguments: &Arguments,
+) -> Result<Result<Given, Refused>, AllocError>
+    ensures { IfOk result (λ g. said_data given_view g
+        ≡ configuration_given (world_of store.now).facts (arguments_data arguments.now)) }
 {
-    match value {
+    match arguments.keyword("configuration") {
         Some(value) => given_by(alloc, store, value),
-        None => Ok(None),
+        None => Ok(Err(Rule::IsValueName.refused(alloc, "")?)),
     }
 }
 
@@ -171,13 +198,6 @@ pub fn values_given<T: Tree, O: Outputs>(
 ) -> Result<Given, Stop>
     ensures { Does T.seen O.seen given_view (values_given (arguments_data arguments.now)) caller.now result caller.now }
 {
-    let value = arguments.keyword("configuration");
-    let found = values_of(caller.alloc, caller.store, value)?;
-    match found {
-        Some(given) => Ok(given),
-        None => {
-            let breach = values_breach(value);
-            caller.refuse_by(breach.0, breach.1)
-        }
-    }
+    let given = configuration_given(caller.alloc, caller.store, arguments)?;
+    caller.passed(given)
 }

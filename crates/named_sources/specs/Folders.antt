@@ -3,8 +3,11 @@ use Rattle.std.specs.Prelude.{ℕ, List, [], ◌∷◌, Option, Some, None}
 use Rattle.data.specs.Data.{Data, text, object}
 use Rattle.data.specs.declared.object.Object.{Object}
 use Rattle.data.specs.declared.object.Object.TheVariants as objects
+use Rattle.arguments.specs.Said.{Said}
+use Rattle.arguments.specs.declared.rule.Rule.TheVariants as rules
 use Rattle.paths.specs.Paths.{folder_path}
-use Rattle.named_sources.specs.Each.{all_behind}
+use Rattle.arguments.specs.Each.{all_said}
+use Rattle.named_sources.specs.Unnamed.{named_by}
 
 abbrev pub one_path : Option (List ℕ) → Option (List (List ℕ))
 one_path None = None
@@ -21,6 +24,6 @@ folders_in source_root folder (text t) = one_path (folder_path source_root folde
 folders_in source_root folder (object o) = of_object o
 folders_in source_root folder _ = None
 
--- the folders that values name, all of them, or none where the call is refused (E9)
-abbrev pub folders_of : List ℕ → List ℕ → List Data → Option (List (List ℕ))
-folders_of source_root folder ds = all_behind (folders_in source_root folder) [] ds
+-- the folders that values name, all of them; the first that names none breaks a rule
+abbrev pub folders_of : List ℕ → List ℕ → List Data → Said (List (List ℕ))
+folders_of source_root folder ds = all_said (named_by rules.NamesFolder (folders_in source_root folder)) [] ds

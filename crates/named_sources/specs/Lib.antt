@@ -1,4 +1,3 @@
-pub mod Each
 pub mod Folders
 pub mod Holes
 pub mod HolesView

@@ -3,7 +3,7 @@ use Rattle.std.specs.Prelude.{ℕ, List, Option, Some, None}
 use Rattle.data.specs.Data.{Data, object}
 use Rattle.data.specs.declared.object.Object.{Object}
 use Rattle.data.specs.declared.object.Object.TheVariants as objects
-use Rattle.named_sources.specs.Each.{each_or_none}
+use Rattle.arguments.specs.Each.{each_or_none}
 
 abbrev pub of_object : Object → Option ℕ
 of_object (objects.BuildTarget number) = Some number

@@ -3,11 +3,14 @@ use Rattle.std.specs.Prelude.{ℕ, nat_eq, Bool, true, false, not, ◌||◌, Lis
 use Rattle.std.specs.Prelude.{Option, Some, None, option_map, if◌then◌else◌}
 use Rattle.std.specs.List.{ends_with}
 use Rattle.std.specs.Str.{bytes_eq}
+use Rattle.arguments.specs.Said.{Said}
+use Rattle.arguments.specs.declared.rule.Rule.TheVariants as rules
 use Rattle.data.specs.Data.{Data, text, object}
 use Rattle.data.specs.declared.object.Object.{Object}
 use Rattle.data.specs.declared.object.Object.TheVariants as objects
 use Rattle.paths.specs.Paths.{tree_path}
-use Rattle.named_sources.specs.Each.{each_or_none}
+use Rattle.arguments.specs.Each.{each_said}
+use Rattle.named_sources.specs.Unnamed.{named_by}
 
 pub data NamedData : Type 0 where
   -- a file of the tree
@@ -41,6 +44,6 @@ source_of source_root folder (text t) = if ends_in_name t then option_map tree (
 source_of source_root folder (object o) = of_object o
 source_of source_root folder _ = None
 
--- the sources that values name, all of them, or none where the call is refused (E9)
-abbrev pub sources_of : List ℕ → List ℕ → List Data → Option (List NamedData)
-sources_of source_root folder ds = each_or_none (source_of source_root folder) ds
+-- the sources that values name, all of them; the first that names none breaks a rule
+abbrev pub sources_of : List ℕ → List ℕ → List Data → Said (List NamedData)
+sources_of source_root folder ds = each_said (named_by rules.NamesFile (source_of source_root folder)) [] ds

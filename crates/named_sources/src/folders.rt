@@ -1,10 +1,13 @@
 //! The folders that the keyword `include_directories` names.
 ghost use Rattle.std.specs.Prelude.{◌≡◌, ◌++◌, IfOk, map, option_map, string_bytes};
+ghost use Rattle.arguments.specs.Refused.{said_data};
 ghost use Rattle.data.specs.Prelude.{data_of};
 ghost use Rattle.paths.specs.Folder.{strings_of};
 ghost use Rattle.paths.specs.Paths.{folder_path};
 ghost use Rattle.named_sources.specs.Folders.{folders_in, folders_of, of_object, one_path};
 
+use crate::unnamed::unnamed;
+use arguments::{Refused, Rule};
 use data::{Object, Text, Value};
 use paths::folder_path;
 use std::alloc::{AllocError, Global};
@@ -48,8 +51,8 @@ fn of_text(
     }
 }
 
-/// The folders that a value names.
-pub(crate) fn folders_in(
+// The folders that a value names.
+fn folders_in(
     alloc: Global,
     source_root: &str,
     folder: &str,
@@ -73,23 +76,23 @@ fn push_each(paths: &mut Vec<String>, more: Vec<String>) -> Result<(), AllocErro
     Ok(())
 }
 
-/// The paths of the folders that values, their lists opened, name in a definition file of a folder, the root's being empty. None where
-/// one of them is no text or object of `include_directories`, or a text that leads out of the tree.
+/// The paths of the folders that values, their lists opened, name in a definition file of a folder, the root's being empty. One that is
+/// no text or object of `include_directories`, or a text that leads out of the tree, breaks `Rule::NamesFolder`.
 pub fn folders_of(
     alloc: Global,
     source_root: &str,
     folder: &str,
     values: &[&Value],
-) -> Result<Option<Vec<String>>, AllocError>
-    ensures { IfOk result (λ ps. option_map strings_of ps
+) -> Result<Result<Vec<String>, Refused>, AllocError>
+    ensures { IfOk result (λ ps. said_data strings_of ps
         ≡ folders_of source_root.now folder.now (map (λ v. data_of v.now) values.now)) }
 {
     let mut paths = Vec::new(alloc);
     for value in values {
         match folders_in(alloc, source_root, folder, value)? {
             Some(more) => push_each(&mut paths, more)?,
-            None => return Ok(None),
+            None => return Ok(Err(unnamed(alloc, Rule::NamesFolder, value)?)),
         }
     }
-    Ok(Some(paths))
+    Ok(Ok(paths))
 }

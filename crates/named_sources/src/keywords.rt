@@ -2,6 +2,7 @@
 ghost use Rattle.std.specs.Prelude.{◌≡◌, IfOk, option_map};
 ghost use Rattle.arguments.specs.Arguments.{arguments_data};
 ghost use Rattle.arguments.specs.Leaves.{leaves_named};
+ghost use Rattle.arguments.specs.Refused.{said_data};
 ghost use Rattle.paths.specs.Folder.{strings_of};
 ghost use Rattle.named_sources.specs.Folders.{folders_of};
 ghost use Rattle.named_sources.specs.Libraries.{numbers_of};
@@ -11,7 +12,7 @@ ghost use Rattle.named_sources.specs.SourcesView.{named_views};
 use crate::folders::folders_of;
 use crate::libraries::numbers_of;
 use crate::sources::{NamedSource, sources_of};
-use arguments::Arguments;
+use arguments::{Arguments, Refused};
 use std::alloc::{AllocError, Global};
 
 /// The folders that a keyword names, as [`folders_of`] gives them.
@@ -21,8 +22,8 @@ pub fn folders_named(
     folder: &str,
     arguments: &Arguments,
     name: &str,
-) -> Result<Option<Vec<String>>, AllocError>
-    ensures { IfOk result (λ ps. option_map strings_of ps
+) -> Result<Result<Vec<String>, Refused>, AllocError>
+    ensures { IfOk result (λ ps. said_data strings_of ps
         ≡ folders_of source_root.now folder.now (leaves_named name.now (arguments_data arguments.now))) }
 {
     let values = arguments.leaves(alloc, name)?;
@@ -36,8 +37,8 @@ pub fn sources_named(
     folder: &str,
     arguments: &Arguments,
     name: &str,
-) -> Result<Option<Vec<NamedSource>>, AllocError>
-    ensures { IfOk result (λ ss. option_map named_views ss
+) -> Result<Result<Vec<NamedSource>, Refused>, AllocError>
+    ensures { IfOk result (λ ss. said_data named_views ss
         ≡ sources_of source_root.now folder.now (leaves_named name.now (arguments_data arguments.now))) }
 {
     let values = arguments.leaves(alloc, name)?;

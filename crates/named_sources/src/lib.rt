@@ -23,7 +23,6 @@ pub use keywords::{folders_named, numbers_named, sources_named};
 pub use outputs::{output_at, outputs_at};
 pub use sources::{NamedSource, sources_of};
 pub use things::{Thing, thing_of};
-pub use unnamed::{unnamed_folder, unnamed_source};
 pub use values::{directories_at, files_at};
 pub use versions::is_library_version;
 pub use words::push_words;

@@ -1,11 +1,14 @@
 //! The sources that a call names.
 ghost use Rattle.std.specs.Prelude.{◌≡◌, ◌++◌, IfOk, None, codes, nat_eq, map, option_map, if◌then◌else◌};
 ghost use Rattle.std.specs.List.{ends_with};
+ghost use Rattle.arguments.specs.Refused.{said_data};
 ghost use Rattle.data.specs.Prelude.{data_of};
 ghost use Rattle.named_sources.specs.Sources.{ends_in, ends_in_name, of_object, source_of, sources_of, tree};
 ghost use Rattle.paths.specs.Paths.{tree_path};
 ghost use Rattle.named_sources.specs.SourcesView.{named_view, named_views};
 
+use crate::unnamed::unnamed;
+use arguments::{Refused, Rule};
 use data::{Object, Text, Value};
 use paths::tree_path;
 use std::alloc::{AllocError, Global};
@@ -84,8 +87,8 @@ fn of_text(
     }
 }
 
-/// The source that a value names.
-pub(crate) fn source_of(
+// The source that a value names.
+fn source_of(
     alloc: Global,
     source_root: &str,
     folder: &str,
@@ -100,23 +103,23 @@ pub(crate) fn source_of(
     }
 }
 
-/// The sources that values, their lists opened, name in a definition file of a folder, in order. None where one of them is no text, file,
-/// custom target or output of one, or a text that names no file of the tree.
+/// The sources that values, their lists opened, name in a definition file of a folder, in order. One that is no text, file, custom target
+/// or output of one, or a text that names no file of the tree, breaks `Rule::NamesFile`.
 pub fn sources_of(
     alloc: Global,
     source_root: &str,
     folder: &str,
     values: &[&Value],
-) -> Result<Option<Vec<NamedSource>>, AllocError>
-    ensures { IfOk result (λ ss. option_map named_views ss
+) -> Result<Result<Vec<NamedSource>, Refused>, AllocError>
+    ensures { IfOk result (λ ss. said_data named_views ss
         ≡ sources_of source_root.now folder.now (map (λ v. data_of v.now) values.now)) }
 {
     let mut sources = Vec::with_capacity(alloc, values.len())?;
     for value in values {
         match source_of(alloc, source_root, folder, value)? {
             Some(source) => sources.push(source)?,
-            None => return Ok(None),
+            None => return Ok(Err(unnamed(alloc, Rule::NamesFile, value)?)),
         }
     }
-    Ok(Some(sources))
+    Ok(Ok(sources))
 }

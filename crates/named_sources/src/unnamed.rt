@@ -1,12 +1,10 @@
-//! The first text that names nothing, for which a call is refused: it is looked for only then.
-ghost use Rattle.std.specs.Prelude.{◌≡◌, IfOk, map};
+//! What is said of a value that names nothing.
+ghost use Rattle.std.specs.Prelude.{◌≡◌, IfOk};
+ghost use Rattle.arguments.specs.Refused.{breaks, refused_data};
 ghost use Rattle.data.specs.Prelude.{data_of};
-ghost use Rattle.named_sources.specs.Folders.{folders_in};
-ghost use Rattle.named_sources.specs.Sources.{source_of};
-ghost use Rattle.named_sources.specs.Unnamed.{first_unnamed, text_said};
+ghost use Rattle.named_sources.specs.Unnamed.{text_said};
 
-use crate::folders::folders_in;
-use crate::sources::source_of;
+use arguments::{Refused, Rule};
 use data::Value;
 use std::alloc::{AllocError, Global};
 
@@ -19,40 +17,9 @@ fn text_said(value: &Value) -> &str
     }
 }
 
-/// The first of these values that names no source, as a text; of another value it is empty.
-pub fn unnamed_source<'v>(
-    alloc: Global,
-    source_root: &str,
-    folder: &str,
-    values: &[&'v Value],
-) -> Result<&'v str, AllocError>
-    ensures { IfOk result (λ t. t.now
-        ≡ first_unnamed (source_of source_root.now folder.now) (map (λ v. data_of v.now) values.now)) }
+/// The refusal of a value that breaks a rule, as a text; of another value the text is empty.
+pub(crate) fn unnamed(alloc: Global, rule: Rule, value: &Value) -> Result<Refused, AllocError>
+    ensures { IfOk result (λ refused. refused_data refused ≡ breaks rule (text_said (data_of value.now))) }
 {
-    for value in values {
-        match source_of(alloc, source_root, folder, value)? {
-            Some(_) => {}
-            None => return Ok(text_said(value)),
-        }
-    }
-    Ok("")
-}
-
-/// The first of these values that names no folder, as a text; of another value it is empty.
-pub fn unnamed_folder<'v>(
-    alloc: Global,
-    source_root: &str,
-    folder: &str,
-    values: &[&'v Value],
-) -> Result<&'v str, AllocError>
-    ensures { IfOk result (λ t. t.now
-        ≡ first_unnamed (folders_in source_root.now folder.now) (map (λ v. data_of v.now) values.now)) }
-{
-    for value in values {
-        match folders_in(alloc, source_root, folder, value)? {
-            Some(_) => {}
-            None => return Ok(text_said(value)),
-        }
-    }
-    Ok("")
+    rule.refused(alloc, text_said(value))
 }

@@ -81,22 +81,3 @@ is_below text = not (bytes_eq text []) && (not (is_absolute text) && leads_down 
 -- The folder below this one that a text names, the root being the empty path. None where the text is empty, absolute or has a part `..`.
 abbrev pub folder_below : List ℕ → List ℕ → Option (List ℕ)
 folder_below folder text = if is_below text then folder_named (follow_parts [] (parts_of (path_in folder text))) else None
-
--- ---- many texts
-
-abbrev pub with_path : Option (List ℕ) → (List ℕ → Option (List (List ℕ))) → Option (List (List ℕ))
-with_path None next = None
-with_path (Some path) next = next path
-
--- paths, and behind them those that texts name, none where one text names none
-abbrev pub paths_behind : (List ℕ → Option (List ℕ)) → List (List ℕ) → List (List ℕ) → Option (List (List ℕ))
-paths_behind find paths [] = Some paths
-paths_behind find paths (t ∷ ts) = with_path (find t) (λ p. paths_behind find (paths ++ p ∷ []) ts)
-
--- the paths of the files that texts name, of which each names one
-abbrev pub tree_paths : List ℕ → List ℕ → List (List ℕ) → Option (List (List ℕ))
-tree_paths source_root folder ts = paths_behind (tree_path source_root folder) [] ts
-
--- the same of folders
-abbrev pub folder_paths : List ℕ → List ℕ → List (List ℕ) → Option (List (List ℕ))
-folder_paths source_root folder ts = paths_behind (folder_path source_root folder) [] ts

@@ -9,7 +9,5 @@ mod named;
 mod names;
 
 pub use below::{before_path, ends_with_slash, is_absolute, path_below};
-pub use named::{
-    folder_below, folder_path, folder_paths, join_parts, path_in, tree_path, tree_paths,
-};
+pub use named::{folder_below, folder_path, join_parts, path_in, tree_path};
 pub use names::{base_name, has_slash, is_file_name, plain_name};

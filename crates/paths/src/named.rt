@@ -3,9 +3,9 @@ ghost use Rattle.std.specs.Prelude.{◌≡◌, ◌++◌, ◌||◌, not, IfOk, ma
 ghost use Rattle.std.specs.Prelude.{if◌then◌else◌};
 ghost use Rattle.std.specs.List.{join_with_byte, list_all};
 ghost use Rattle.std.specs.Str.{bytes_eq};
-ghost use Rattle.paths.specs.Folder.{folder_of, strings_of};
-ghost use Rattle.paths.specs.Paths.{follow_part, follow_parts, folder_below, folder_named, folder_path, folder_paths, from_root};
-ghost use Rattle.paths.specs.Paths.{is_below, leads_down, named, parts_of, path_in, rest_after, tree_path, tree_paths};
+ghost use Rattle.paths.specs.Folder.{folder_of};
+ghost use Rattle.paths.specs.Paths.{follow_part, follow_parts, folder_below, folder_named, folder_path, from_root};
+ghost use Rattle.paths.specs.Paths.{is_below, leads_down, named, parts_of, path_in, rest_after, tree_path};
 
 use crate::below::is_absolute;
 use std::alloc::{AllocError, Global};
@@ -202,42 +202,4 @@ pub fn tree_path(
         Some(text) => named_path(alloc, text),
         None => Ok(None),
     }
-}
-
-/// The paths of the files that texts name in a definition file of a folder, in order. None where `tree_path` answers none of one.
-pub fn tree_paths(
-    alloc: Global,
-    source_root: &str,
-    folder: &str,
-    texts: &[&str],
-) -> Result<Option<Vec<String>>, AllocError>
-    ensures { IfOk result (λ paths. option_map strings_of paths ≡ tree_paths source_root.now folder.now (map (λ t. t.now) texts.now)) }
-{
-    let mut paths = Vec::new(alloc);
-    for text in texts {
-        match tree_path(alloc, source_root, folder, text)? {
-            Some(path) => paths.push(path)?,
-            None => return Ok(None),
-        }
-    }
-    Ok(Some(paths))
-}
-
-/// The paths of the folders that texts name in a definition file of a folder, in order. None where `folder_path` answers none of one.
-pub fn folder_paths(
-    alloc: Global,
-    source_root: &str,
-    folder: &str,
-    texts: &[&str],
-) -> Result<Option<Vec<String>>, AllocError>
-    ensures { IfOk result (λ paths. option_map strings_of paths ≡ folder_paths source_root.now folder.now (map (λ t. t.now) texts.now)) }
-{
-    let mut paths = Vec::new(alloc);
-    for text in texts {
-        match folder_path(alloc, source_root, folder, text)? {
-            Some(path) => paths.push(path)?,
-            None => return Ok(None),
-        }
-    }
-    Ok(Some(paths))
 }

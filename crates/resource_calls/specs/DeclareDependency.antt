@@ -6,18 +6,17 @@ use Rattle.data.specs.declared.object.Dependency.{Dependency}
 use Rattle.data.specs.declared.object.Object.TheVariants as objects
 use Rattle.targets.specs.Libraries.{linked_of}
 use Rattle.world.specs.Deed.{Deed, give, read, ◌>>=◌, answered}
-use Rattle.world.specs.Ruled.{ruled}
-use Rattle.resource_calls.specs.Breaches.{lists_breach}
+use Rattle.world.specs.Fit.{passed}
 use Rattle.resource_calls.specs.JoinedLists.{joined_dependency}
 use Rattle.resource_calls.specs.NamedFiles.{files_required}
 use Rattle.resource_calls.specs.OwnLists.{OwnData, own_lists}
 use Rattle.world.specs.Here.{here_of}
 
--- what the call lists of its own: E9 where it says none
+-- what the call lists of its own: E9 of arguments that break a rule
 unfoldable pub said_lists : ArgumentsData → Deed OwnData
 said_lists a = do
   facts ← read
-  ruled (own_lists (here_of facts) a) (lists_breach (here_of facts) a).0 (lists_breach (here_of facts) a).1
+  passed (own_lists (here_of facts) a)
 
 -- the dependency of these lists and those of its dependencies: E22 where one of them is too long
 unfoldable pub joined_given : ArgumentsData → OwnData → Deed Dependency

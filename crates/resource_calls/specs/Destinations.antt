@@ -1,15 +1,16 @@
 -- Where files go when they are installed.
-use Rattle.std.specs.Prelude.{List, Option, Some, None, option_map, codes}
+use Rattle.std.specs.Prelude.{List, [], Option, Some, None, Ok, option_map, codes}
 use Rattle.arguments.specs.Arguments.{ArgumentsData}
 use Rattle.arguments.specs.Given.{text_given, text_of}
+use Rattle.arguments.specs.Each.{each_said}
 use Rattle.arguments.specs.Leaves.{leaves_from}
-use Rattle.arguments.specs.Maybe.{◌>>=◌}
+use Rattle.arguments.specs.Said.{Said, ◌>>=◌, found}
+use Rattle.arguments.specs.declared.rule.Rule.TheVariants as rules
 use Rattle.edge.specs.Texts.{Path, Text}
 use Rattle.paths.specs.Below.{path_below}
 use Rattle.project.specs.World.{InstallData}
 use Rattle.paths.specs.Names.{plain_name}
 use Rattle.resources.specs.Installs.{destination, headers_folder, man_folder}
-use Rattle.named_sources.specs.Each.{each_or_none}
 use Rattle.named_sources.specs.Sources.{NamedData, tree, built, sources_of}
 use Rattle.world.specs.Here.{HereData, here_of}
 use Rattle.world.specs.Options.{option_text}
@@ -67,6 +68,15 @@ install_of folders sort a (tree path) = install_at folders sort a folders.here.s
 install_of folders sort a (built path) = install_at folders sort a folders.here.build_root path
 install_of folders sort a _ = None
 
+abbrev pub path_said : NamedData → Path
+path_said (tree path) = path
+path_said (built path) = path
+path_said _ = []
+
+-- a file that can't be installed so breaks a rule
+abbrev pub installed : FoldersData → Sort → ArgumentsData → NamedData → Said InstallData
+installed folders sort a n = found (install_of folders sort a n) rules.IsManPage (path_said n)
+
 -- ---- the call
 
 -- the files that the call names, and what is installed
@@ -74,13 +84,13 @@ pub record SaidData : Type 0 where
   pub named : List NamedData
   pub installs : List InstallData
 
-abbrev pub said_from : FoldersData → Sort → ArgumentsData → List NamedData → Option SaidData
+abbrev pub said_from : FoldersData → Sort → ArgumentsData → List NamedData → Said SaidData
 said_from folders sort a named = do
-  installs ← each_or_none (install_of folders sort a) named
-  Some (record { named = named; installs = installs })
+  installs ← each_said (installed folders sort a) [] named
+  Ok (record { named = named; installs = installs })
 
--- what the call says; none where a path leads out of the tree, or a man page has no section
-abbrev pub said_of : FoldersData → Sort → ArgumentsData → Option SaidData
+-- what the call says, where each path stays in the tree, and each man page has a section
+abbrev pub said_of : FoldersData → Sort → ArgumentsData → Said SaidData
 said_of folders sort a = do
   named ← sources_of folders.here.source_root folders.here.folder (leaves_from 0 a)
   said_from folders sort a named

@@ -5,17 +5,16 @@ use Rattle.data.specs.Data.{Data}
 use Rattle.project.specs.World.{InstallData}
 use Rattle.world.specs.Declaring.{add_install}
 use Rattle.world.specs.Deed.{Deed, give, read, ◌>>=◌}
-use Rattle.world.specs.Ruled.{ruled}
-use Rattle.resource_calls.specs.Breaches.{install_breach}
+use Rattle.world.specs.Fit.{passed}
 use Rattle.resource_calls.specs.Destinations.{SaidData, folders_in, said_of}
 use Rattle.resource_calls.specs.NamedFiles.{files_required}
 use Rattle.resource_calls.specs.declared.destinations.Sort.{Sort}
 
--- which files are installed where: E9 where the arguments say none
+-- which files are installed where: E9 of arguments that break a rule
 unfoldable pub said_installs : Sort → ArgumentsData → Deed SaidData
 said_installs sort a = do
   facts ← read
-  ruled (said_of (folders_in facts) sort a) (install_breach (folders_in facts) sort a).0 (install_breach (folders_in facts) sort a).1
+  passed (said_of (folders_in facts) sort a)
 
 -- the project takes note of each
 unfoldable pub all_installed : List InstallData → Deed (Unit {0})

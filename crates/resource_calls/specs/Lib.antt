@@ -1,4 +1,3 @@
-pub mod Breaches
 pub mod DeclareDependency
 pub mod Dependency
 pub mod Destinations
@@ -11,6 +10,7 @@ pub mod OwnListsView
 pub mod Programs
 pub mod Required
 pub mod Rows
+pub mod Runs
+pub mod RunsView
 pub mod TestCommands
-pub mod TestCommandsView
 pub mod Tests

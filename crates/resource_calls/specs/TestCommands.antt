@@ -1,4 +1,4 @@
--- The command and the environment of a test. Files and targets are absolute paths.
+-- The command of a test. Files and targets are absolute paths.
 use Rattle.std.specs.Prelude.{Bool, true, false, List, [], ◌∷◌, map, Option, Some, None, option_and_then, codes, if◌then◌else◌}
 use Rattle.arguments.specs.Arguments.{ArgumentsData}
 use Rattle.arguments.specs.Given.{argument}
@@ -9,10 +9,9 @@ use Rattle.data.specs.declared.object.Program.{Program}
 use Rattle.data.specs.declared.object.Program.TheVariants as programs
 use Rattle.edge.specs.Texts.{Path, Text}
 use Rattle.paths.specs.Below.{path_below}
-use Rattle.resources.specs.Testing.{environment}
 use Rattle.targets.specs.Data.{BuildData}
 use Rattle.targets.specs.Files.{file_path, is_library}
-use Rattle.named_sources.specs.Each.{all_behind}
+use Rattle.arguments.specs.Each.{all_behind}
 use Rattle.named_sources.specs.Things.{ThingData, a_file, a_program, a_target, all_outputs, an_output, thing_of}
 use Rattle.world.specs.Here.{HereData}
 
@@ -69,12 +68,7 @@ abbrev pub argument_words : HereData → Data → Option (List Text)
 argument_words here (text t) = Some (one_word t)
 argument_words here d = option_and_then (words_of here) (thing_in here d)
 
--- ---- what runs
-
-pub record RunData : Type 0 where
-  pub command : List Text
-  -- texts `NAME=VALUE`
-  pub environment : List Text
+-- ---- the command
 
 -- the program and its arguments
 abbrev pub command_given : HereData → ArgumentsData → Option (List Text)
@@ -82,10 +76,3 @@ command_given here a = do
   program ← argument 1 a
   words ← command_of here program
   all_behind (argument_words here) words (leaves_named (codes "args") a)
-
--- the command and the variables that a call says; none where it says no command, or no variables
-abbrev pub run_of : HereData → ArgumentsData → Option RunData
-run_of here a = do
-  command ← command_given here a
-  variables ← environment a
-  Some (record { command = command; environment = variables })

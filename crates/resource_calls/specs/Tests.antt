@@ -8,16 +8,15 @@ use Rattle.project.specs.World.{TestData}
 use Rattle.resources.specs.Testing.{seconds_of}
 use Rattle.world.specs.Declaring.{add_test}
 use Rattle.world.specs.Deed.{Deed, give, read, ◌>>=◌, answered}
-use Rattle.world.specs.Ruled.{ruled}
-use Rattle.resource_calls.specs.Breaches.{run_breach}
+use Rattle.world.specs.Fit.{passed}
 use Rattle.world.specs.Here.{here_of}
-use Rattle.resource_calls.specs.TestCommands.{RunData, run_of}
+use Rattle.resource_calls.specs.Runs.{RunData, run_of}
 
--- what runs, and with which variables: E9 where the arguments say none
+-- what runs, and with which variables: E9 of arguments that break a rule
 unfoldable pub said_run : ArgumentsData → Deed RunData
 said_run a = do
   facts ← read
-  ruled (run_of (here_of facts) a) (run_breach (here_of facts) a).0 (run_breach (here_of facts) a).1
+  passed (run_of (here_of facts) a)
 
 abbrev pub test_of : ArgumentsData → RunData → ℤ → TestData
 test_of a run seconds = record {

@@ -1,32 +1,21 @@
-//! The command and the environment of a test. Files and targets are absolute paths.
+//! The command of a test. Files and targets are absolute paths.
 ghost use Rattle.std.specs.Prelude.{◌≡◌, IfOk, map, option_map, string_bytes};
 ghost use Rattle.edge.specs.Texts.{texts};
-ghost use Rattle.named_sources.specs.Each.{all_behind};
+ghost use Rattle.arguments.specs.Each.{all_behind};
 ghost use Rattle.named_sources.specs.ThingsView.{thing_view};
 ghost use Rattle.paths.specs.Below.{path_below};
 ghost use Rattle.targets.specs.View.{build_view};
 ghost use Rattle.world.specs.Prelude.{arguments_data, data_of, here_view};
 ghost use Rattle.resource_calls.specs.TestCommands.{argument_words, command_given, command_of, command_words, file_word, one_word};
-ghost use Rattle.resource_calls.specs.TestCommands.{run_of, target_word, thing_in, word_if_executable, words_of, words_of_program};
-ghost use Rattle.resource_calls.specs.TestCommandsView.{run_view};
+ghost use Rattle.resource_calls.specs.TestCommands.{target_word, thing_in, word_if_executable, words_of, words_of_program};
 
 use arguments::Arguments;
 use data::{Program, Value};
 use named_sources::{Thing, strings, thing_of};
 use paths::path_below;
-use resources::environment;
 use std::alloc::{AllocError, Global};
 use targets::{BuildTarget, file_path};
 use world::Here;
-
-/// What a test runs.
-#[derive(Drop)]
-pub struct Run {
-    /// The words of the program and of its arguments.
-    pub command: Vec<String>,
-    /// Texts `NAME=VALUE`.
-    pub environment: Vec<String>,
-}
 
 // ---- things of the project, by the words that they are
 
@@ -178,7 +167,7 @@ fn words_behind(
     Ok(Some(all))
 }
 
-// ---- what runs
+// ---- the command
 
 /// The program and its arguments. None where it can't run.
 pub fn command_given(
@@ -195,20 +184,4 @@ pub fn command_given(
     };
     let values = arguments.leaves(here.alloc, "args")?;
     words_behind(here, words, &values)
-}
-
-/// The command and the variables that a call says. None where it says no command, or no variables.
-pub fn run_of(here: &Here<'_>, arguments: &Arguments) -> Result<Option<Run>, AllocError>
-    ensures { IfOk result (λ run. option_map run_view run ≡ run_of (here_view here.now) (arguments_data arguments.now)) }
-{
-    let Some(command) = command_given(here, arguments)? else {
-        return Ok(None);
-    };
-    match environment(here.alloc, arguments)? {
-        Some(environment) => Ok(Some(Run {
-            command,
-            environment,
-        })),
-        None => Ok(None),
-    }
 }

@@ -4,7 +4,6 @@ ghost use Rattle.world.specs.Prelude.{Does, MayFail, arguments_data, data_of};
 ghost use Rattle.resource_calls.specs.DeclareDependency.{declare_dependency, joined_given, said_lists};
 ghost use Rattle.resource_calls.specs.OwnListsView.{own_view};
 
-use crate::breaches::lists_breach;
 use crate::joined_lists::joined_dependency;
 use crate::named_files::require_files;
 use crate::own_lists::{Own, own_lists};
@@ -13,7 +12,7 @@ use data::{Dependency, Object, Value};
 use ports::{Outputs, Tree};
 use world::{Caller, Stop};
 
-// What the call lists of its own, or the refusal of arguments that say none.
+// What the call lists of its own, or the refusal of arguments that break a rule.
 fn said_lists<T: Tree, O: Outputs>(
     caller: &Caller<'_, T, O>,
     arguments: &Arguments,
@@ -21,14 +20,8 @@ fn said_lists<T: Tree, O: Outputs>(
     ensures { Does T.seen O.seen own_view (said_lists (arguments_data arguments.now)) caller.now result caller.now }
 {
     let here = caller.here();
-    let found = own_lists(&here, arguments)?;
-    match found {
-        Some(own) => Ok(own),
-        None => {
-            let breach = lists_breach(&here, arguments)?;
-            caller.refuse_by(breach.0, breach.1)
-        }
-    }
+    let own = own_lists(&here, arguments)?;
+    caller.passed(own)
 }
 
 // The dependency with these lists, or the refusal of lists that are too long.

@@ -1,14 +1,16 @@
 //! Where files go when they are installed.
-ghost use Rattle.std.specs.Prelude.{◌≡◌, IfOk, codes, map, option_map, string_bytes};
+ghost use Rattle.std.specs.Prelude.{◌≡◌, IfOk, [], codes, map, option_map, string_bytes};
+ghost use Rattle.arguments.specs.Each.{each_said};
 ghost use Rattle.arguments.specs.Given.{text_given};
+ghost use Rattle.arguments.specs.Refused.{said_data};
 ghost use Rattle.project.specs.View.{install_view};
-ghost use Rattle.named_sources.specs.Each.{each_or_none};
 ghost use Rattle.named_sources.specs.SourcesView.{named_view};
 ghost use Rattle.world.specs.Prelude.{arguments_data, state_of};
-ghost use Rattle.resource_calls.specs.Destinations.{folders_in, given_or, install_at, install_folder, install_of, said_of, usual_folder};
+ghost use Rattle.resource_calls.specs.Destinations.{folders_in, given_or, install_at, install_folder, install_of, installed, path_said};
+ghost use Rattle.resource_calls.specs.Destinations.{said_of, usual_folder};
 ghost use Rattle.resource_calls.specs.DestinationsView.{folders_view, said_view};
 
-use arguments::Arguments;
+use arguments::{Arguments, Refused, Rule};
 use named_sources::{NamedSource, sources_of};
 use paths::{path_below, plain_name};
 use ports::{Outputs, Tree};
@@ -136,8 +138,8 @@ fn install_at(
     }
 }
 
-/// What is installed of a file that is named: a target can't be installed so.
-pub(crate) fn install_of(
+// What is installed of a file that is named: a target can't be installed so.
+fn install_of(
     folders: &Folders<'_>,
     sort: Sort,
     arguments: &Arguments,
@@ -158,41 +160,56 @@ pub(crate) fn install_of(
     }
 }
 
-// What is installed of the files that are named, or none where one of them can't be.
+// The path of a file that is named; of a target it is empty.
+fn path_said(named: &NamedSource) -> &str
+    ensures { result.now ≡ path_said (named_view named.now) }
+{
+    match named {
+        NamedSource::Tree(path) => path.as_str(),
+        NamedSource::Built(path) => path.as_str(),
+        NamedSource::Outputs(_) | NamedSource::Output { .. } => "",
+    }
+}
+
+// What is installed of the files that are named. One that can't be installed breaks a rule.
 fn installs_of(
     folders: &Folders<'_>,
     sort: Sort,
     arguments: &Arguments,
     named: &[NamedSource],
-) -> Result<Option<Vec<Install>>, AllocError>
-    ensures { IfOk result (λ is. option_map (λ v. map install_view v.items) is
-        ≡ each_or_none (install_of (folders_view folders.now) sort (arguments_data arguments.now)) (map named_view named.now)) }
+) -> Result<Result<Vec<Install>, Refused>, AllocError>
+    ensures { IfOk result (λ is. said_data (λ v. map install_view v.items) is
+        ≡ each_said (installed (folders_view folders.now) sort (arguments_data arguments.now)) [] (map named_view named.now)) }
 {
     let mut installs = Vec::new(folders.here.alloc);
     for one in named {
         match install_of(folders, sort, arguments, one)? {
             Some(install) => installs.push(install)?,
-            None => return Ok(None),
+            None => {
+                let refused = Rule::IsManPage.refused(folders.here.alloc, path_said(one))?;
+                return Ok(Err(refused));
+            }
         }
     }
-    Ok(Some(installs))
+    Ok(Ok(installs))
 }
 
-/// What a call says that installs files of a sort. None where a path leads out of the tree, or a man page has no section.
+/// What a call says that installs files of a sort. A path that leads out of the tree breaks a rule, and a man page without a section.
 pub fn said_of(
     folders: &Folders<'_>,
     sort: Sort,
     arguments: &Arguments,
-) -> Result<Option<Said>, AllocError>
-    ensures { IfOk result (λ s. option_map said_view s ≡ said_of (folders_view folders.now) sort (arguments_data arguments.now)) }
+) -> Result<Result<Said, Refused>, AllocError>
+    ensures { IfOk result (λ s. said_data said_view s ≡ said_of (folders_view folders.now) sort (arguments_data arguments.now)) }
 {
     let here = folders.here;
     let values = arguments.leaves_behind(here.alloc, 0)?;
-    let Some(named) = sources_of(here.alloc, here.source_root, here.folder, &values)? else {
-        return Ok(None);
+    let named = match sources_of(here.alloc, here.source_root, here.folder, &values)? {
+        Ok(named) => named,
+        Err(refused) => return Ok(Err(refused)),
     };
     match installs_of(folders, sort, arguments, &named)? {
-        Some(installs) => Ok(Some(Said { named, installs })),
-        None => Ok(None),
+        Ok(installs) => Ok(Ok(Said { named, installs })),
+        Err(refused) => Ok(Err(refused)),
     }
 }

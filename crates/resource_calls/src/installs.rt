@@ -6,7 +6,6 @@ ghost use Rattle.world.specs.Prelude.{Does, MayFail, arguments_data, data_of};
 ghost use Rattle.resource_calls.specs.DestinationsView.{said_view};
 ghost use Rattle.resource_calls.specs.Installs.{all_installed, install, said_installs};
 
-use crate::breaches::install_breach;
 use crate::destinations::{Said, Sort, folders_in, said_of};
 use crate::named_files::require_files;
 use arguments::Arguments;
@@ -16,7 +15,7 @@ use project::Install;
 use std::alloc::{AllocError, Global};
 use world::{Caller, Stop};
 
-// Which files are installed where, or the refusal of arguments that say none.
+// Which files are installed where, or the refusal of arguments that break a rule.
 fn said_installs<T: Tree, O: Outputs>(
     caller: &Caller<'_, T, O>,
     sort: Sort,
@@ -25,14 +24,8 @@ fn said_installs<T: Tree, O: Outputs>(
     ensures { Does T.seen O.seen said_view (said_installs sort (arguments_data arguments.now)) caller.now result caller.now }
 {
     let folders = folders_in(caller);
-    let found = said_of(&folders, sort, arguments)?;
-    match found {
-        Some(said) => Ok(said),
-        None => {
-            let breach = install_breach(&folders, sort, arguments)?;
-            caller.refuse_by(breach.0, breach.1.as_str())
-        }
-    }
+    let said = said_of(&folders, sort, arguments)?;
+    caller.passed(said)
 }
 
 fn copy_of(alloc: Global, install: &Install) -> Result<Install, AllocError>

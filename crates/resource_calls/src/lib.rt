@@ -4,7 +4,6 @@
 //! What a function does is a deed of `specs/`, and its code carries it out on a [`world::Caller`].
 #![tactic(auto)]
 
-mod breaches;
 mod commands;
 mod declaring;
 mod dependencies;
@@ -16,6 +15,7 @@ mod own_lists;
 mod programs;
 mod required;
 mod rows;
+mod runs;
 mod testing;
 
 pub use declaring::declare_dependency;

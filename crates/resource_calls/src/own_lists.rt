@@ -1,12 +1,13 @@
 //! What `declare_dependency` lists of its own, as its arguments name it.
 ghost use Rattle.std.specs.Prelude.{◌≡◌, IfOk, codes, option_map};
 ghost use Rattle.arguments.specs.Leaves.{leaves_named};
+ghost use Rattle.arguments.specs.Refused.{said_data};
 ghost use Rattle.targets.specs.LinkedViews.{linked_views};
 ghost use Rattle.world.specs.Prelude.{arguments_data, here_view};
 ghost use Rattle.resource_calls.specs.OwnLists.{if_libraries, libraries_of, own_lists};
 ghost use Rattle.resource_calls.specs.OwnListsView.{own_view};
 
-use arguments::Arguments;
+use arguments::{Arguments, Refused, Rule};
 use named_sources::{NamedSource, folders_named, numbers_named, sources_named};
 use std::alloc::{AllocError, Global};
 use targets::{Linked, are_libraries};
@@ -32,8 +33,8 @@ fn if_libraries(earlier: &[Linked], numbers: Vec<usize>) -> Option<Vec<usize>>
     }
 }
 
-/// The libraries that the keyword `link_with` names.
-pub(crate) fn libraries_given(
+// The libraries that the keyword `link_with` names.
+fn libraries_given(
     alloc: Global,
     earlier: &[Linked],
     arguments: &Arguments,
@@ -47,9 +48,9 @@ pub(crate) fn libraries_given(
     }
 }
 
-/// What the call lists of its own. None where a path leads out of the tree, or something to link with is no library.
-pub fn own_lists(here: &Here<'_>, arguments: &Arguments) -> Result<Option<Own>, AllocError>
-    ensures { IfOk result (λ own. option_map own_view own ≡ own_lists (here_view here.now) (arguments_data arguments.now)) }
+/// What the call lists of its own. A path that leads out of the tree breaks a rule, and something to link with that is no library.
+pub fn own_lists(here: &Here<'_>, arguments: &Arguments) -> Result<Result<Own, Refused>, AllocError>
+    ensures { IfOk result (λ own. said_data own_view own ≡ own_lists (here_view here.now) (arguments_data arguments.now)) }
 {
     let Here {
         alloc,
@@ -59,18 +60,19 @@ pub fn own_lists(here: &Here<'_>, arguments: &Arguments) -> Result<Option<Own>, 
         ..
     } = *here;
     let key = "include_directories";
-    let Some(folders) = folders_named(alloc, source_root, folder, arguments, key)? else {
-        return Ok(None);
+    let folders = match folders_named(alloc, source_root, folder, arguments, key)? {
+        Ok(folders) => folders,
+        Err(refused) => return Ok(Err(refused)),
     };
     let Some(libraries) = libraries_given(alloc, earlier, arguments)? else {
-        return Ok(None);
+        return Ok(Err(Rule::TakesLibraries.refused(alloc, "link_with")?));
     };
-    let Some(sources) = sources_named(alloc, source_root, folder, arguments, "sources")? else {
-        return Ok(None);
-    };
-    Ok(Some(Own {
-        folders,
-        libraries,
-        sources,
-    }))
+    match sources_named(alloc, source_root, folder, arguments, "sources")? {
+        Ok(sources) => Ok(Ok(Own {
+            folders,
+            libraries,
+            sources,
+        })),
+        Err(refused) => Ok(Err(refused)),
+    }
 }

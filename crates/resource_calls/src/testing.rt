@@ -3,11 +3,10 @@ ghost use Rattle.std.specs.Prelude.{◌≡◌, IfOk, option_map};
 ghost use Rattle.project.specs.View.{test_view};
 ghost use Rattle.world.specs.Prelude.{Does, MayFail, arguments_data, data_of};
 ghost use Rattle.world.specs.Answering.{Views};
-ghost use Rattle.resource_calls.specs.TestCommandsView.{run_view};
+ghost use Rattle.resource_calls.specs.RunsView.{run_view};
 ghost use Rattle.resource_calls.specs.Tests.{said_run, seconds_given, test, test_given};
 
-use crate::breaches::run_breach;
-use crate::commands::{Run, run_of};
+use crate::runs::{Run, run_of};
 use arguments::Arguments;
 use data::Value;
 use ports::{Outputs, Tree};
@@ -16,7 +15,7 @@ use resources::seconds_of;
 use std::alloc::{AllocError, Global};
 use world::{Caller, Stop};
 
-// What runs, or the refusal of arguments that say none.
+// What runs, or the refusal of arguments that break a rule.
 fn said_run<T: Tree, O: Outputs>(
     caller: &Caller<'_, T, O>,
     arguments: &Arguments,
@@ -24,14 +23,8 @@ fn said_run<T: Tree, O: Outputs>(
     ensures { Does T.seen O.seen run_view (said_run (arguments_data arguments.now)) caller.now result caller.now }
 {
     let here = caller.here();
-    let found = run_of(&here, arguments)?;
-    match found {
-        Some(run) => Ok(run),
-        None => {
-            let breach = run_breach(&here, arguments)?;
-            caller.refuse_by(breach.0, breach.1.as_str())
-        }
-    }
+    let run = run_of(&here, arguments)?;
+    caller.passed(run)
 }
 
 // The seconds that the keyword `timeout` says, else 30.

@@ -26,4 +26,4 @@ pub use fitting::{dependency_that_fits, program_words};
 pub use found::{found_dependency, missing_dependency, within_texts};
 pub use installs::{destination, headers_folder, man_folder};
 pub use joining::{dependencies_in, joined};
-pub use testing::{environment, environment_breach, seconds_of};
+pub use testing::{environment, seconds_of};

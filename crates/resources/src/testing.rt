@@ -1,13 +1,12 @@
 //! What `test` is given: <https://mesonbuild.com/Reference-manual_functions.html#test>.
-ghost use Rattle.std.specs.Prelude.{◌≡◌, IfOk, [], map, option_map, string_bytes};
-ghost use Rattle.std.specs.List.{list_all};
+ghost use Rattle.std.specs.Prelude.{◌≡◌, IfOk, [], map, string_bytes};
 ghost use Rattle.arguments.specs.Arguments.{arguments_data};
+ghost use Rattle.arguments.specs.Refused.{answer_data, said_data};
 ghost use Rattle.data.specs.Prelude.{items_of};
 ghost use Rattle.resources.specs.TestingView.{strings_of};
-ghost use Rattle.resources.specs.Testing.{assigned_behind, assignment, assignments, environment, environment_breach, first_textless};
-ghost use Rattle.resources.specs.Testing.{first_unassigned, is_assignment, seconds_of};
+ghost use Rattle.resources.specs.Testing.{are_assignments, assigned_behind, assignment, environment, is_assignment, seconds_of};
 
-use arguments::{Arguments, Rule};
+use arguments::{Arguments, Refused, Rule};
 use data::{Refusal, Text, Value};
 use std::alloc::{AllocError, Global};
 
@@ -31,26 +30,26 @@ fn assignment(alloc: Global, name: &str, value: &str) -> Result<String, AllocErr
     Ok(text)
 }
 
-// The variables that have these names and values, in order; none where a value is no text.
+// The variables that have these names and values, in order.
 #[tactic(auto, using(crate::proofs::Assigned::assigned_cases))]
 fn assigned(
     alloc: Global,
     names: &[Text],
     values: &[Value],
-) -> Result<Option<Vec<String>>, AllocError>
-    ensures { IfOk result (λ ts. option_map strings_of ts ≡ assigned_behind [] names.now (items_of values.now)) }
+) -> Result<Result<Vec<String>, Refused>, AllocError>
+    ensures { IfOk result (λ ts. said_data strings_of ts ≡ assigned_behind [] names.now (items_of values.now)) }
 {
     let mut texts = Vec::new(alloc);
     for (i, value) in values.iter().enumerate() {
         let Some(name) = names.get(i) else {
-            return Ok(Some(texts));
+            return Ok(Ok(texts));
         };
         let Some(text) = value.as_text() else {
-            return Ok(None);
+            return Ok(Err(Rule::TakesText.refused(alloc, name.as_str())?));
         };
         texts.push(assignment(alloc, name.as_str(), text.as_str())?)?;
     }
-    Ok(Some(texts))
+    Ok(Ok(texts))
 }
 
 fn is_assignment(text: &str) -> bool
@@ -59,85 +58,36 @@ fn is_assignment(text: &str) -> bool
     text.as_bytes().iter().any(|byte| *byte == b'=')
 }
 
-fn are_assignments(texts: &[String]) -> bool
-    ensures { result ≡ list_all is_assignment (map string_bytes texts.now) }
+// The first text that says no name and value breaks a rule.
+fn are_assignments(alloc: Global, texts: &[String]) -> Result<Result<(), Refused>, AllocError>
+    ensures { IfOk result (λ r. answer_data r ≡ are_assignments (map string_bytes texts.now)) }
 {
     for text in texts {
         if !is_assignment(text.as_str()) {
-            return false;
+            return Ok(Err(Rule::IsAssignment.refused(alloc, text.as_str())?));
         }
     }
-    true
+    Ok(Ok(()))
 }
 
-fn assignments(texts: Vec<String>) -> Option<Vec<String>>
-    ensures { option_map strings_of result ≡ assignments (strings_of texts) }
-{
-    if are_assignments(&texts) {
-        Some(texts)
-    } else {
-        None
-    }
-}
-
-/// The variables of the environment that the keyword `env` gives, as texts `NAME=VALUE`. None where a value of a dictionary is no text,
-/// and where a text has no `=`.
-pub fn environment(alloc: Global, arguments: &Arguments) -> Result<Option<Vec<String>>, AllocError>
-    ensures { IfOk result (λ ts. option_map strings_of ts ≡ environment (arguments_data arguments.now)) }
+/// The variables of the environment that the keyword `env` gives, as texts `NAME=VALUE`. A value of a dictionary that is no text breaks
+/// `Rule::TakesText`, by its name, and a text without `=` breaks `Rule::IsAssignment`.
+pub fn environment(
+    alloc: Global,
+    arguments: &Arguments,
+) -> Result<Result<Vec<String>, Refused>, AllocError>
+    ensures { IfOk result (λ ts. said_data strings_of ts ≡ environment (arguments_data arguments.now)) }
 {
     match arguments.keyword("env") {
         Some(Value::Dictionary(dictionary)) => {
             assigned(alloc, dictionary.keys(), dictionary.values())
         }
-        _ => Ok(assignments(arguments.texts(alloc, "env")?)),
-    }
-}
-
-// The name of the first of these values that is no text.
-#[tactic(auto, using(crate::proofs::Assigned::textless_cases))]
-fn first_textless<'n>(names: &'n [Text], values: &[Value]) -> &'n str
-    ensures { result.now ≡ first_textless names.now (items_of values.now) }
-{
-    for (i, value) in values.iter().enumerate() {
-        let Some(name) = names.get(i) else {
-            return "";
-        };
-        match value.as_text() {
-            Some(_) => {}
-            None => return name.as_str(),
-        }
-    }
-    ""
-}
-
-// The first text that says no name and value.
-fn first_unassigned(texts: &[String]) -> &str
-    ensures { result.now ≡ first_unassigned (map string_bytes texts.now) }
-{
-    for text in texts {
-        if !is_assignment(text.as_str()) {
-            return text.as_str();
-        }
-    }
-    ""
-}
-
-/// Where `environment` gives none: the rule, and the text or the name that breaks it.
-pub fn environment_breach(
-    alloc: Global,
-    arguments: &Arguments,
-) -> Result<(Rule, String), AllocError>
-    ensures { IfOk result (λ b. (b.0, string_bytes b.1) ≡ environment_breach (arguments_data arguments.now)) }
-{
-    match arguments.keyword("env") {
-        Some(Value::Dictionary(dictionary)) => {
-            let name = first_textless(dictionary.keys(), dictionary.values());
-            Ok((Rule::TakesText, String::from_str(alloc, name)?))
-        }
         _ => {
             let texts = arguments.texts(alloc, "env")?;
-            let text = String::from_str(alloc, first_unassigned(&texts))?;
-            Ok((Rule::IsAssignment, text))
+            match are_assignments(alloc, &texts)? {
+                Ok(()) => Ok(Ok(texts)),
+                Err(refused) => Ok(Err(refused)),
+            }
         }
     }
 }

@@ -1,10 +1,11 @@
 -- An executable or a library as the arguments of a call say it.
-use Rattle.std.specs.Prelude.{Bool, true, false, List, ◌++◌, codes, flat_map, Option, Some, None, option_and_then, if◌then◌else◌}
+use Rattle.std.specs.Prelude.{Bool, true, false, List, [], ◌++◌, codes, flat_map, Option, Some, None, Ok, option_and_then}
 use Rattle.std.specs.Fmt.{signed_decimal}
 use Rattle.arguments.specs.Arguments.{ArgumentsData}
-use Rattle.arguments.specs.Given.{flag, keyword, text_at, text_given, texts}
+use Rattle.arguments.specs.Given.{flag, keyword, text_at, text_given, text_of, texts}
 use Rattle.arguments.specs.Leaves.{leaves_from, leaves_named}
-use Rattle.arguments.specs.Maybe.{◌>>=◌}
+use Rattle.arguments.specs.Said.{Said, ◌>>=◌, found, kept}
+use Rattle.arguments.specs.declared.rule.Rule.TheVariants as rules
 use Rattle.data.specs.Data.{Data, integer, text}
 use Rattle.edge.specs.Texts.{Path, Text}
 use Rattle.targets.specs.Data.{Build, BuildData, ListsData, SourceData, TargetData}
@@ -39,16 +40,16 @@ soversion_given a = option_and_then number_in (keyword (codes "soversion") a)
 abbrev pub source_values : ArgumentsData → List Data
 source_values a = leaves_from 1 a ++ leaves_named (codes "sources") a
 
--- the sources that the call names; none where one is no path of the tree
-abbrev pub named_sources : HereData → ArgumentsData → Option (List NamedData)
+-- the sources that the call names, each in the tree
+abbrev pub named_sources : HereData → ArgumentsData → Said (List NamedData)
 named_sources here a = sources_of here.source_root here.folder (source_values a)
 
--- what the target lists of its own; none where a folder leads out of the tree
-abbrev pub own_lists : HereData → ArgumentsData → List SourceData → Option ListsData
+-- what the target lists of its own, where each folder stays in the tree
+abbrev pub own_lists : HereData → ArgumentsData → List SourceData → Said ListsData
 own_lists here a sources = do
   folders ← folders_of here.source_root here.folder (leaves_named (codes "include_directories") a)
-  libraries ← numbers_of (leaves_named (codes "link_with") a)
-  Some (record {
+  libraries ← found (numbers_of (leaves_named (codes "link_with") a)) rules.TakesLibraries (codes "link_with")
+  Ok (record {
     sources = sources;
     include_folders = folders;
     compile_args = texts (codes "c_args") a;
@@ -77,15 +78,17 @@ pub record NamedTargetData : Type 0 where
   pub target : TargetData
   pub files : List Path
 
-abbrev pub declared_from : HereData → Kind → ArgumentsData → List NamedData → Option NamedTargetData
+-- no source of a call, nor of a dependency, is an output that no target has
+abbrev pub declared_from : HereData → Kind → ArgumentsData → List NamedData → Said NamedTargetData
 declared_from here kind a named = do
-  sources ← sources_in here.earlier named
+  sources ← found (sources_in here.earlier named) rules.NamesFile []
   own ← own_lists here a sources
-  dependencies ← dependencies_of here.earlier (leaves_named (codes "dependencies") a)
-  Some (record { target = Build (build_target here kind a own dependencies); files = flat_map file_in named })
+  dependencies ← found (dependencies_of here.earlier (leaves_named (codes "dependencies") a)) rules.NamesFile []
+  Ok (record { target = Build (build_target here kind a own dependencies); files = flat_map file_in named })
 
--- what the call declares, or none where the arguments say no target
-unfoldable pub declared : HereData → Kind → ArgumentsData → Option NamedTargetData
-declared here kind a =
-    if version_fits (text_given (codes "version") a) then named_sources here a >>= declared_from here kind a
-    else None
+-- what the call declares: the version is one, and paths stay in the tree, of sources and then of folders
+unfoldable pub declared : HereData → Kind → ArgumentsData → Said NamedTargetData
+declared here kind a = do
+  _ ← kept (version_fits (text_given (codes "version") a)) rules.IsLibraryVersion (text_of (codes "version") a)
+  named ← named_sources here a
+  declared_from here kind a named

@@ -4,8 +4,7 @@ use Rattle.arguments.specs.Arguments.{ArgumentsData}
 use Rattle.data.specs.Data.{Data, object}
 use Rattle.data.specs.declared.object.Object.TheVariants as objects
 use Rattle.world.specs.Deed.{Deed, give, read, ◌>>=◌}
-use Rattle.world.specs.Ruled.{ruled}
-use Rattle.target_calls.specs.Breaches.{custom_breach}
+use Rattle.world.specs.Fit.{passed}
 use Rattle.target_calls.specs.BuildTargets.{NamedTargetData}
 use Rattle.target_calls.specs.CustomInstalls.{add_custom}
 use Rattle.target_calls.specs.CustomTargets.{count_named, declared_custom}
@@ -13,11 +12,11 @@ use Rattle.target_calls.specs.Files.{all_required}
 use Rattle.world.specs.Here.{here_of}
 use Rattle.target_calls.specs.Targets.{required_fit}
 
--- what the arguments say: E9 where they say no target
+-- what the arguments say: E9 of those that break a rule
 unfoldable pub said_custom : ArgumentsData → Deed NamedTargetData
 said_custom a = do
   facts ← read
-  ruled (declared_custom (here_of facts) a) (custom_breach (here_of facts) a).0 (custom_breach (here_of facts) a).1
+  passed (declared_custom (here_of facts) a)
 
 -- `custom_target(name)`: E9; E14 of the first missing file in the order in which the keywords are written; E21, E11, E22
 unfoldable pub custom_target : ArgumentsData → Deed (Option Data)

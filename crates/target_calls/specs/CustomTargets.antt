@@ -1,24 +1,22 @@
 -- A custom target as the arguments of a call say it.
-use Rattle.std.specs.Prelude.{◌≡◌, ℕ, nat_lt, max, Bool, false, not, ◌&&◌, ◌||◌, ◌==◌, List, [], ◌++◌, length, map, flat_map, codes}
-use Rattle.std.specs.Prelude.{bytes_eq, Option, Some, None, is_some, option_map, if◌then◌else◌}
+use Rattle.std.specs.Prelude.{◌≡◌, ℕ, max, Bool, false, not, ◌||◌, ◌==◌, List, [], ◌++◌, length, flat_map, codes}
+use Rattle.std.specs.Prelude.{bytes_eq, Option, Some, None, Ok, is_some, if◌then◌else◌}
 use Rattle.arguments.specs.Arguments.{ArgumentsData}
-use Rattle.arguments.specs.Given.{flag, text_at, text_given, texts}
+use Rattle.arguments.specs.Given.{flag, text_at, text_given}
 use Rattle.arguments.specs.Leaves.{leaves_named}
-use Rattle.arguments.specs.Maybe.{◌>>=◌}
+use Rattle.arguments.specs.Said.{Said, ◌>>=◌, found, unbroken}
+use Rattle.arguments.specs.declared.rule.Rule.{Rule}
+use Rattle.arguments.specs.declared.rule.Rule.TheVariants as rules
 use Rattle.data.specs.Data.{Data}
-use Rattle.edge.specs.Folders.{build_folder, source_folder}
-use Rattle.edge.specs.Paths.{source_root}
 use Rattle.edge.specs.Texts.{Path, Text}
-use Rattle.named_sources.specs.Holes.{PlaceData, filled, first_of}
-use Rattle.named_sources.specs.declared.holes.Scope.TheVariants.{FileName}
+use Rattle.named_sources.specs.Holes.{PlaceData}
 use Rattle.targets.specs.Data.{Custom, CustomData, SourceData}
-use Rattle.paths.specs.Paths.{path_in}
 use Rattle.targets.specs.Sources.{source_paths}
 use Rattle.data.specs.Flat.{opened}
-use Rattle.named_sources.specs.Each.{each_or_none}
-use Rattle.named_sources.specs.Sources.{sources_of}
+use Rattle.named_sources.specs.Sources.{NamedData, sources_of}
 use Rattle.target_calls.specs.BuildTargets.{NamedTargetData}
 use Rattle.target_calls.specs.Commands.{PartData, command_of}
+use Rattle.target_calls.specs.CustomNames.{NamesData, names_of, place_of, place_with}
 use Rattle.world.specs.Here.{HereData}
 use Rattle.target_calls.specs.Sources.{file_in, sources_in}
 
@@ -42,12 +40,13 @@ captures_one a = not (flag (codes "capture") false a) || count_named (codes "out
 abbrev pub has_place : ArgumentsData → Bool
 has_place a = not (flag (codes "install") false a) || is_some (text_given (codes "install_dir") a)
 
--- at least one output and one word of a command
-abbrev pub is_made : ArgumentsData → Bool
-is_made a = nat_lt 0 (count_named (codes "output") a) && nat_lt 0 (count_named (codes "command") a)
-
-abbrev pub call_fits : ArgumentsData → Bool
-call_fits a = is_made a && (captures_one a && has_place a)
+-- what breaks a rule: a list that is empty, the outputs of what is printed, or the folder of what is installed
+abbrev pub rule_broken : ArgumentsData → Option (Rule × Text)
+rule_broken a =
+    if count_named (codes "output") a == 0 then Some (rules.HasItems, codes "output")
+    else (if count_named (codes "command") a == 0 then Some (rules.HasItems, codes "command")
+    else (if not (captures_one a) then Some (rules.TakesOneOutput, codes "capture")
+    else (if not (has_place a) then Some (rules.IsNeeded, codes "install_dir") else None)))
 
 -- ---- sources
 
@@ -65,48 +64,15 @@ written a = flat_map written_in a.named
 abbrev pub IsAllInput : ArgumentsData → Type 0
 IsAllInput a = written a ≡ leaves_named (codes "input") a
 
--- the files of the tree among them; none where a source is no path of the tree
-abbrev pub written_files : HereData → ArgumentsData → Option (List Path)
-written_files here a = option_map (flat_map file_in) (sources_of here.source_root here.folder (written a))
+-- the sources that the call names, each in the tree
+abbrev pub written_sources : HereData → ArgumentsData → Said (List NamedData)
+written_sources here a = sources_of here.source_root here.folder (written a)
 
--- the sources that a keyword names
-abbrev pub sources_by : HereData → ArgumentsData → Text → Option (List SourceData)
+-- the sources that a keyword names; none is an output that no target has
+abbrev pub sources_by : HereData → ArgumentsData → Text → Said (List SourceData)
 sources_by here a name = do
   named ← sources_of here.source_root here.folder (leaves_named name a)
-  sources_in here.earlier named
-
--- ---- names
-
--- what the placeholders of the call are seen from
-abbrev pub place_with : HereData → (inputs outputs : List Path) → (depfile : Option Path) → PlaceData
-place_with here inputs outputs depfile = record {
-  inputs = inputs;
-  outputs = outputs;
-  depfile = depfile;
-  build_folder = build_folder here.folder;
-  source_folder = source_folder here.depth here.folder;
-  source_root = source_root here.depth;
-}
-
--- names of files, their placeholders replaced
-abbrev pub names_in : PlaceData → List Text → Option (List Text)
-names_in place ts = each_or_none (filled FileName place) ts
-
--- names of files of the folder
-pub record NamesData : Type 0 where
-  pub outputs : List Text
-  pub depfile : Option Text
-
--- the outputs and the depfile, which see the inputs alone
-abbrev pub names_of : PlaceData → ArgumentsData → Option NamesData
-names_of place a = do
-  outputs ← names_in place (texts (codes "output") a)
-  depfile ← names_in place (texts (codes "depfile") a)
-  Some (record { outputs = outputs; depfile = first_of depfile })
-
-abbrev pub place_of : HereData → (inputs : List Path) → NamesData → PlaceData
-place_of here inputs names =
-    place_with here inputs (map (path_in here.folder) names.outputs) (option_map (path_in here.folder) names.depfile)
+  found (sources_in here.earlier named) rules.HasMeaning name
 
 -- ---- the target
 
@@ -129,28 +95,37 @@ custom_target here a names inputs command = record {
 abbrev pub with_needs : PartData → (more : List SourceData) → PartData
 with_needs command more = record { words = command.words; needs = command.needs ++ more }
 
+-- the part of the command that a keyword says, of which each placeholder stands for something, and each program was found
+abbrev pub part_by : HereData → ArgumentsData → PlaceData → Text → Said PartData
+part_by here a place name = found (command_of here place (leaves_named name a)) rules.HasMeaning name
+
 -- the command, and what has to be there: files and targets in it, then `depends`, then `depend_files`
-abbrev pub whole_command : HereData → ArgumentsData → PlaceData → Option PartData
+abbrev pub whole_command : HereData → ArgumentsData → PlaceData → Said PartData
 whole_command here a place = do
-  command ← command_of here place (leaves_named (codes "command") a)
-  depends ← command_of here place (leaves_named (codes "depends") a)
+  command ← part_by here a place (codes "command")
+  depends ← part_by here a place (codes "depends")
   files ← sources_by here a (codes "depend_files")
-  Some (with_needs command (depends.needs ++ files))
+  Ok (with_needs command (depends.needs ++ files))
 
-abbrev pub custom_from : HereData → ArgumentsData → (inputs : List SourceData) → Option CustomData
+-- the names of the files that it makes, of which each placeholder stands for something
+abbrev pub names_from : HereData → ArgumentsData → (inputs : List Path) → Said NamesData
+names_from here a inputs = found (names_of (place_with here inputs [] None) a) rules.HasMeaning (codes "output")
+
+abbrev pub custom_from : HereData → ArgumentsData → (inputs : List SourceData) → Said CustomData
 custom_from here a inputs = do
-  names ← names_of (place_with here (flat_map (source_paths here.depth) inputs) [] None) a
+  names ← names_from here a (flat_map (source_paths here.depth) inputs)
   command ← whole_command here a (place_of here (flat_map (source_paths here.depth) inputs) names)
-  Some (custom_target here a names inputs command)
+  Ok (custom_target here a names inputs command)
 
-abbrev pub declared_files : HereData → ArgumentsData → List SourceData → List Path → Option NamedTargetData
-declared_files here a inputs files = option_map (λ t. record { target = Custom t; files = files }) (custom_from here a inputs)
+abbrev pub declared_files : HereData → ArgumentsData → List SourceData → List Path → Said NamedTargetData
+declared_files here a inputs files = do
+  t ← custom_from here a inputs
+  Ok (record { target = Custom t; files = files })
 
--- what the call declares, or none where the arguments say no target
-unfoldable pub declared_custom : HereData → ArgumentsData → Option NamedTargetData
-declared_custom here a =
-    if call_fits a then (do
-      files ← written_files here a
-      inputs ← sources_by here a (codes "input")
-      declared_files here a inputs files)
-    else None
+-- what the call declares: lists are not empty, then the outputs and the folder, then sources, names and the command
+unfoldable pub declared_custom : HereData → ArgumentsData → Said NamedTargetData
+declared_custom here a = do
+  _ ← unbroken (rule_broken a)
+  named ← written_sources here a
+  inputs ← sources_by here a (codes "input")
+  declared_files here a inputs (flat_map file_in named)

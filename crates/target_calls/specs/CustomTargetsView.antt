@@ -1,7 +1,7 @@
 -- Names of files, without where they lie in memory.
 use Rattle.std.specs.Prelude.{option_map, string_bytes}
 use Rattle.edge.specs.Texts.{texts}
-use Rattle.target_calls.specs.CustomTargets.{NamesData}
+use Rattle.target_calls.specs.CustomNames.{NamesData}
 use Rattle.target_calls.specs.declared.custom.Names.{Names}
 
 abbrev pub names_view : Names → NamesData

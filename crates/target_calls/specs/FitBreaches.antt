@@ -1,6 +1,7 @@
 -- Which rule is broken by a target that the project can't have, and by which text or keyword.
-use Rattle.std.specs.Prelude.{List, [], ◌∷◌, ◌++◌, Option, Some, None, codes, if◌then◌else◌}
+use Rattle.std.specs.Prelude.{ℕ, List, [], ◌∷◌, ◌++◌, Option, Some, None, codes, if◌then◌else◌}
 use Rattle.std.specs.Option.{option_to_list, unwrap_or}
+use Rattle.arguments.specs.declared.rule.Rule.{Rule}
 use Rattle.arguments.specs.declared.rule.Rule.TheVariants as rules
 use Rattle.edge.specs.Texts.{Path, Text}
 use Rattle.paths.specs.Names.{is_file_name}
@@ -10,7 +11,10 @@ use Rattle.targets.specs.Data.{Build, BuildData, Built, Custom, CustomData, List
 use Rattle.targets.specs.Files.{file_name, link_names}
 use Rattle.targets.specs.Libraries.{LinkedData, linked_of, links_libraries}
 use Rattle.targets.specs.Sources.{is_foreign}
-use Rattle.target_calls.specs.Breaches.{Breach}
+
+-- a rule, and the text or the keyword that breaks it
+abbrev pub Breach : Type 0
+Breach = Rule × List ℕ
 
 abbrev pub or_later : Option Path → Option Path → Option Path
 or_later (Some path) later = Some path

@@ -1,4 +1,3 @@
-pub mod Breaches
 pub mod BuildTargets
 pub mod BuildTargetsView
 pub mod Commands
@@ -6,6 +5,7 @@ pub mod CommandsView
 pub mod CustomCalls
 pub mod CustomInstalls
 pub mod CustomInstallsView
+pub mod CustomNames
 pub mod CustomTargets
 pub mod CustomTargetsView
 pub mod Dependencies

@@ -3,7 +3,7 @@ use Rattle.std.specs.Prelude.{List, [], ◌∷◌, Option, Some, option_map}
 use Rattle.edge.specs.Texts.{Path}
 use Rattle.targets.specs.Data.{SourceData, Tree, Built, Made}
 use Rattle.targets.specs.Libraries.{LinkedData}
-use Rattle.named_sources.specs.Each.{each_or_none}
+use Rattle.arguments.specs.Each.{each_or_none}
 use Rattle.named_sources.specs.Outputs.{output_at, outputs_at}
 use Rattle.named_sources.specs.Sources.{NamedData, tree, built, outputs, output}
 

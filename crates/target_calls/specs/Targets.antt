@@ -11,19 +11,19 @@ use Rattle.targets.specs.declared.target.Kind.{Kind}
 use Rattle.targets.specs.declared.target.Kind.TheVariants as kinds
 use Rattle.world.specs.Declaring.{add_target}
 use Rattle.world.specs.Deed.{Deed, give, read, ◌>>=◌}
-use Rattle.world.specs.Ruled.{obeyed, ruled}
-use Rattle.target_calls.specs.Breaches.{build_breach}
+use Rattle.world.specs.Fit.{passed}
+use Rattle.world.specs.Ruled.{obeyed}
 use Rattle.target_calls.specs.FitBreaches.{fit_breach}
 use Rattle.target_calls.specs.BuildTargets.{NamedTargetData, declared}
 use Rattle.target_calls.specs.Files.{all_required}
 use Rattle.world.specs.Here.{here_of}
 use Rattle.target_calls.specs.Installs.{folders_in, install_of, noted}
 
--- what the arguments say: E9 where they say no target
+-- what the arguments say: E9 of those that break a rule
 unfoldable pub said : Kind → ArgumentsData → Deed NamedTargetData
 said kind a = do
   facts ← read
-  ruled (declared (here_of facts) kind a) (build_breach (here_of facts) a).0 (build_breach (here_of facts) a).1
+  passed (declared (here_of facts) kind a)
 
 -- the project can have the target, by its names, sources and libraries (E9)
 unfoldable pub required_fit : TargetData → Deed (Unit {0})

@@ -1,6 +1,7 @@
 //! An executable or a library as the arguments of a call say it.
 ghost use Rattle.std.specs.Prelude.{◌≡◌, IfOk, codes, map, option_map, string_bytes};
 ghost use Rattle.arguments.specs.Given.{text_given};
+ghost use Rattle.arguments.specs.Refused.{said_data};
 ghost use Rattle.targets.specs.View.{build_view, lists_view, source_view};
 ghost use Rattle.named_sources.specs.SourcesView.{named_view, named_views};
 ghost use Rattle.world.specs.Prelude.{arguments_data, data_of, here_view};
@@ -10,7 +11,7 @@ ghost use Rattle.target_calls.specs.BuildTargetsView.{named_target_view};
 
 use crate::dependencies::dependencies_given;
 use crate::sources::{files_among, sources_in};
-use arguments::Arguments;
+use arguments::{Arguments, Refused, Rule};
 use data::Value;
 use named_sources::{NamedSource, folders_named, is_library_version, numbers_named, sources_of};
 use std::alloc::{AllocError, Global};
@@ -37,8 +38,8 @@ fn version_of(alloc: Global, arguments: &Arguments) -> Result<Option<String>, Al
     }
 }
 
-/// One to three numbers with dots, where it is given.
-pub(crate) fn version_fits(alloc: Global, arguments: &Arguments) -> Result<bool, AllocError>
+// One to three numbers with dots, where it is given.
+fn version_fits(alloc: Global, arguments: &Arguments) -> Result<bool, AllocError>
     ensures { IfOk result (λ fits. fits ≡ version_fits (text_given (codes "version") (arguments_data arguments.now))) }
 {
     match arguments.text_given("version") {
@@ -72,11 +73,8 @@ fn soversion_of(alloc: Global, arguments: &Arguments) -> Result<Option<String>, 
 
 // ---- lists
 
-/// What the sources are said to be: behind the name of the target, then by keyword.
-pub(crate) fn source_values<'v>(
-    alloc: Global,
-    arguments: &'v Arguments,
-) -> Result<Vec<&'v Value>, AllocError>
+// What the sources are said to be: behind the name of the target, then by keyword.
+fn source_values<'v>(alloc: Global, arguments: &'v Arguments) -> Result<Vec<&'v Value>, AllocError>
     ensures { IfOk result (λ vs. map (λ v. data_of v.now) vs.items ≡ source_values (arguments_data arguments.now)) }
 {
     let mut values = arguments.leaves_behind(alloc, 1)?;
@@ -85,12 +83,12 @@ pub(crate) fn source_values<'v>(
     Ok(values)
 }
 
-/// The sources that the call names.
-pub(crate) fn named_sources(
+// The sources that the call names.
+fn named_sources(
     here: &Here<'_>,
     arguments: &Arguments,
-) -> Result<Option<Vec<NamedSource>>, AllocError>
-    ensures { IfOk result (λ ns. option_map named_views ns ≡ named_sources (here_view here.now) (arguments_data arguments.now)) }
+) -> Result<Result<Vec<NamedSource>, Refused>, AllocError>
+    ensures { IfOk result (λ ns. said_data named_views ns ≡ named_sources (here_view here.now) (arguments_data arguments.now)) }
 {
     let values = source_values(here.alloc, arguments)?;
     sources_of(here.alloc, here.source_root, here.folder, &values)
@@ -101,8 +99,8 @@ fn own_lists(
     here: &Here<'_>,
     arguments: &Arguments,
     sources: Vec<Source>,
-) -> Result<Option<Lists>, AllocError>
-    ensures { IfOk result (λ l. option_map lists_view l
+) -> Result<Result<Lists, Refused>, AllocError>
+    ensures { IfOk result (λ l. said_data lists_view l
         ≡ own_lists (here_view here.now) (arguments_data arguments.now) (map source_view sources.items)) }
 {
     let Here {
@@ -112,13 +110,14 @@ fn own_lists(
         ..
     } = *here;
     let key = "include_directories";
-    let Some(include_folders) = folders_named(alloc, source_root, folder, arguments, key)? else {
-        return Ok(None);
+    let include_folders = match folders_named(alloc, source_root, folder, arguments, key)? {
+        Ok(folders) => folders,
+        Err(refused) => return Ok(Err(refused)),
     };
     let Some(link_with) = numbers_named(alloc, arguments, "link_with")? else {
-        return Ok(None);
+        return Ok(Err(Rule::TakesLibraries.refused(alloc, "link_with")?));
     };
-    Ok(Some(Lists {
+    Ok(Ok(Lists {
         sources,
         include_folders,
         compile_args: arguments.texts(alloc, "c_args")?,
@@ -158,42 +157,44 @@ fn declared_from(
     kind: Kind,
     arguments: &Arguments,
     named: Vec<NamedSource>,
-) -> Result<Option<NamedTarget>, AllocError>
-    ensures { IfOk result (λ d. option_map named_target_view d
+) -> Result<Result<NamedTarget, Refused>, AllocError>
+    ensures { IfOk result (λ d. said_data named_target_view d
         ≡ declared_from (here_view here.now) kind (arguments_data arguments.now) (map named_view named.items)) }
 {
     let files = files_among(here.alloc, &named)?;
     let Some(sources) = sources_in(here.alloc, here.earlier, named)? else {
-        return Ok(None);
+        return Ok(Err(Rule::NamesFile.refused(here.alloc, "")?));
     };
-    let Some(own) = own_lists(here, arguments, sources)? else {
-        return Ok(None);
+    let own = match own_lists(here, arguments, sources)? {
+        Ok(own) => own,
+        Err(refused) => return Ok(Err(refused)),
     };
     let Some(dependencies) = dependencies_given(here, arguments)? else {
-        return Ok(None);
+        return Ok(Err(Rule::NamesFile.refused(here.alloc, "")?));
     };
     let target = build_target(here, kind, arguments, own, dependencies)?;
-    Ok(Some(NamedTarget {
+    Ok(Ok(NamedTarget {
         target: Target::Build(Box::new(here.alloc, target)?),
         files,
     }))
 }
 
-/// What a call declares, or none where its arguments say no target: a path leads out of the tree, or `version` is none.
+/// What a call declares. A `version` that is none breaks a rule, and a path that leads out of the tree.
 #[tactic(auto, unfolding(crate::specs::BuildTargets::declared))]
 pub fn declared(
     here: &Here<'_>,
     kind: Kind,
     arguments: &Arguments,
-) -> Result<Option<NamedTarget>, AllocError>
-    ensures { IfOk result (λ d. option_map named_target_view d ≡ declared (here_view here.now) kind (arguments_data arguments.now)) }
+) -> Result<Result<NamedTarget, Refused>, AllocError>
+    ensures { IfOk result (λ d. said_data named_target_view d ≡ declared (here_view here.now) kind (arguments_data arguments.now)) }
 {
     let fits = version_fits(here.alloc, arguments)?;
     if !fits {
-        return Ok(None);
+        let version = arguments.text("version");
+        return Ok(Err(Rule::IsLibraryVersion.refused(here.alloc, version)?));
     }
-    let Some(named) = named_sources(here, arguments)? else {
-        return Ok(None);
-    };
-    declared_from(here, kind, arguments, named)
+    match named_sources(here, arguments)? {
+        Ok(named) => declared_from(here, kind, arguments, named),
+        Err(refused) => Ok(Err(refused)),
+    }
 }

@@ -1,9 +1,11 @@
 //! A custom target as the arguments of a call say it.
-ghost use Rattle.std.specs.Prelude.{◌≡◌, ◌++◌, ◌∷◌, [], IfOk, IfSome, Some, codes, count_by, map, option_map, string_bytes, unwrap_or};
+ghost use Rattle.std.specs.Prelude.{◌≡◌, ◌++◌, ◌∷◌, [], IfOk, IfSome, Ok, codes, count_by, map, option_map, string_bytes, unwrap_or};
 ghost use Rattle.std.specs.Bool.{OnTrue};
 ghost use Rattle.arguments.specs.Arguments.{named_data};
 ghost use Rattle.arguments.specs.Given.{texts as texts_given};
-ghost use Rattle.arguments.specs.Leaves.{leaves_named};
+ghost use Rattle.arguments.specs.Refused.{said_data};
+ghost use Rattle.arguments.specs.Said.{found};
+ghost use Rattle.arguments.specs.declared.rule.Rule.TheVariants.{HasMeaning as Meaningful};
 ghost use Rattle.edge.specs.Texts.{texts};
 ghost use Rattle.edge.specs.Folders.{build_folder, source_folder};
 ghost use Rattle.edge.specs.Paths.{source_root};
@@ -11,21 +13,21 @@ ghost use Rattle.named_sources.specs.Holes.{first_of};
 ghost use Rattle.named_sources.specs.HolesView.{place_view};
 ghost use Rattle.paths.specs.Paths.{path_in as path_of_file};
 ghost use Rattle.targets.specs.View.{custom_view, source_view};
-ghost use Rattle.named_sources.specs.Sources.{sources_of as named_in};
 ghost use Rattle.named_sources.specs.SourcesView.{named_views};
 ghost use Rattle.world.specs.Prelude.{arguments_data, data_of, here_view};
 ghost use Rattle.target_calls.specs.BuildTargetsView.{named_target_view};
-ghost use Rattle.target_calls.specs.Commands.{command_of};
 ghost use Rattle.target_calls.specs.CommandsView.{part_view};
-ghost use Rattle.target_calls.specs.CustomTargets.{IsAllInput, call_fits, captures_one, count_named, custom_from, custom_target};
-ghost use Rattle.target_calls.specs.CustomTargets.{declared_custom, declared_files, has_place, is_made, is_source_keyword, longest};
-ghost use Rattle.target_calls.specs.CustomTargets.{names_in, names_of, sources_by, whole_command, written, written_files, written_in};
+ghost use Rattle.target_calls.specs.CustomNames.{names_in, names_of, place_of};
+ghost use Rattle.target_calls.specs.CustomTargets.{IsAllInput, captures_one, count_named, custom_from, custom_target, declared_custom};
+ghost use Rattle.target_calls.specs.CustomTargets.{declared_files, has_place, is_source_keyword, longest, names_from, part_by, rule_broken};
+ghost use Rattle.target_calls.specs.CustomTargets.{sources_by, whole_command, written, written_in, written_sources};
 ghost use Rattle.target_calls.specs.CustomTargetsView.{names_view};
+ghost use Rattle.target_calls.specs.Sources.{sources_in};
 
 use crate::build_target::NamedTarget;
 use crate::command::{Part, command_of};
 use crate::sources::{files_among, sources_in};
-use arguments::{Arguments, Named};
+use arguments::{Arguments, Named, Refused, Rule};
 use data::{Value, flat, opened, opened_count};
 use named_sources::{NamedSource, Place, Scope, filled, sources_named, sources_of};
 use paths::path_in;
@@ -64,31 +66,35 @@ fn longest(arguments: &Arguments) -> usize
     outputs.max(words.max(inputs.max(files.max(targets))))
 }
 
-/// What is printed goes to one output.
-pub(crate) fn captures_one(arguments: &Arguments) -> bool
+// What is printed goes to one output.
+fn captures_one(arguments: &Arguments) -> bool
     ensures { result ≡ captures_one (arguments_data arguments.now) }
 {
     !arguments.flag("capture", false) || count_named(arguments, "output") == 1
 }
 
-/// What is installed goes to a folder.
-pub(crate) fn has_place(arguments: &Arguments) -> bool
+// What is installed goes to a folder.
+fn has_place(arguments: &Arguments) -> bool
     ensures { result ≡ has_place (arguments_data arguments.now) }
 {
     !arguments.flag("install", false) || arguments.text_given("install_dir").is_some()
 }
 
-// At least one output and one word of a command.
-fn is_made(arguments: &Arguments) -> bool
-    ensures { result ≡ is_made (arguments_data arguments.now) }
+// What breaks a rule: a list that is empty, the outputs of what is printed, or the folder of what is installed.
+fn rule_broken(arguments: &Arguments) -> Option<(Rule, &'static str)>
+    ensures { option_map (λ b. (b.0, b.1.now)) result ≡ rule_broken (arguments_data arguments.now) }
 {
-    0 < count_named(arguments, "output") && 0 < count_named(arguments, "command")
-}
-
-fn call_fits(arguments: &Arguments) -> bool
-    ensures { result ≡ call_fits (arguments_data arguments.now) }
-{
-    is_made(arguments) && captures_one(arguments) && has_place(arguments)
+    if count_named(arguments, "output") == 0 {
+        Some((Rule::HasItems, "output"))
+    } else if count_named(arguments, "command") == 0 {
+        Some((Rule::HasItems, "command"))
+    } else if !captures_one(arguments) {
+        Some((Rule::TakesOneOutput, "capture"))
+    } else if !has_place(arguments) {
+        Some((Rule::IsNeeded, "install_dir"))
+    } else {
+        None
+    }
 }
 
 // ---- sources
@@ -126,8 +132,8 @@ fn push_written<'v>(
     Ok(())
 }
 
-/// What the call says of sources, in the order in which its keywords are written.
-pub(crate) fn written(alloc: Global, arguments: &Arguments) -> Result<Vec<&Value>, AllocError>
+// What the call says of sources, in the order in which its keywords are written.
+fn written(alloc: Global, arguments: &Arguments) -> Result<Vec<&Value>, AllocError>
     ensures { IfOk result (λ vs. map (λ v. data_of v.now) vs.items ≡ written (arguments_data arguments.now)) }
 {
     let mut values = Vec::new(alloc);
@@ -176,10 +182,9 @@ fn written_sources(
     here: &Here<'_>,
     arguments: &Arguments,
     input_alone: bool,
-) -> Result<Option<Vec<NamedSource>>, AllocError>
+) -> Result<Result<Vec<NamedSource>, Refused>, AllocError>
     requires { OnTrue input_alone (IsAllInput (arguments_data arguments.now)) }
-    ensures { IfOk result (λ ss. option_map named_views ss
-        ≡ named_in (here_view here.now).source_root (here_view here.now).folder (written (arguments_data arguments.now))) }
+    ensures { IfOk result (λ ss. said_data named_views ss ≡ written_sources (here_view here.now) (arguments_data arguments.now)) }
 {
     match only_written(arguments, input_alone) {
         Some(value) => sources_of(here.alloc, here.source_root, here.folder, &[value]),
@@ -190,31 +195,33 @@ fn written_sources(
     }
 }
 
-/// The files of the tree among the sources.
-pub(crate) fn written_files(
+// The sources that these are, which a keyword names.
+fn sources_said(
     here: &Here<'_>,
-    arguments: &Arguments,
-) -> Result<Option<Vec<String>>, AllocError>
-    ensures { IfOk result (λ fs. option_map (λ v. texts v.items) fs ≡ written_files (here_view here.now) (arguments_data arguments.now)) }
+    named: Vec<NamedSource>,
+    name: &str,
+) -> Result<Result<Vec<Source>, Refused>, AllocError>
+    ensures { IfOk result (λ ss. said_data (λ v. map source_view v.items) ss
+        ≡ found (sources_in (here_view here.now).earlier (named_views named)) Meaningful name.now) }
 {
-    match written_sources(here, arguments, says_input_alone(arguments))? {
-        Some(named) => Ok(Some(files_among(here.alloc, &named)?)),
-        None => Ok(None),
+    match sources_in(here.alloc, here.earlier, named)? {
+        Some(sources) => Ok(Ok(sources)),
+        None => Ok(Err(Rule::HasMeaning.refused(here.alloc, name)?)),
     }
 }
 
-/// The sources that a keyword names.
-pub(crate) fn sources_by(
+// The sources that a keyword names.
+fn sources_by(
     here: &Here<'_>,
     arguments: &Arguments,
     name: &str,
-) -> Result<Option<Vec<Source>>, AllocError>
-    ensures { IfOk result (λ ss. option_map (λ v. map source_view v.items) ss
+) -> Result<Result<Vec<Source>, Refused>, AllocError>
+    ensures { IfOk result (λ ss. said_data (λ v. map source_view v.items) ss
         ≡ sources_by (here_view here.now) (arguments_data arguments.now) name.now) }
 {
     match sources_named(here.alloc, here.source_root, here.folder, arguments, name)? {
-        Some(named) => sources_in(here.alloc, here.earlier, named),
-        None => Ok(None),
+        Ok(named) => sources_said(here, named, name),
+        Err(refused) => Ok(Err(refused)),
     }
 }
 
@@ -224,15 +231,14 @@ fn inputs_among(
     arguments: &Arguments,
     named: Vec<NamedSource>,
     input_alone: bool,
-) -> Result<Option<Vec<Source>>, AllocError>
+) -> Result<Result<Vec<Source>, Refused>, AllocError>
     requires input { OnTrue input_alone (IsAllInput (arguments_data arguments.now)) }
-    requires named { named_in (here_view here.now).source_root (here_view here.now).folder (written (arguments_data arguments.now))
-        ≡ Some (named_views named) }
-    ensures { IfOk result (λ ss. option_map (λ v. map source_view v.items) ss
+    requires named { written_sources (here_view here.now) (arguments_data arguments.now) ≡ Ok (named_views named) }
+    ensures { IfOk result (λ ss. said_data (λ v. map source_view v.items) ss
         ≡ sources_by (here_view here.now) (arguments_data arguments.now) (codes "input")) }
 {
     if input_alone {
-        sources_in(here.alloc, here.earlier, named)
+        sources_said(here, named, "input")
     } else {
         sources_by(here, arguments, "input")
     }
@@ -240,8 +246,8 @@ fn inputs_among(
 
 // ---- names
 
-/// What the placeholders of a call are seen from that stands in this folder.
-pub(crate) fn place_with<'p>(
+// What the placeholders of a call are seen from that stands in this folder.
+fn place_with<'p>(
     folder: &'p str,
     depth: usize,
     inputs: &'p [String],
@@ -311,8 +317,8 @@ fn names_given(
     }
 }
 
-/// The outputs and the depfile, which see the inputs alone.
-pub(crate) fn names_of(
+// The outputs and the depfile, which see the inputs alone.
+fn names_of(
     alloc: Global,
     place: &Place<'_>,
     arguments: &Arguments,
@@ -393,17 +399,20 @@ fn custom_target(
 }
 
 // The part of the command that a keyword says.
-fn command_given(
+fn part_by(
     here: &Here<'_>,
     arguments: &Arguments,
     place: &Place<'_>,
     name: &str,
-) -> Result<Option<Part>, AllocError>
-    ensures { IfOk result (λ p. option_map part_view p
-        ≡ command_of (here_view here.now) (place_view place.now) (leaves_named name.now (arguments_data arguments.now))) }
+) -> Result<Result<Part, Refused>, AllocError>
+    ensures { IfOk result (λ p. said_data part_view p
+        ≡ part_by (here_view here.now) (arguments_data arguments.now) (place_view place.now) name.now) }
 {
     let values = arguments.leaves(here.alloc, name)?;
-    command_of(here, place, &values)
+    match command_of(here, place, &values)? {
+        Some(part) => Ok(Ok(part)),
+        None => Ok(Err(Rule::HasMeaning.refused(here.alloc, name)?)),
+    }
 }
 
 // The command, and what has to be there: files and targets in it, then `depends`, then `depend_files`.
@@ -411,47 +420,84 @@ fn whole_command(
     here: &Here<'_>,
     arguments: &Arguments,
     place: &Place<'_>,
-) -> Result<Option<Part>, AllocError>
-    ensures { IfOk result (λ p. option_map part_view p
+) -> Result<Result<Part, Refused>, AllocError>
+    ensures { IfOk result (λ p. said_data part_view p
         ≡ whole_command (here_view here.now) (arguments_data arguments.now) (place_view place.now)) }
 {
-    let Some(mut command) = command_given(here, arguments, place, "command")? else {
-        return Ok(None);
+    let mut command = match part_by(here, arguments, place, "command")? {
+        Ok(part) => part,
+        Err(refused) => return Ok(Err(refused)),
     };
-    let Some(mut depends) = command_given(here, arguments, place, "depends")? else {
-        return Ok(None);
+    let mut depends = match part_by(here, arguments, place, "depends")? {
+        Ok(part) => part,
+        Err(refused) => return Ok(Err(refused)),
     };
-    let Some(mut files) = sources_by(here, arguments, "depend_files")? else {
-        return Ok(None);
+    let mut files = match sources_by(here, arguments, "depend_files")? {
+        Ok(sources) => sources,
+        Err(refused) => return Ok(Err(refused)),
     };
     depends.needs.append(&mut files)?;
     command.needs.append(&mut depends.needs)?;
-    Ok(Some(command))
+    Ok(Ok(command))
+}
+
+// The names of the files that the target makes. The folder is the call's.
+fn names_from<'p>(
+    here: &Here<'_>,
+    arguments: &Arguments,
+    folder: &'p str,
+    inputs: &'p [String],
+) -> Result<Result<Names, Refused>, AllocError>
+    requires { folder.now ≡ here.now.folder.now }
+    ensures { IfOk result (λ n. said_data names_view n
+        ≡ names_from (here_view here.now) (arguments_data arguments.now) (texts inputs.now)) }
+{
+    let place = place_with(folder, here.depth, inputs, &[], None);
+    match names_of(here.alloc, &place, arguments)? {
+        Some(names) => Ok(Ok(names)),
+        None => Ok(Err(Rule::HasMeaning.refused(here.alloc, "output")?)),
+    }
+}
+
+// The command, which sees the files of these names too. The folder is the call's.
+fn command_from<'p>(
+    here: &Here<'_>,
+    arguments: &Arguments,
+    folder: &'p str,
+    inputs: &'p [String],
+    names: &'p Names,
+) -> Result<Result<Part, Refused>, AllocError>
+    requires { folder.now ≡ here.now.folder.now }
+    ensures { IfOk result (λ p. said_data part_view p ≡ whole_command (here_view here.now) (arguments_data arguments.now)
+        (place_of (here_view here.now) (texts inputs.now) (names_view names.now))) }
+{
+    let below = files_below(here, names)?;
+    let files = below.as_ref().unwrap_or(names);
+    let depfile = lent(&files.depfile);
+    let place = place_with(folder, here.depth, inputs, &files.outputs, depfile);
+    whole_command(here, arguments, &place)
 }
 
 fn custom_from(
     here: &Here<'_>,
     arguments: &Arguments,
     inputs: Vec<Source>,
-) -> Result<Option<CustomTarget>, AllocError>
-    ensures { IfOk result (λ t. option_map custom_view t
+) -> Result<Result<CustomTarget, Refused>, AllocError>
+    ensures { IfOk result (λ t. said_data custom_view t
         ≡ custom_from (here_view here.now) (arguments_data arguments.now) (map source_view inputs.items)) }
 {
     let paths = source_paths(here.alloc, here.depth, &inputs)?;
     let folder = String::from_str(here.alloc, here.folder)?;
-    let from_inputs = place_with(&folder, here.depth, &paths, &[], None);
-    let Some(names) = names_of(here.alloc, &from_inputs, arguments)? else {
-        return Ok(None);
+    let names = match names_from(here, arguments, &folder, &paths)? {
+        Ok(names) => names,
+        Err(refused) => return Ok(Err(refused)),
     };
-    let below = files_below(here, &names)?;
-    let files = below.as_ref().unwrap_or(&names);
-    let depfile = lent(&files.depfile);
-    let place = place_with(&folder, here.depth, &paths, &files.outputs, depfile);
-    let Some(command) = whole_command(here, arguments, &place)? else {
-        return Ok(None);
+    let command = match command_from(here, arguments, &folder, &paths, &names)? {
+        Ok(command) => command,
+        Err(refused) => return Ok(Err(refused)),
     };
     let target = custom_target(here, arguments, names, inputs, command)?;
-    Ok(Some(target))
+    Ok(Ok(target))
 }
 
 fn declared_files(
@@ -459,40 +505,40 @@ fn declared_files(
     arguments: &Arguments,
     inputs: Vec<Source>,
     files: Vec<String>,
-) -> Result<Option<NamedTarget>, AllocError>
-    ensures { IfOk result (λ t. option_map named_target_view t
+) -> Result<Result<NamedTarget, Refused>, AllocError>
+    ensures { IfOk result (λ t. said_data named_target_view t
         ≡ declared_files (here_view here.now) (arguments_data arguments.now) (map source_view inputs.items) (texts files.items)) }
 {
     match custom_from(here, arguments, inputs)? {
-        Some(target) => Ok(Some(NamedTarget {
+        Ok(target) => Ok(Ok(NamedTarget {
             target: Target::Custom(Box::new(here.alloc, target)?),
             files,
         })),
-        None => Ok(None),
+        Err(refused) => Ok(Err(refused)),
     }
 }
 
-/// What a call of `custom_target` declares, or none where its arguments say no target: a list that is empty, a path that leads out of the
-/// tree, a placeholder that stands for nothing, a program that was not found, several outputs for what is printed, or no folder for what
-/// is installed.
+/// What a call of `custom_target` declares. A list that is empty breaks a rule, several outputs of what is printed, no folder for what is
+/// installed, a path that leads out of the tree, a placeholder that stands for nothing, and a program that was not found.
 #[tactic(auto, unfolding(crate::specs::CustomTargets::declared_custom))]
 pub fn declared_custom(
     here: &Here<'_>,
     arguments: &Arguments,
-) -> Result<Option<NamedTarget>, AllocError>
-    ensures { IfOk result (λ t. option_map named_target_view t
+) -> Result<Result<NamedTarget, Refused>, AllocError>
+    ensures { IfOk result (λ t. said_data named_target_view t
         ≡ declared_custom (here_view here.now) (arguments_data arguments.now)) }
 {
-    if !call_fits(arguments) {
-        return Ok(None);
+    if let Some((rule, keyword)) = rule_broken(arguments) {
+        return Ok(Err(rule.refused(here.alloc, keyword)?));
     }
     let input_alone = says_input_alone(arguments);
-    let Some(named) = written_sources(here, arguments, input_alone)? else {
-        return Ok(None);
+    let named = match written_sources(here, arguments, input_alone)? {
+        Ok(named) => named,
+        Err(refused) => return Ok(Err(refused)),
     };
     let files = files_among(here.alloc, &named)?;
-    let Some(inputs) = inputs_among(here, arguments, named, input_alone)? else {
-        return Ok(None);
-    };
-    declared_files(here, arguments, inputs, files)
+    match inputs_among(here, arguments, named, input_alone)? {
+        Ok(inputs) => declared_files(here, arguments, inputs, files),
+        Err(refused) => Ok(Err(refused)),
+    }
 }

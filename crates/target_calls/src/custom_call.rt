@@ -4,7 +4,6 @@ ghost use Rattle.world.specs.Prelude.{Does, MayFail, arguments_data, data_of};
 ghost use Rattle.target_calls.specs.BuildTargetsView.{named_target_view};
 ghost use Rattle.target_calls.specs.CustomCalls.{custom_target, said_custom};
 
-use crate::breaches::custom_breach;
 use crate::build_target::NamedTarget;
 use crate::custom::{count_named, declared_custom};
 use crate::custom_installs::add_custom;
@@ -15,7 +14,7 @@ use data::{Object, Value};
 use ports::{Outputs, Tree};
 use world::{Caller, Stop};
 
-// What the arguments say, or the refusal of arguments that say no target.
+// What the arguments say, or the refusal of those that break a rule.
 fn said_custom<T: Tree, O: Outputs>(
     caller: &Caller<'_, T, O>,
     arguments: &Arguments,
@@ -23,14 +22,8 @@ fn said_custom<T: Tree, O: Outputs>(
     ensures { Does T.seen O.seen named_target_view (said_custom (arguments_data arguments.now)) caller.now result caller.now }
 {
     let here = caller.here();
-    let found = declared_custom(&here, arguments)?;
-    match found {
-        Some(named) => Ok(named),
-        None => {
-            let breach = custom_breach(&here, arguments)?;
-            caller.refuse_by(breach.0, breach.1)
-        }
-    }
+    let named = declared_custom(&here, arguments)?;
+    caller.passed(named)
 }
 
 /// `custom_target(name)`: E9, E14, E21, E11, E22 in this order.

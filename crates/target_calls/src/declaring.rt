@@ -6,7 +6,6 @@ ghost use Rattle.world.specs.Prelude.{Does, MayFail, arguments_data, data_of};
 ghost use Rattle.target_calls.specs.BuildTargetsView.{named_target_view};
 ghost use Rattle.target_calls.specs.Targets.{add_installed, declare, library, library_kind, required_fit, said};
 
-use crate::breaches::build_breach;
 use crate::build_target::{NamedTarget, declared};
 use crate::fit_breaches::fit_breach;
 use crate::installs::{install_of, note};
@@ -18,7 +17,7 @@ use ports::{Outputs, Tree};
 use targets::{Kind, Target};
 use world::{Caller, Stop};
 
-// What the arguments say, or the refusal of arguments that say no target.
+// What the arguments say, or the refusal of those that break a rule.
 fn said<T: Tree, O: Outputs>(
     caller: &Caller<'_, T, O>,
     kind: Kind,
@@ -27,14 +26,8 @@ fn said<T: Tree, O: Outputs>(
     ensures { Does T.seen O.seen named_target_view (said kind (arguments_data arguments.now)) caller.now result caller.now }
 {
     let here = caller.here();
-    let found = declared(&here, kind, arguments)?;
-    match found {
-        Some(named) => Ok(named),
-        None => {
-            let breach = build_breach(&here, arguments)?;
-            caller.refuse_by(breach.0, breach.1)
-        }
-    }
+    let named = declared(&here, kind, arguments)?;
+    caller.passed(named)
 }
 
 /// Refuses a target that the project can't have.

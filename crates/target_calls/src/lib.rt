@@ -1,7 +1,6 @@
 //! The functions of the page "Reference manual" that declare targets, and those that name what targets are made of.
 #![tactic(auto)]
 
-mod breaches;
 mod build_target;
 mod command;
 mod custom;

@@ -1,53 +1,77 @@
 //! `files` and `include_directories`.
-ghost use Rattle.std.specs.Prelude.{map, option_map, string_bytes};
+ghost use Rattle.std.specs.Prelude.{◌≡◌, IfOk, map, option_map, string_bytes};
+ghost use Rattle.arguments.specs.Refused.{said_data};
 ghost use Rattle.paths.specs.Folder.{strings_of};
-ghost use Rattle.world.specs.Prelude.{Does, MayFail, arguments_data, data_of};
-ghost use Rattle.target_calls.specs.Files.{all_required, files, include_directories, named_files, named_folders};
+ghost use Rattle.world.specs.Prelude.{Does, MayFail, arguments_data, data_of, here_view};
+ghost use Rattle.target_calls.specs.Files.{all_required, files, include_directories, named_paths, path_named, paths_named, rule_of};
 
-use crate::breaches::{lost_file, lost_folder};
-use arguments::{Arguments, Rule};
+use arguments::{Arguments, Refused, Rule};
 use data::Value;
 use named_sources::{directories_at, files_at};
-use paths::{folder_paths, tree_paths};
+use paths::{folder_path, tree_path};
 use ports::{Outputs, Tree};
-use world::{Caller, Stop};
+use std::alloc::AllocError;
+use world::{Caller, Here, Stop};
 
-// The paths of the files that texts name.
-pub(crate) fn named_files<T: Tree, O: Outputs>(
-    caller: &Caller<'_, T, O>,
-    texts: &[&str],
-) -> Result<Vec<String>, Stop>
-    ensures { Does T.seen O.seen strings_of (named_files (map (λ t. t.now) texts.now)) caller.now result caller.now }
-{
-    let source_root = caller.store.settings().source_root.as_str();
-    let folder = caller.store.folder();
-    let paths = tree_paths(caller.alloc, source_root, folder, texts)?;
-    match paths {
-        Some(paths) => Ok(paths),
-        None => {
-            let text = lost_file(caller.alloc, source_root, folder, texts)?;
-            caller.refuse_by(Rule::NamesFile, text)
+// What a text names.
+#[derive(Clone, Copy)]
+enum Wanted {
+    File,
+    /// A folder, of which the root is one.
+    Folder,
+}
+
+impl Wanted {
+    // The rule that a text breaks which names none.
+    fn rule(self) -> Rule
+        ensures { result ≡ rule_of self }
+    {
+        match self {
+            Wanted::File => Rule::NamesFile,
+            Wanted::Folder => Rule::NamesFolder,
+        }
+    }
+
+    // The path of what the text names in the present definition file.
+    fn path(self, here: &Here<'_>, text: &str) -> Result<Option<String>, AllocError>
+        ensures { IfOk result (λ path. option_map string_bytes path ≡ path_named (here_view here.now) self text.now) }
+    {
+        match self {
+            Wanted::File => tree_path(here.alloc, here.source_root, here.folder, text),
+            Wanted::Folder => folder_path(here.alloc, here.source_root, here.folder, text),
         }
     }
 }
 
-// The paths of the folders that texts name.
-fn named_folders<T: Tree, O: Outputs>(
-    caller: &Caller<'_, T, O>,
+// The paths of the files or folders that texts name.
+fn paths_named(
+    here: &Here<'_>,
+    wanted: Wanted,
     texts: &[&str],
-) -> Result<Vec<String>, Stop>
-    ensures { Does T.seen O.seen strings_of (named_folders (map (λ t. t.now) texts.now)) caller.now result caller.now }
+) -> Result<Result<Vec<String>, Refused>, AllocError>
+    ensures { IfOk result (λ ps. said_data strings_of ps ≡ paths_named (here_view here.now) wanted (map (λ t. t.now) texts.now)) }
 {
-    let source_root = caller.store.settings().source_root.as_str();
-    let folder = caller.store.folder();
-    let paths = folder_paths(caller.alloc, source_root, folder, texts)?;
-    match paths {
-        Some(paths) => Ok(paths),
-        None => {
-            let text = lost_folder(caller.alloc, source_root, folder, texts)?;
-            caller.refuse_by(Rule::NamesFolder, text)
+    let mut paths = Vec::new(here.alloc);
+    for text in texts {
+        match wanted.path(here, text)? {
+            Some(path) => paths.push(path)?,
+            None => return Ok(Err(wanted.rule().refused(here.alloc, text)?)),
         }
     }
+    Ok(Ok(paths))
+}
+
+// The same, or the refusal of a text that names none.
+fn named_paths<T: Tree, O: Outputs>(
+    caller: &Caller<'_, T, O>,
+    wanted: Wanted,
+    texts: &[&str],
+) -> Result<Vec<String>, Stop>
+    ensures { Does T.seen O.seen strings_of (named_paths wanted (map (λ t. t.now) texts.now)) caller.now result caller.now }
+{
+    let here = caller.here();
+    let paths = paths_named(&here, wanted, texts)?;
+    caller.passed(paths)
 }
 
 // Refuses the call unless each of the files is there.
@@ -73,7 +97,7 @@ pub fn files<T: Tree, O: Outputs>(
     ensures { Does T.seen O.seen (option_map data_of) (files (arguments_data arguments.now)) caller.old result caller.new }
 {
     let texts = arguments.all_texts(caller.alloc)?;
-    let paths = named_files(caller, &texts)?;
+    let paths = named_paths(caller, Wanted::File, &texts)?;
     let listed = files_at(caller.alloc, &paths)?;
     require_all(caller, paths)?;
     let list = caller.answered(listed)?;
@@ -88,7 +112,7 @@ pub fn include_directories<T: Tree, O: Outputs>(
     ensures { Does T.seen O.seen (option_map data_of) (include_directories (arguments_data arguments.now)) caller.now result caller.now }
 {
     let texts = arguments.all_texts(caller.alloc)?;
-    let paths = named_folders(caller, &texts)?;
+    let paths = named_paths(caller, Wanted::Folder, &texts)?;
     let directories = caller.answered(directories_at(caller.alloc, &paths)?)?;
     Ok(Some(directories))
 }

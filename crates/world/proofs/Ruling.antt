@@ -1,16 +1,19 @@
 -- Rules that are kept or broken.
 use Rattle.std.proofs.Common.{◌≡◌, refl, ℕ, List, Option, Some, None, Result, Ok, Err, IsErrAnd, sym, subst}
+use Rattle.arguments.specs.Refused.{RefusedData, said_data}
 use Rattle.arguments.specs.Rules.{broken}
+use Rattle.arguments.specs.declared.refused.Refused.{Refused}
 use Rattle.arguments.specs.declared.rule.Rule.{Rule}
 use Rattle.basics.specs.Faults.{FaultData}
 use Rattle.basics.specs.declared.faults.refusal.Refusal.TheVariants as refusals
-use Rattle.world.specs.Answering.{Carries, Refuses, State}
+use Rattle.world.specs.Answering.{Carries, IsPassed, Refuses, State}
+use Rattle.world.specs.Fit.{passed}
 use Rattle.world.specs.Gives.{IsRefusal}
 use Rattle.world.specs.Ruled.{ruled}
 use Rattle.world.specs.World.{fault_here}
 use Rattle.world.specs.declared.stop.Stop.{Stop}
 use Rattle.world.specs.declared.stop.Stop.TheVariants as stops
-use Rattle.world.proofs.Answering.{carries_give, carries_refuse}
+use Rattle.world.proofs.Answering.{carries_give, carries_refuse, carries_same}
 
 -- want of memory stands in for each refusal
 pub refuses_none : {B : Type 0} (f : FaultData) (result : Result B Stop) → IsErrAnd result (λ e. e ≡ stops.Memory) → Refuses f result
@@ -28,3 +31,11 @@ pub ruled_broken : {A B : Type 0} {view : B → A} (found : Option A) (rule : Ru
 unfolding ruled
 ruled_broken {view = view} found rule text {s = s} {result = result} is r =
     subst (λ o. Carries view (ruled o rule text) s result s) is (carries_refuse r)
+
+-- what arguments say, or their refusal
+pub carries_passed : {A B : Type 0} {view : B → A} (given : Result A RefusedData) (answer : Result B Refused) {s : State} {result : Result B Stop}
+    → said_data view answer ≡ given → IsPassed s.world answer result → Carries view (passed given) s result s
+carries_passed {view = view} given (Ok x) {s = s} {result = result} said is =
+    subst (λ g. Carries view (passed g) s result s) said (carries_same is (carries_give refl))
+carries_passed {view = view} given (Err r) {s = s} {result = result} said is =
+    subst (λ g. Carries view (passed g) s result s) said (carries_refuse is)

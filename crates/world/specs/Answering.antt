@@ -14,6 +14,7 @@ use Rattle.world.specs.Trace.{Seen, seen}
 use Rattle.world.specs.Gives.{Gives, Holds, Continues, IsRefusal, failures_after}
 use Rattle.world.specs.Deed.{Files, Deed, perform}
 use Rattle.world.specs.Ruled.{broken_by}
+use Rattle.arguments.specs.declared.refused.Refused.{Refused as RefusedArguments}
 use Rattle.arguments.specs.declared.rule.Rule.{Rule}
 use Rattle.basics.specs.declared.faults.refusal.Refusal.{Refusal}
 use Rattle.basics.specs.declared.faults.refusal.Refusal.TheVariants as refusals
@@ -87,6 +88,11 @@ IsAnsweredBy w rule text (Err refusal) result = Refuses (fault_here w (of_operat
 abbrev pub IsFitting : {B : Type 0} → World → Result B Refusal → Result B Stop → Type 0
 IsFitting w (Ok x) result = result ≡ Ok x
 IsFitting w (Err refusal) result = Refuses (fault_here w refusal []) result
+
+-- what arguments say is handed on, or their refusal, with what that is about
+abbrev pub IsPassed : {B : Type 0} → World → Result B RefusedArguments → Result B Stop → Type 0
+IsPassed w (Ok x) result = result ≡ Ok x
+IsPassed w (Err refused) result = Refuses (fault_here w refused.refusal (string_bytes refused.detail)) result
 
 -- what the project answers is handed on, or its refusal, with what that is about
 abbrev pub IsAllowed : {B : Type 0} → World → Result B Refused → Result B Stop → Type 0

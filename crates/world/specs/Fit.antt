@@ -6,11 +6,11 @@ use Rattle.arguments.specs.Refused.{RefusedData}
 use Rattle.arguments.specs.Row.{RowData}
 use Rattle.world.specs.Deed.{Deed, give, refuse}
 
--- what a test of arguments answers, or its refusal, with what that is about
-abbrev pub answered : Result (Unit {0}) RefusedData → Deed (Unit {0})
-answered (Ok u) = give u
-answered (Err refused) = refuse refused.refusal refused.detail
+-- what arguments say, or their refusal, with what that is about
+abbrev pub passed : {A : Type 0} → Result A RefusedData → Deed A
+passed (Ok a) = give a
+passed (Err refused) = refuse refused.refusal refused.detail
 
 -- the call is refused where its row does not take the arguments
 unfoldable pub fit : RowData → ArgumentsData → Deed (Unit {0})
-fit row a = answered (checked row a)
+fit row a = passed (checked row a)

@@ -1,24 +1,33 @@
-//! Holds the arguments of a call against its row.
+//! Holds the arguments of a call against its row, and refuses them.
 ghost use Rattle.arguments.specs.Arguments.{arguments_data};
 ghost use Rattle.arguments.specs.RowView.{row_data};
+ghost use Rattle.world.specs.Answering.{IsPassed};
 ghost use Rattle.world.specs.Fit.{fit};
+ghost use Rattle.world.specs.Store.{world_of};
 
 use crate::caller::Caller;
 use crate::stop::Stop;
-use arguments::{Arguments, Row, check};
+use arguments::{Arguments, Refused, Row, check};
 use ports::{Outputs, Tree};
 
 impl<'a, T: Tree, O: Outputs> Caller<'a, T, O> {
     ghost use Rattle.world.specs.Caller.{Does};
+
+    /// What the arguments say, or the stop of their refusal, with what that is about.
+    pub fn passed<A>(&self, answer: Result<A, Refused>) -> Result<A, Stop>
+        ensures { IsPassed (world_of self.now.store.now) answer result }
+    {
+        match answer {
+            Ok(said) => Ok(said),
+            Err(refused) => self.refuse(refused.refusal, refused.detail.as_str()),
+        }
+    }
 
     /// Refuses a call whose arguments are not what its row says, and tells what does not fit.
     pub fn fit(&self, row: &Row, arguments: &Arguments) -> Result<(), Stop>
         ensures { Does T.seen O.seen (λ u. u) (fit (row_data row.now) (arguments_data arguments.now)) self.now result self.now }
     {
         let answer = check(self.alloc, row, arguments)?;
-        match answer {
-            Ok(()) => Ok(()),
-            Err(refused) => self.refuse(refused.refusal, refused.detail.as_str()),
-        }
+        self.passed(answer)
     }
 }

@@ -5,8 +5,8 @@ use Rattle.configuration_calls.proofs.contents.all_set.Goals as goal
 pub loop-i-init : goal.loop-i-init
 loop-i-init c = grind (arith, common_steps)
 
-pub returns-in-None-2 : goal.returns-in-None-2
-returns-in-None-2 c = grind (arith, common_steps)
+pub returns-in-Err : goal.returns-in-Err
+returns-in-Err c = grind (arith, common_steps)
 
 pub returns-in-None : goal.returns-in-None
 returns-in-None c = grind (arith, common_steps)

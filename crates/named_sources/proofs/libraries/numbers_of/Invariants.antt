@@ -1,6 +1,6 @@
 use Rattle.std.proofs.Common.{◌≡◌, [], map, drop}
 use Rattle.data.specs.View.{data_of}
-use Rattle.named_sources.specs.Each.{each_behind}
+use Rattle.arguments.specs.Each.{each_behind}
 use Rattle.named_sources.specs.Libraries.{build_target_in}
 use Rattle.named_sources.proofs.libraries.numbers_of.Given as goal
 

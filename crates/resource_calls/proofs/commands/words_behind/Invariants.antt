@@ -1,7 +1,7 @@
 use Rattle.std.proofs.Common.{◌≡◌, map, drop}
 use Rattle.data.specs.View.{data_of}
 use Rattle.edge.specs.Texts.{texts}
-use Rattle.named_sources.specs.Each.{all_behind}
+use Rattle.arguments.specs.Each.{all_behind}
 use Rattle.world.specs.HereView.{here_view}
 use Rattle.resource_calls.specs.TestCommands.{argument_words}
 use Rattle.resource_calls.proofs.commands.words_behind.Given as goal

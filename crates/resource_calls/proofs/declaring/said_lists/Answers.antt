@@ -1,35 +1,18 @@
-use Rattle.std.proofs.Common.{option_map, sym, ap, ◌∙◌}
+use Rattle.std.proofs.Common.{ap, ◌∙◌}
 use Rattle.arguments.specs.Arguments.{arguments_data}
-use Rattle.world.specs.Ruled.{ruled}
-use Rattle.world.specs.Store.{world_of}
-use Rattle.world.proofs.Answering.{carries_as, carries_none, carries_read}
-use Rattle.world.proofs.Ruling.{ruled_broken, ruled_found}
-use Rattle.resource_calls.specs.Breaches.{Breach, lists_breach}
+use Rattle.world.specs.Here.{HereData}
+use Rattle.world.proofs.Answering.{carries_none, carries_read}
+use Rattle.world.proofs.Ruling.{carries_passed}
 use Rattle.resource_calls.specs.DeclareDependency.{said_lists}
 use Rattle.resource_calls.specs.OwnLists.{own_lists}
 use Rattle.resource_calls.specs.OwnListsView.{own_view}
-use Rattle.world.specs.Here.{HereData, here_of}
 use Rattle.resource_calls.proofs.declaring.said_lists.Goals as goal
 
-pub returns-in_err-found : goal.returns-in_err-found
-returns-in_err-found g c = carries_none c.from_residual.ensures.1
+pub returns-in_err-own : goal.returns-in_err-own
+returns-in_err-own g c = carries_none c.from_residual.ensures.1
 
-pub returns-in-Some : goal.returns-in-Some
+pub returns : goal.returns
 unfolding said_lists
-returns-in-Some g c =
-    let said = c.in_ok-found.ensures ∙ ap (λ (p : HereData). own_lists p (arguments_data c.args.arguments.now)) c.here-here.ensures in
-    carries_read (ruled_found {view = own_view} _ _ _ (ap (option_map own_view) (sym c.in-Some.is) ∙ said))
-
-pub returns-in_err-breach-in-None : goal.returns-in_err-breach-in-None
-returns-in_err-breach-in-None g c = carries_none c.from_residual-in_err-breach-in-None.ensures.1
-
-pub returns-in_ok-breach-in-None : goal.returns-in_ok-breach-in-None
-unfolding said_lists
-returns-in_ok-breach-in-None g c =
-    let a = arguments_data c.args.arguments.now in
-    let here = here_of (world_of c.args.caller.now.store.now).facts in
-    let none = ap (option_map own_view) (sym c.in-None.is) ∙ c.in_ok-found.ensures
-    ∙ ap (λ (p : HereData). own_lists p a) c.here-here.ensures in
-    let breach = c.in_ok-breach-in-None.ensures ∙ ap (λ (p : HereData). lists_breach p a) c.here-here.ensures in
-    carries_read (carries_as (ap (λ (b : Breach). ruled (own_lists here a) b.0 b.1) breach)
-    (ruled_broken {view = own_view} _ _ _ none c.refuse_by.ensures))
+returns g c =
+    let said = c.in_ok-own.ensures ∙ ap (λ (p : HereData). own_lists p (arguments_data c.args.arguments.now)) c.here-here.ensures in
+    carries_read (carries_passed {view = own_view} _ c.in_ok-own.own said c.passed.ensures)

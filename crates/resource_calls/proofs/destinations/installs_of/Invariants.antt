@@ -1,15 +1,15 @@
 use Rattle.std.proofs.Common.{◌≡◌, [], map, drop}
 use Rattle.arguments.specs.Arguments.{arguments_data}
+use Rattle.arguments.specs.Each.{each_said}
 use Rattle.project.specs.View.{install_view}
-use Rattle.named_sources.specs.Each.{each_behind}
 use Rattle.named_sources.specs.SourcesView.{named_view}
-use Rattle.resource_calls.specs.Destinations.{install_of}
+use Rattle.resource_calls.specs.Destinations.{installed}
 use Rattle.resource_calls.specs.DestinationsView.{folders_view}
 use Rattle.resource_calls.proofs.destinations.installs_of.Given as goal
 
 -- what is installed so far and the files that are left decide
 abbrev pub invariant-loop-one : goal.invariant-loop-one
 invariant-loop-one l =
-    each_behind (install_of (folders_view l.folders) l.sort (arguments_data l.arguments)) (map install_view l.installs.items)
+    each_said (installed (folders_view l.folders) l.sort (arguments_data l.arguments)) (map install_view l.installs.items)
     (map named_view (drop l.one-index l.named))
-    ≡ each_behind (install_of (folders_view l.folders) l.sort (arguments_data l.arguments)) [] (map named_view l.named)
+    ≡ each_said (installed (folders_view l.folders) l.sort (arguments_data l.arguments)) [] (map named_view l.named)

@@ -1,37 +1,18 @@
-use Rattle.std.proofs.Common.{List, ℕ, option_map, sym, ap, ◌∙◌}
+use Rattle.std.proofs.Common.{ap, ◌∙◌}
 use Rattle.arguments.specs.Arguments.{arguments_data}
-use Rattle.world.specs.Ruled.{ruled}
-use Rattle.world.specs.Store.{world_of}
-use Rattle.world.proofs.Answering.{carries_as, carries_none, carries_read}
-use Rattle.world.proofs.Ruling.{ruled_broken, ruled_found}
-use Rattle.resource_calls.specs.Breaches.{Breach, install_breach}
-use Rattle.resource_calls.specs.Destinations.{FoldersData, folders_in, said_of}
+use Rattle.world.proofs.Answering.{carries_none, carries_read}
+use Rattle.world.proofs.Ruling.{carries_passed}
+use Rattle.resource_calls.specs.Destinations.{FoldersData, said_of}
 use Rattle.resource_calls.specs.DestinationsView.{said_view}
 use Rattle.resource_calls.specs.Installs.{said_installs}
 use Rattle.resource_calls.proofs.installs.said_installs.Goals as goal
 
-pub returns-in_err-found : goal.returns-in_err-found
-returns-in_err-found g c = carries_none c.from_residual.ensures.1
+pub returns-in_err-said : goal.returns-in_err-said
+returns-in_err-said g c = carries_none c.from_residual.ensures.1
 
-pub returns-in-Some : goal.returns-in-Some
+pub returns : goal.returns
 unfolding said_installs
-returns-in-Some g c =
-    let said = c.in_ok-found.ensures
+returns g c =
+    let said = c.in_ok-said.ensures
     ∙ ap (λ (f : FoldersData). said_of f c.args.sort (arguments_data c.args.arguments.now)) c.folders_in-folders.ensures in
-    carries_read (ruled_found {view = said_view} _ _ _ (ap (option_map said_view) (sym c.in-Some.is) ∙ said))
-
-pub returns-in_err-breach-in-None : goal.returns-in_err-breach-in-None
-returns-in_err-breach-in-None g c = carries_none c.from_residual-in_err-breach-in-None.ensures.1
-
-pub returns-in_ok-breach-in-None : goal.returns-in_ok-breach-in-None
-unfolding said_installs
-returns-in_ok-breach-in-None g c =
-    let a = arguments_data c.args.arguments.now in
-    let folders = folders_in (world_of c.args.caller.now.store.now).facts in
-    let none = ap (option_map said_view) (sym c.in-None.is) ∙ c.in_ok-found.ensures
-    ∙ ap (λ (f : FoldersData). said_of f c.args.sort a) c.folders_in-folders.ensures in
-    let rule = c.in_ok-breach-in-None.breach.0 in
-    let breach = ap (λ (t : List ℕ). (rule, t)) c.as_str.ensures.value ∙ c.in_ok-breach-in-None.ensures
-    ∙ ap (λ (f : FoldersData). install_breach f c.args.sort a) c.folders_in-folders.ensures in
-    carries_read (carries_as (ap (λ (b : Breach). ruled (said_of folders c.args.sort a) b.0 b.1) breach)
-    (ruled_broken {view = said_view} _ _ _ none c.refuse_by.ensures))
+    carries_read (carries_passed {view = said_view} _ c.in_ok-said.said said c.passed.ensures)

@@ -4,7 +4,7 @@ use Rattle.std.proofs.lemmas.Iterator.Adapters.{option_map_id}
 use Rattle.std.proofs.lemmas.List.{map-id}
 use Rattle.edge.specs.Texts.{Path, Text}
 use Rattle.paths.specs.Paths.{path_in}
-use Rattle.target_calls.specs.CustomTargets.{NamesData}
+use Rattle.target_calls.specs.CustomNames.{NamesData}
 use Rattle.target_calls.specs.CustomTargetsView.{names_view}
 use Rattle.target_calls.proofs.custom.files_below.Goals as goal
 

@@ -2,7 +2,7 @@ use Rattle.std.proofs.Common.{◌≡◌, [], map, drop, string_bytes}
 use Rattle.named_sources.specs.HolesView.{place_view}
 use Rattle.named_sources.specs.Holes.{filled}
 use Rattle.named_sources.specs.declared.holes.Scope.TheVariants.{FileName}
-use Rattle.named_sources.specs.Each.{each_behind}
+use Rattle.arguments.specs.Each.{each_behind}
 use Rattle.target_calls.proofs.custom.names_in.Given as goal
 
 -- the names so far and the texts that are left decide

@@ -5,8 +5,7 @@ use Rattle.targets.specs.View.{target_view}
 use Rattle.world.specs.Ruled.{obeyed}
 use Rattle.world.specs.Store.{world_of}
 use Rattle.world.proofs.Answering.{carries_as, carries_none, carries_read, need_no, need_yes}
-use Rattle.target_calls.specs.Breaches.{Breach}
-use Rattle.target_calls.specs.FitBreaches.{fit_breach}
+use Rattle.target_calls.specs.FitBreaches.{Breach, fit_breach}
 use Rattle.target_calls.specs.Targets.{required_fit}
 use Rattle.target_calls.proofs.declaring.require_fit.Goals as goal
 

@@ -3,7 +3,7 @@ use Rattle.std.specs.Vec.Iter.{into_iter_items}
 use Rattle.targets.specs.LinkedViews.{linked_views}
 use Rattle.targets.specs.View.{source_view}
 use Rattle.named_sources.specs.SourcesView.{named_view}
-use Rattle.named_sources.specs.Each.{each_behind}
+use Rattle.arguments.specs.Each.{each_behind}
 use Rattle.target_calls.specs.Sources.{source_in}
 use Rattle.target_calls.proofs.sources.sources_in.Given as goal
 

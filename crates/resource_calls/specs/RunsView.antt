@@ -1,7 +1,7 @@
 -- What a test runs, without where it lies in memory.
 use Rattle.edge.specs.Texts.{texts}
-use Rattle.resource_calls.specs.TestCommands.{RunData}
-use Rattle.resource_calls.specs.declared.commands.Run.{Run}
+use Rattle.resource_calls.specs.Runs.{RunData}
+use Rattle.resource_calls.specs.declared.runs.Run.{Run}
 
 abbrev pub run_view : Run → RunData
 run_view r = record { command = texts r.command.items; environment = texts r.environment.items }

@@ -1,6 +1,6 @@
 use Rattle.std.proofs.Common.{arith}
 use Rattle.std.proofs.lemmas.Grind.{common_steps}
-use Rattle.target_calls.proofs.breaches.lost_folder.Goals as goal
+use Rattle.target_calls.proofs.tree.paths_named.Goals as goal
 
 pub loop-text-init : goal.loop-text-init
 loop-text-init c = grind (arith, common_steps)

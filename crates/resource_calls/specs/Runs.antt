@@ -1,0 +1,35 @@
+-- What a test runs, and with which variables.
+use Rattle.std.specs.Prelude.{List, Option, Some, Ok}
+use Rattle.arguments.specs.Arguments.{ArgumentsData}
+use Rattle.arguments.specs.Given.{argument, text_at}
+use Rattle.arguments.specs.Said.{Said, ◌>>=◌, found}
+use Rattle.arguments.specs.declared.rule.Rule.{Rule}
+use Rattle.arguments.specs.declared.rule.Rule.TheVariants as rules
+use Rattle.data.specs.Data.{Data, object}
+use Rattle.data.specs.declared.object.Object.{Object}
+use Rattle.data.specs.declared.object.Object.TheVariants as objects
+use Rattle.edge.specs.Texts.{Text}
+use Rattle.resources.specs.Testing.{environment}
+use Rattle.resource_calls.specs.TestCommands.{command_given}
+use Rattle.world.specs.Here.{HereData}
+
+pub record RunData : Type 0 where
+  pub command : List Text
+  -- texts `NAME=VALUE`
+  pub environment : List Text
+
+-- of what can't run: a program was not found; anything else is a library
+abbrev pub object_rule : Object → Rule
+object_rule (objects.Program p) = rules.RunsProgram
+object_rule _ = rules.RunsNoLibrary
+
+abbrev pub program_rule : Option Data → Rule
+program_rule (Some (object o)) = object_rule o
+program_rule _ = rules.RunsNoLibrary
+
+-- the command and the variables that a call says; what can't run breaks a rule by the test's name
+abbrev pub run_of : HereData → ArgumentsData → Said RunData
+run_of here a = do
+  command ← found (command_given here a) (program_rule (argument 1 a)) (text_at 0 a)
+  variables ← environment a
+  Ok (record { command = command; environment = variables })

@@ -1,0 +1,58 @@
+//! What a test runs, and with which variables.
+ghost use Rattle.std.specs.Prelude.{◌≡◌, IfOk, option_map};
+ghost use Rattle.arguments.specs.Refused.{said_data};
+ghost use Rattle.world.specs.Prelude.{arguments_data, data_of, here_view};
+ghost use Rattle.resource_calls.specs.Runs.{object_rule, program_rule, run_of};
+ghost use Rattle.resource_calls.specs.RunsView.{run_view};
+
+use crate::commands::command_given;
+use arguments::{Arguments, Refused, Rule};
+use data::{Object, Value};
+use resources::environment;
+use std::alloc::{AllocError, Global};
+use world::Here;
+
+/// What a test runs.
+#[derive(Drop)]
+pub struct Run {
+    /// The words of the program and of its arguments.
+    pub command: Vec<String>,
+    /// Texts `NAME=VALUE`.
+    pub environment: Vec<String>,
+}
+
+// Of what can't run, a program was not found; anything else is a library.
+fn object_rule(object: &Object) -> Rule
+    ensures { result ≡ object_rule object.now }
+{
+    match object {
+        Object::Program(_) => Rule::RunsProgram,
+        _ => Rule::RunsNoLibrary,
+    }
+}
+
+fn program_rule(program: Option<&Value>) -> Rule
+    ensures { result ≡ program_rule (option_map (λ v. data_of v.now) program.entry) }
+{
+    match program {
+        Some(Value::Object(object)) => object_rule(object),
+        _ => Rule::RunsNoLibrary,
+    }
+}
+
+/// The command and the variables that a call says. What can't run breaks a rule by the test's name, and so does what says no variable.
+pub fn run_of(here: &Here<'_>, arguments: &Arguments) -> Result<Result<Run, Refused>, AllocError>
+    ensures { IfOk result (λ run. said_data run_view run ≡ run_of (here_view here.now) (arguments_data arguments.now)) }
+{
+    let Some(command) = command_given(here, arguments)? else {
+        let rule = program_rule(arguments.argument(1));
+        return Ok(Err(rule.refused(here.alloc, arguments.text_at(0))?));
+    };
+    match environment(here.alloc, arguments)? {
+        Ok(environment) => Ok(Ok(Run {
+            command,
+            environment,
+        })),
+        Err(refused) => Ok(Err(refused)),
+    }
+}

@@ -1,0 +1,44 @@
+-- The names of the files that a custom target makes, and what its placeholders are seen from.
+use Rattle.std.specs.Prelude.{List, map, Option, Some, option_map, codes}
+use Rattle.arguments.specs.Arguments.{ArgumentsData}
+use Rattle.arguments.specs.Each.{each_or_none}
+use Rattle.arguments.specs.Given.{texts}
+use Rattle.arguments.specs.Maybe.{◌>>=◌}
+use Rattle.edge.specs.Folders.{build_folder, source_folder}
+use Rattle.edge.specs.Paths.{source_root}
+use Rattle.edge.specs.Texts.{Path, Text}
+use Rattle.named_sources.specs.Holes.{PlaceData, filled, first_of}
+use Rattle.named_sources.specs.declared.holes.Scope.TheVariants.{FileName}
+use Rattle.paths.specs.Paths.{path_in}
+use Rattle.world.specs.Here.{HereData}
+
+-- what the placeholders of the call are seen from
+abbrev pub place_with : HereData → (inputs outputs : List Path) → (depfile : Option Path) → PlaceData
+place_with here inputs outputs depfile = record {
+  inputs = inputs;
+  outputs = outputs;
+  depfile = depfile;
+  build_folder = build_folder here.folder;
+  source_folder = source_folder here.depth here.folder;
+  source_root = source_root here.depth;
+}
+
+-- names of files, their placeholders replaced
+abbrev pub names_in : PlaceData → List Text → Option (List Text)
+names_in place ts = each_or_none (filled FileName place) ts
+
+-- names of files of the folder
+pub record NamesData : Type 0 where
+  pub outputs : List Text
+  pub depfile : Option Text
+
+-- the outputs and the depfile, which see the inputs alone
+abbrev pub names_of : PlaceData → ArgumentsData → Option NamesData
+names_of place a = do
+  outputs ← names_in place (texts (codes "output") a)
+  depfile ← names_in place (texts (codes "depfile") a)
+  Some (record { outputs = outputs; depfile = first_of depfile })
+
+abbrev pub place_of : HereData → (inputs : List Path) → NamesData → PlaceData
+place_of here inputs names =
+    place_with here inputs (map (path_in here.folder) names.outputs) (option_map (path_in here.folder) names.depfile)
