@@ -61,7 +61,7 @@ fn paths_named(
     Ok(Ok(paths))
 }
 
-// The same, or the refusal of a text that names none.
+// The same, where a text that names none refuses the call.
 fn named_paths<T: Tree, O: Outputs>(
     caller: &Caller<'_, T, O>,
     wanted: Wanted,
