@@ -155,6 +155,9 @@ def test_building() -> None:
     built("goes on from what checks have kept", ["hawkottoman run"])
     for crate in ("low", "middle", "hawkottoman"):
         os.rmdir(f"{COPY}/crates/{crate}/out/incremental")
+    touch("crates/low/src/lib.rt", 1)
+    time.sleep(1.1)
+    built("and a program of that is not taken for one of the libraries", ["hawkottoman build"])
 
 
 def test_commands() -> None:
