@@ -10,7 +10,7 @@ import sys
 import time
 
 from workshop import (CHECKOUT, COMMAND, WORK, check, configured, document, environment, only_on_path, over, put, read, refuses, run, shell,
-                      shows_help, words_of)
+                      shows_help, wait_until, words_of)
 
 sys.path.insert(0, CHECKOUT)
 from tools.last_setup import build_folder_of  # noqa: E402
@@ -44,6 +44,7 @@ RATTLE = f"""#!/bin/sh
 for last; do :; done
 echo "$(basename "$PWD") build" >>{WORK}/proved
 test ! -f {WORK}/broken || exit 1
+if test -f {WORK}/slow; then echo $$ >{WORK}/at-work; exec sleep 60; fi
 case $last in *.rlib) mkdir -p "$last" ;; *) : >"$last" ;; esac
 """
 LINK = f"""#!/bin/sh
@@ -158,6 +159,20 @@ def test_building() -> None:
     touch("crates/low/src/lib.rt", 1)
     time.sleep(1.1)
     built("and a program of that is not taken for one of the libraries", ["hawkottoman build"])
+
+
+def test_ending_a_build() -> None:
+    """A build that is ended by a signal leaves no check behind it."""
+    put("checkout/crates/low/src/lib.rt", "// changed again\n")
+    put("slow", "")
+    build = subprocess.Popen([f"{COPY}/tools/build-program"], env=environment(with_tools()), stderr=subprocess.DEVNULL)
+    wait_until(lambda: os.path.exists(f"{WORK}/at-work"))
+    build.terminate()
+    check("build-program: ends by a signal", build.wait() == 143)
+    number = taken("at-work").strip()
+    check("build-program: and so do its checks", wait_until(lambda: not os.path.exists(f"/proc/{number}")))
+    taken("slow")
+    meson("--help")
 
 
 def test_commands() -> None:
@@ -402,5 +417,5 @@ def test_self_install() -> None:
     check("meson setup: a build that fails", done.returncode == 127 and is_told and done.stdout == "", f"{done}")
 
 
-TESTS = (test_without_the_program, test_building, test_commands, test_setup, test_questions, test_explain, test_compile,
+TESTS = (test_without_the_program, test_building, test_ending_a_build, test_commands, test_setup, test_questions, test_explain, test_compile,
          test_compile_that_fails, test_introspect, test_progress, test_self_install)

@@ -5,6 +5,7 @@ import shutil
 import subprocess
 import sys
 import tempfile
+import time
 from collections.abc import Callable
 
 CHECKOUT = os.path.dirname(os.path.dirname(os.path.realpath(__file__)))
@@ -52,6 +53,14 @@ def run(words: list[str], env: dict[str, str] | None = None, cwd: str = WORK, **
     """What a command answers: its status, output and errors."""
     how = {"stdout": subprocess.PIPE, "stderr": subprocess.PIPE, **how}
     return subprocess.run(words_of(words), env=environment(env), cwd=cwd, text=True, timeout=600, **how)
+
+
+def wait_until(is_so: Callable[[], bool], seconds: float = 20) -> bool:
+    """Whether it is so within this time, which is asked again and again."""
+    end = time.monotonic() + seconds
+    while not (answer := is_so()) and time.monotonic() < end:
+        time.sleep(0.05)
+    return answer
 
 
 def put(path: str, text: str, mode: int = 0o644) -> str:
