@@ -7,10 +7,10 @@
 
 use crate::measured::{Measured, count_of};
 use crate::stop::Stop;
+use data::language_names::MethodName;
 use data::{List, Text, Value};
-use language_names::MethodName;
-use methods::method;
-use operators::{Binary, binary, dictionary, index};
+use operations::methods::method;
+use operations::operators::{Binary, binary, dictionary, index};
 use std::alloc::Global;
 use std::time::Instant;
 

@@ -1,16 +1,20 @@
 -- What a caller cites of code: the tree of a node has the trees of its parts, and these stand before it.
-use Rattle.std.proofs.Common.{◌≡◌, ℕ, zero, suc, ◌+◌, ◌<◌, List, [], ◌∷◌, ◌++◌, length, length-append, append-nil, append_assoc, map, get_or, fold, refl, sym, ap, subst, ◌∙◌, arith}
+use Rattle.std.proofs.Common.{◌≡◌, ℕ, zero, suc, ◌+◌, ◌<◌, List, [], ◌∷◌, ◌++◌, length, length-append, append-nil, append_assoc, map}
+use Rattle.std.proofs.Common.{get_or, fold, refl, sym, ap, subst, ◌∙◌, arith}
 use Rattle.std.specs.Prelude.{nat_lt, ◌&&◌, IsTrue}
 use Rattle.std.specs.List.{list_all}
 use Rattle.std.specs.Option.{option_map}
-use Rattle.grammar.specs.ExpressionTree.{ExpressionTree, NameTree, ListTree, DictionaryTree, FunctionTree, PostfixTree, PrefixTree, ChainTree, TernaryTree, expressions, entries, arguments, links, operands}
+use Rattle.grammar.specs.ExpressionTree.{ExpressionTree, NameTree, ListTree, DictionaryTree, FunctionTree, PostfixTree, PrefixTree}
+use Rattle.grammar.specs.ExpressionTree.{ChainTree, TernaryTree, expressions, entries, arguments, links, operands}
 use Rattle.grammar.specs.Tree.{StatementTree, BreakTree, IfTree, ForeachTree, branches, statements}
 use Rattle.code.specs.declared.node.Node.{Node}
 use Rattle.code.specs.declared.node.Node.TheVariants as flat
 use Rattle.code.specs.declared.node.StatementNode.{StatementNode}
 use Rattle.code.specs.declared.node.StatementNode.TheVariants as block
-use Rattle.code.specs.Nodes.{tree_at, tree_of, with_node, trees, within, all_within, entry_at, entry_within, argument_at, argument_within, operand_at, operand_within, link_at, link_within}
-use Rattle.code.specs.Statements.{name_at, statement_at, branch_at, branch_within, second_within, statement_tree, statement_within, with_statement, statement_trees, all_placed}
+use Rattle.code.specs.Nodes.{tree_at, tree_of, with_node, trees, within, all_within, entry_at, entry_within, argument_at, argument_within}
+use Rattle.code.specs.Nodes.{operand_at, operand_within, link_at, link_within}
+use Rattle.code.specs.Statements.{name_at, statement_at, branch_at, branch_within, second_within, statement_tree, statement_within}
+use Rattle.code.specs.Statements.{with_statement, statement_trees, all_placed}
 use Rattle.code.specs.Draft.{IsFront}
 use Rattle.code.proofs.Trees.{both_true, is_less, at_end}
 use Rattle.code.proofs.Parts.{tree_same, all_same, keeps_number, keeps_entry, keeps_argument, keeps_operand, keeps_link}

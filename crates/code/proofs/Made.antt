@@ -14,7 +14,10 @@ use Rattle.grammar.specs.declared.tree.Prefix.{Prefix}
 use Rattle.grammar.specs.declared.tree.Argument.{Argument}
 use Rattle.grammar.specs.declared.tree.Entry.{Entry}
 use Rattle.grammar.specs.declared.tree.Operand.{Operand}
-use Rattle.grammar.specs.ExpressionTree.{ArgumentTree, EntryTree, ExpressionTree, LinkTree, OperandTree, NameTree, LiteralTree, ListTree, DictionaryTree, FunctionTree, PostfixTree, PrefixTree, ChainTree, TernaryTree, argument_trees, entries, expressions, links, link_of, operands, argument_of, argument_step, entry_of, entry_step, expression_of, expression_step, link_step, operand_of, operand_step}
+use Rattle.grammar.specs.ExpressionTree.{ArgumentTree, EntryTree, ExpressionTree, LinkTree, OperandTree, NameTree, LiteralTree, ListTree}
+use Rattle.grammar.specs.ExpressionTree.{DictionaryTree, FunctionTree, PostfixTree, PrefixTree, ChainTree, TernaryTree, argument_trees}
+use Rattle.grammar.specs.ExpressionTree.{entries, expressions, links, link_of, operands, argument_of, argument_step, entry_of, entry_step}
+use Rattle.grammar.specs.ExpressionTree.{expression_of, expression_step, link_step, operand_of, operand_step}
 
 pub entry_is : (e : Entry) → entry_of e ≡ (expression_of e.key, expression_of e.value)
 entry_is e = fold_out-Entry ExpressionTree LinkTree ArgumentTree EntryTree OperandTree expression_step link_step argument_step

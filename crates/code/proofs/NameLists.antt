@@ -1,5 +1,6 @@
 -- Tables of names as lists.
-use Rattle.std.proofs.Common.{◌≡◌, ℕ, ◌+◌, ◌<◌, Bool, true, false, cond, List, [], ◌∷◌, ◌++◌, length, map, get_or, Some, None, Result, Ok, Err, String, Global, string_bytes, bytes_eq, refl, sym, ap, ◌∙◌, arith}
+use Rattle.std.proofs.Common.{◌≡◌, ℕ, ◌+◌, ◌<◌, Bool, true, false, cond, List, [], ◌∷◌, ◌++◌, length, map, get_or, Some, None, Result, Ok}
+use Rattle.std.proofs.Common.{Err, String, Global, string_bytes, bytes_eq, refl, sym, ap, ◌∙◌, arith}
 use Rattle.std.specs.Prelude.{nat_lt, not, ◌||◌, slice_index_or, nat_eq, if◌then◌else◌}
 use Rattle.std.specs.List.{prefix_len, position, position_or_len, list_any, IsDistinct, AllByRecursion}
 use Rattle.std.specs.String.{string_eq}

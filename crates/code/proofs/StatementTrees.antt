@@ -1,5 +1,6 @@
 -- Trees of statements, as names, expressions and statements are put behind the others.
-use Rattle.std.proofs.Common.{◌≡◌, ℕ, ◌+◌, ◌≤◌, Bool, true, false, List, [], ◌∷◌, ◌++◌, length, length-append, append-nil, map, get_or, fold, Option, Some, None, refl, sym, ap, subst, ◌∙◌, arith}
+use Rattle.std.proofs.Common.{◌≡◌, ℕ, ◌+◌, ◌≤◌, Bool, true, false, List, [], ◌∷◌, ◌++◌, length, length-append, append-nil, map, get_or}
+use Rattle.std.proofs.Common.{fold, Option, Some, None, refl, sym, ap, subst, ◌∙◌, arith}
 use Rattle.std.specs.Prelude.{nat_lt, ◌&&◌, IsTrue, if◌then◌else◌}
 use Rattle.std.specs.List.{list_all}
 use Rattle.std.specs.Option.{option_map}
@@ -12,9 +13,11 @@ use Rattle.code.specs.declared.node.StatementNode.{StatementNode}
 use Rattle.code.specs.declared.node.StatementNode.TheVariants as flat
 use Rattle.code.specs.declared.node.Node.{Node}
 use Rattle.code.specs.Nodes.{tree_at, trees, all_within}
-use Rattle.code.specs.Statements.{name_at, statement_at, branch_at, statement_tree, with_statement, statement_trees, branch_within, second_within, statement_within, all_placed}
+use Rattle.code.specs.Statements.{name_at, statement_at, branch_at, statement_tree, with_statement, statement_trees, branch_within}
+use Rattle.code.specs.Statements.{second_within, statement_within, all_placed}
 use Rattle.code.specs.Draft.{IsFront, Grows, trees_in}
-use Rattle.code.proofs.Trees.{both_true, and_both, less, is_less, at_front, at_end, length_begins, length-trees, trees_kept, all_wider as nodes_wider}
+use Rattle.code.proofs.Trees.{both_true, and_both, less, is_less, at_front, at_end, length_begins, length-trees, trees_kept}
+use Rattle.code.proofs.Trees.{all_wider as nodes_wider}
 use Rattle.code.proofs.Parts.{lt_wider, tree_same}
 use Rattle.code.proofs.Lists.{all_imply, map_alike}
 

@@ -10,8 +10,8 @@ use crate::draft::Draft;
 use crate::literal::LiteralNode;
 use crate::node::{ArgumentNode, CallNode, EntryNode, LinkNode, Node, OperandNode};
 use data::Text;
+use data::language_names::{FunctionName, MethodName};
 use grammar::tree::{Argument, Entry, Expression, Link, Literal, Operand, Prefix};
-use language_names::{FunctionName, MethodName};
 use lexer::token::narrow;
 use std::alloc::{AllocError, Global};
 

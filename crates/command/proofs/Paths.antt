@@ -1,5 +1,6 @@
 -- Paths, cut at their slashes and joined again.
-use Rattle.std.proofs.Common.{◌≡◌, ◌<◌, ◌∙◌, ◌++◌, ◌==◌, ◌&&◌, ap, refl, arith, ℕ, Bool, true, false, not, nat_le, ◌≤◌, List, [], ◌∷◌, length, filter}
+use Rattle.std.proofs.Common.{◌≡◌, ◌<◌, ◌∙◌, ◌++◌, ◌==◌, ◌&&◌, ap, refl, arith, ℕ, Bool, true, false, not, nat_le, ◌≤◌, List, [], ◌∷◌}
+use Rattle.std.proofs.Common.{length, filter}
 use Rattle.std.proofs.lemmas.Bool.Decides.{nat_tests}
 use Rattle.std.specs.List.{onto_first, join_with_byte, list_all, list_any}
 use Rattle.paths.specs.Paths.{parts_of}

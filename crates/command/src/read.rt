@@ -8,7 +8,7 @@ use crate::folder::build_folder;
 use crate::{Line, LineFault, Task};
 use clap::error::ErrorKind;
 use clap::{ArgMatches, Error};
-use option_values::is_built_in;
+use machine::option_values::is_built_in;
 use std::alloc::{AllocError, Global};
 
 // What a parse answers in place of matches, as this crate tells it.

@@ -5,3 +5,19 @@ pub mod ListLemmas
 pub mod SameLemmas
 pub mod BuilderLemmas
 mod FlatLists
+pub mod SearchLemmas
+pub mod CharsLemmas
+pub mod NumberLemmas
+pub mod StripLemmas
+pub mod PiecesLemmas
+mod ByteLemmas
+pub mod CutLemmas
+pub mod JoinedLemmas
+pub mod SegmentLemmas
+pub mod PartsLaws
+mod Examples
+pub mod Runs
+pub mod TextNumbers
+mod PrintingExamples
+mod PrintedLemmas
+mod PieceLemmas

@@ -15,7 +15,8 @@ use Rattle.data.specs.declared.object.Source.{Source}
 use Rattle.data.specs.declared.object.Source.TheVariants as TheSource
 use Rattle.data.specs.declared.object.Dependency.{Dependency}
 use Rattle.data.specs.Data.{Data, boolean, integer, text, list, dictionary, object, Items, no_items, item, Entries, no_entries, entry}
-use Rattle.data.specs.Same.{same_boolean, same_texts, same_feature, same_program, same_source, same_sources, same_dependency, same_object, same, same_items, same_entries}
+use Rattle.data.specs.Same.{same_boolean, same_texts, same_feature, same_program, same_source, same_sources, same_dependency, same_object}
+use Rattle.data.specs.Same.{same, same_items, same_entries}
 
 same_boolean-is : (a b : Bool) → same_boolean a b ≡ true → a ≡ b
 same_boolean-is true true h = refl

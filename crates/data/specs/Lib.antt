@@ -12,3 +12,6 @@ pub mod Flat
 pub mod Few
 pub mod Kept
 pub mod Keys
+pub mod language_names
+pub mod printing
+pub mod texts

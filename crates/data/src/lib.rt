@@ -1,4 +1,5 @@
-//! Values of the language, shared, and within its limits.
+//! Values of the language, shared, and within its limits; the methods of texts, how values are printed, and the names that the language
+//! knows.
 //!
 //! # Decisions
 //!
@@ -12,12 +13,15 @@
 mod equal;
 mod flat_texts;
 mod keys;
+pub mod language_names;
 mod laws;
 mod object;
 mod opening;
+pub mod printing;
 mod refusal;
 mod short;
 mod text;
+pub mod texts;
 mod value;
 
 pub use equal::{equal_objects, is_equal};

@@ -167,14 +167,9 @@ impl Clone for Source {
 }
 
 /// A list of numbers of targets.
+#[derive(Drop)]
 pub struct Numbers {
     items: Vec<usize>,
-}
-
-impl Drop for Numbers {
-    fn drop(self) {
-        let Numbers { items: _ } = self;
-    }
 }
 
 impl Model for Numbers {
@@ -217,14 +212,9 @@ impl Numbers {
 }
 
 /// A list of sources.
+#[derive(Drop)]
 pub struct Sources {
     items: Vec<Source>,
-}
-
-impl Drop for Sources {
-    fn drop(self) {
-        let Sources { items: _ } = self;
-    }
 }
 
 impl Model for Sources {

@@ -1,8 +1,8 @@
 //! The text of edges of which no project of today has one.
 use basics::text_lists::strings;
-use edge::{Edge, Rule, are_writable, can_hold_path, can_hold_value};
-use ninja::{push_edge, push_path, push_value, push_words};
+use outputs::ninja::{push_edge, push_path, push_value, push_words};
 use std::test::Fail;
+use targets::edge::{Edge, Rule, are_writable, can_hold_path, can_hold_value};
 
 #[test]
 fn paths_and_values(rt: HostRuntime) -> Result<(), Fail> {

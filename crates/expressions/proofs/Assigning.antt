@@ -1,5 +1,6 @@
 -- Variables that take values.
-use Rattle.std.proofs.Common.{◌≡◌, ℕ, ◌+◌, ◌<◌, List, [], length, length-append, get_or, arith, Bool, true, false, Option, Some, None, Result, Ok, Err, IsErrAnd, bytes_eq, refl, sym, ap, subst, ◌∙◌}
+use Rattle.std.proofs.Common.{◌≡◌, ℕ, ◌+◌, ◌<◌, List, [], length, length-append, get_or, arith, Bool, true, false, Option, Some, None}
+use Rattle.std.proofs.Common.{Result, Ok, Err, IsErrAnd, bytes_eq, refl, sym, ap, subst, ◌∙◌}
 use Rattle.std.specs.Prelude.{if◌then◌else◌}
 use Rattle.code.specs.Draft.{IsFront}
 use Rattle.code.proofs.Trees.{at_front}
@@ -16,9 +17,9 @@ use Rattle.world.specs.Run.{ran, Done, Faulted, outcome_of}
 use Rattle.world.specs.Operation.{of_operation}
 use Rattle.basics.specs.Faults.{FaultData}
 use Rattle.basics.specs.declared.faults.refusal.Refusal.TheVariants as refusals
-use Rattle.operators.specs.declared.operator.Binary.TheVariants.{Add}
-use Rattle.operators.specs.Operations.{binary_answer}
-use Rattle.language_names.specs.Names.{is_predefined}
+use Rattle.operations.specs.declared.operators.operator.Binary.TheVariants.{Add}
+use Rattle.operations.specs.operators.Operations.{binary_answer}
+use Rattle.data.specs.language_names.Names.{is_predefined}
 use Rattle.world.specs.World.{World, with_facts, with_line, with_variable, with_variables, variables_with}
 use Rattle.world.specs.declared.stop.Stop.{Stop}
 use Rattle.world.specs.declared.stop.Stop.TheVariants as stops

@@ -2,7 +2,7 @@
 use Rattle.std.proofs.Common.{◌≡◌, ℕ, List, [], Result}
 use Rattle.data.specs.Limits.{within_bytes}
 use Rattle.data.specs.declared.refusal.Refusal.{Refusal}
-use Rattle.texts.specs.Segments.{Segment}
+use Rattle.data.specs.texts.Segments.{Segment}
 use Rattle.world.specs.Deed.{Files}
 use Rattle.world.specs.Gives.{Holds}
 use Rattle.expressions.specs.Contexts.{Leads, Stand}

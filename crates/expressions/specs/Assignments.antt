@@ -7,9 +7,9 @@ use Rattle.data.specs.Data.{Data, object, object_in}
 use Rattle.arguments.specs.Rules.{broken}
 use Rattle.arguments.specs.declared.rule.Rule.TheVariants as rules
 use Rattle.basics.specs.declared.faults.refusal.Refusal.TheVariants as refusals
-use Rattle.operators.specs.declared.operator.Binary.TheVariants.{Add}
-use Rattle.operators.specs.Operations.{binary_answer}
-use Rattle.language_names.specs.Names.{is_predefined}
+use Rattle.operations.specs.declared.operators.operator.Binary.TheVariants.{Add}
+use Rattle.operations.specs.operators.Operations.{binary_answer}
+use Rattle.data.specs.language_names.Names.{is_predefined}
 use Rattle.world.specs.Configuring.{copy_configuration}
 use Rattle.world.specs.World.{with_variable}
 use Rattle.world.specs.Deed.{change}

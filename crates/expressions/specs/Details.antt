@@ -4,7 +4,7 @@ use Rattle.arguments.specs.Words.{values_words}
 use Rattle.data.specs.Data.{Data}
 use Rattle.data.specs.declared.refusal.Refusal.{Refusal}
 use Rattle.data.specs.declared.refusal.Refusal.TheVariants as operation
-use Rattle.methods.specs.Takes.{takes_words}
+use Rattle.operations.specs.methods.Takes.{takes_words}
 
 -- what the method of a name takes, and what it got
 abbrev pub method_words : Data → List ℕ → List Data → List ℕ

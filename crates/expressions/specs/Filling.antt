@@ -3,7 +3,7 @@ use Rattle.std.specs.Prelude.{◌≡◌, ℕ, Bool, true, false, List, ◌++◌,
 use Rattle.data.specs.Data.{Data}
 use Rattle.data.specs.Limits.{within_bytes}
 use Rattle.data.specs.declared.refusal.Refusal.{Refusal}
-use Rattle.printing.specs.Printed.{is_plain, printed, shown}
+use Rattle.data.specs.printing.Printed.{is_plain, printed, shown}
 
 -- a value was put behind a text, which may be too long, or it may not stand in an f-string
 abbrev pub Puts : Data → (before : List ℕ) → (made : Result (List ℕ) Refusal) → (done : Bool) → Type 0

@@ -17,27 +17,27 @@ use Rattle.data.specs.declared.refusal.Refusal.TheVariants as operation
 use Rattle.data.specs.Data.{Data, boolean, integer, text, list, Items}
 use Rattle.data.specs.Limits.{within}
 use Rattle.basics.specs.declared.faults.refusal.Refusal.TheVariants as refusals
-use Rattle.printing.specs.Printed.{is_plain, printed}
-use Rattle.texts.specs.declared.placed.Places.TheVariants as places
-use Rattle.texts.specs.Segments.{Segment, text as between, place, segments}
-use Rattle.operators.specs.declared.operator.Unary.{Unary}
-use Rattle.operators.specs.declared.operator.Unary.TheVariants.{Not, Negate}
-use Rattle.operators.specs.declared.operator.Binary.TheVariants as binaries
-use Rattle.operators.specs.declared.operator.Connective.TheVariants.{And, Or}
-use Rattle.operators.specs.Operations.{unary_answer, binary_answer, disabler}
-use Rattle.operators.specs.Logic.{left_answer, right_answer}
-use Rattle.operators.specs.Index.{index_answer}
-use Rattle.operators.specs.Literal.{literal_answer}
-use Rattle.operators.specs.declared.literal.LiteralRefusal.{LiteralRefusal}
-use Rattle.operators.specs.declared.literal.LiteralRefusal.TheVariants as literal_refusals
-use Rattle.methods.specs.Methods.{answer as method_answer}
+use Rattle.data.specs.printing.Printed.{is_plain, printed}
+use Rattle.data.specs.declared.texts.placed.Places.TheVariants as places
+use Rattle.data.specs.texts.Segments.{Segment, text as between, place, segments}
+use Rattle.operations.specs.declared.operators.operator.Unary.{Unary}
+use Rattle.operations.specs.declared.operators.operator.Unary.TheVariants.{Not, Negate}
+use Rattle.operations.specs.declared.operators.operator.Binary.TheVariants as binaries
+use Rattle.operations.specs.declared.operators.operator.Connective.TheVariants.{And, Or}
+use Rattle.operations.specs.operators.Operations.{unary_answer, binary_answer, disabler}
+use Rattle.operations.specs.operators.Logic.{left_answer, right_answer}
+use Rattle.operations.specs.operators.Index.{index_answer}
+use Rattle.operations.specs.operators.Literal.{literal_answer}
+use Rattle.operations.specs.declared.operators.literal.LiteralRefusal.{LiteralRefusal}
+use Rattle.operations.specs.declared.operators.literal.LiteralRefusal.TheVariants as literal_refusals
+use Rattle.operations.specs.methods.Methods.{answer as method_answer}
 use Rattle.arguments.specs.Arguments.{ArgumentsData}
 use Rattle.arguments.specs.Misfits.{checked}
-use Rattle.language_names.specs.Functions.{function_named}
-use Rattle.language_names.specs.Names.{is_left_out, is_predefined, predefined}
+use Rattle.data.specs.language_names.Functions.{function_named}
+use Rattle.data.specs.language_names.Names.{is_left_out, is_predefined, predefined}
 use Rattle.arguments.specs.Rows.{any_values}
-use Rattle.language_names.specs.declared.functions.Function.{Function}
-use Rattle.language_names.specs.declared.functions.Function.TheVariants as functions
+use Rattle.data.specs.declared.language_names.functions.Function.{Function}
+use Rattle.data.specs.declared.language_names.functions.Function.TheVariants as functions
 use Rattle.world.specs.Deed.{read}
 use Rattle.world.specs.Operation.{of_operation}
 use Rattle.world.specs.Plan.{Plan, deed, ◌>>=◌, give, refuse, answered}

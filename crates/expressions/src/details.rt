@@ -4,9 +4,9 @@ ghost use Rattle.world.specs.Prelude.{data_of};
 ghost use Rattle.expressions.specs.Details.{key_twice, method_detail, method_words};
 
 use arguments::values_words;
+use data::language_names::MethodName;
 use data::{Refusal, Value};
-use language_names::MethodName;
-use methods::takes_words;
+use operations::methods::takes_words;
 use std::alloc::{AllocError, Global};
 
 /// That this key of a dictionary stands before it already.

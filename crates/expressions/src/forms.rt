@@ -1,6 +1,6 @@
 //! What forms of nodes give for the values of their parts.
 ghost use Rattle.std.specs.Prelude.{◌≡◌, ℕ, option_map};
-ghost use Rattle.operators.specs.Literal.{pairs_of};
+ghost use Rattle.operations.specs.operators.Literal.{pairs_of};
 ghost use Rattle.world.specs.Prelude.{Refuses, data_of, failures_after, items_of};
 ghost use Rattle.expressions.specs.Details.{key_twice};
 ghost use Rattle.expressions.specs.Forms.{listed, paired, part_at, prefixed};
@@ -11,7 +11,7 @@ use crate::meaning::unary_of;
 use basics::faults::Refusal;
 use data::Value;
 use grammar::tree::Prefix;
-use operators::{LiteralRefusal, dictionary, index, list, unary};
+use operations::operators::{LiteralRefusal, dictionary, index, list, unary};
 use ports::{Outputs, Tree};
 use std::sync::ledger::Ledger;
 use world::{Stop, of_operation};

@@ -3,7 +3,7 @@ ghost use Rattle.std.specs.Prelude.{◌≡◌};
 ghost use Rattle.expressions.specs.Forms.{meaning_of, unary_of};
 
 use grammar::tree::{Operator, Prefix};
-use operators::{Binary, Connective, Unary};
+use operations::operators::{Binary, Connective, Unary};
 
 /// What an operator between two values does.
 #[derive(Clone, Copy)]

@@ -2,7 +2,7 @@
 ghost use Rattle.std.specs.Prelude.{◌≡◌, ◌<◌, ◌||◌, ◌&&◌, ℕ, IfOk, [], false, length, map, option_map, slice_index_or};
 ghost use Rattle.arguments.specs.Misfits.{checked};
 ghost use Rattle.arguments.specs.Rows.{any_values};
-ghost use Rattle.methods.specs.Methods.{has_name};
+ghost use Rattle.operations.specs.methods.Methods.{has_name};
 ghost use Rattle.world.specs.Prelude.{arguments_data, data_of, failures_after};
 ghost use Rattle.expressions.specs.Forms.{asked_of, disabler_method, fitted, function_at, function_inside, known, known_method};
 ghost use Rattle.expressions.specs.Forms.{may_be_asked_first, may_come_first, method_answered, thing, value_method, variable};
@@ -11,9 +11,11 @@ use crate::context::Context;
 use crate::details::method_detail;
 use arguments::{Arguments, any_values, check};
 use basics::faults::Refusal;
+use data::language_names::{
+    Function, FunctionName, MethodName, is_left_out, is_predefined, predefined,
+};
 use data::{Object, Value};
-use language_names::{Function, FunctionName, MethodName, is_left_out, is_predefined, predefined};
-use methods::{has_method, method};
+use operations::methods::{has_method, method};
 use ports::{Outputs, Tree};
 use std::alloc::{AllocError, Global};
 use std::sync::ledger::Ledger;

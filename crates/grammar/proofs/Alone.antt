@@ -1,5 +1,6 @@
 -- An expression of one token, with a token behind it that goes on with none.
-use Rattle.std.proofs.Common.{◌&&◌, ◌≡◌, ℕ, ◌+◌, ◌-◌, ◌<◌, ◌≤◌, Bool, Option, Some, None, true, false, List, [], ◌∷◌, length, get_or, take, drop, Ok, Err, refl, sym, ap, ◌∙◌, arith, inl, inr}
+use Rattle.std.proofs.Common.{◌&&◌, ◌≡◌, ℕ, ◌+◌, ◌-◌, ◌<◌, ◌≤◌, Bool, Option, Some, None, true, false, List, [], ◌∷◌, length, get_or, take}
+use Rattle.std.proofs.Common.{drop, Ok, Err, refl, sym, ap, ◌∙◌, arith, inl, inr}
 use Rattle.std.specs.Option.{option_map}
 use Rattle.lexer.specs.declared.token.Kind.{Kind}
 use Rattle.lexer.specs.declared.token.Kind.TheVariants as Kinds
@@ -13,7 +14,9 @@ use Rattle.grammar.specs.Expressions.{additive, conjunctive, disjunctive, litera
 use Rattle.grammar.specs.ExpressionTree.{ExpressionTree, LiteralTree, NameTree, expression_of}
 use Rattle.grammar.specs.Parts.{stands_for, token_as_at}
 use Rattle.grammar.specs.Reading.{Reader, begins, head_is, or_at, token_at}
-use Rattle.grammar.specs.ReadingExpressions.{asks, atom_at, base_at, chain_at, compares, conjunction_at, disjunction_at, ends_expression, inner_at, links_on, literal_at, name_at, prefix_of, product_at, single_at, single_of, sum_at, ternary_at, unary_at}
+use Rattle.grammar.specs.ReadingExpressions.{asks, atom_at, base_at, chain_at, compares, conjunction_at, disjunction_at, ends_expression}
+use Rattle.grammar.specs.ReadingExpressions.{inner_at, links_on, literal_at, name_at, prefix_of, product_at, single_at, single_of, sum_at}
+use Rattle.grammar.specs.ReadingExpressions.{ternary_at, unary_at}
 use Rattle.grammar.proofs.AtomTails.{comparison_alone}
 use Rattle.grammar.proofs.ExpressionTails.{chain_alone, postfix_alone, some_none, some_same, ternary_alone}
 use Rattle.grammar.proofs.Laws.{cases_bool}

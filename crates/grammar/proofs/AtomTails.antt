@@ -8,7 +8,9 @@ use Rattle.grammar.specs.declared.tree.Operator.{Operator}
 use Rattle.grammar.specs.ExpressionTree.{ChainTree, ExpressionTree, operands}
 use Rattle.grammar.specs.Parts.{first_line}
 use Rattle.grammar.specs.Reading.{Reader, Fails, begins, head_is, optional_at, or_at, token_at, two_begin}
-use Rattle.grammar.specs.ReadingExpressions.{base_at, call_at, compared_at, compares, comparison_at, comparison_operator_at, enter_at, entered_at, group_at, index_at, inner_at, items_at, link_at, method_at, sum_at, ternary_at, unary_at}
+use Rattle.grammar.specs.ReadingExpressions.{base_at, call_at, compared_at, compares, comparison_at, comparison_operator_at, enter_at}
+use Rattle.grammar.specs.ReadingExpressions.{entered_at, group_at, index_at, inner_at, items_at, link_at, method_at, sum_at, ternary_at}
+use Rattle.grammar.specs.ReadingExpressions.{unary_at}
 use Rattle.grammar.proofs.ExpressionTails.{atom_group, base_call, link_index, link_method}
 
 module _ (n : ℕ) (b : Bool) (ts : List Lexeme) where

@@ -4,12 +4,14 @@ use Rattle.lexer.specs.Lexeme.{Lexeme}
 use Rattle.lexer.specs.Kinds.{is}
 use Rattle.lexer.specs.declared.token.Kind.{Kind}
 use Rattle.lexer.specs.declared.token.Kind.TheVariants as Kinds
-use Rattle.grammar.specs.ExpressionTree.{ExpressionTree, NameTree, LiteralTree, ListTree, DictionaryTree, ArgumentTree, entries, expressions}
+use Rattle.grammar.specs.ExpressionTree.{ExpressionTree, NameTree, LiteralTree, ListTree, DictionaryTree, ArgumentTree, entries}
+use Rattle.grammar.specs.ExpressionTree.{expressions}
 use Rattle.grammar.specs.Form.{Form, token, give, listed_by, same_state, ◌>>=◌, ◌or◌}
 use Rattle.grammar.specs.Parts.{stands_for, token_as, token_as_at}
 use Rattle.grammar.specs.Expressions.{argument, ternary, dictionary, entry, group, list, literal, literal_of, name, positional}
 use Rattle.grammar.specs.Reading.{Reader, begins, head_is, listed_at, token_at}
-use Rattle.grammar.specs.ReadingExpressions.{argument_at, ternary_at, dictionary_at, entry_at, group_at, list_at, literal_at, name_at, named_at, positional_at}
+use Rattle.grammar.specs.ReadingExpressions.{argument_at, ternary_at, dictionary_at, entry_at, group_at, list_at, literal_at, name_at}
+use Rattle.grammar.specs.ReadingExpressions.{named_at, positional_at}
 use Rattle.grammar.proofs.Alike.{line-alike}
 use Rattle.grammar.proofs.Binding.{After, after_kind}
 use Rattle.grammar.proofs.Chains.{line-map}

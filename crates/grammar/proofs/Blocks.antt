@@ -1,5 +1,6 @@
 -- The lines of the grammar of blocks, and of statements.
-use Rattle.std.proofs.Common.{◌≡◌, ℕ, zero, suc, Bool, true, false, cond, List, [], ◌∷◌, length, refl, sym, ap, ◌∙◌, inl, inr, arith, Option}
+use Rattle.std.proofs.Common.{◌≡◌, ℕ, zero, suc, Bool, true, false, cond, List, [], ◌∷◌, length, refl, sym, ap, ◌∙◌, inl, inr, arith}
+use Rattle.std.proofs.Common.{Option}
 use Rattle.std.specs.Prelude.{unwrap_or}
 use Rattle.lexer.specs.Lexeme.{Lexeme}
 use Rattle.lexer.specs.Kinds.{is}
@@ -9,11 +10,16 @@ use Rattle.grammar.specs.ExpressionTree.{ExpressionTree}
 use Rattle.grammar.specs.Tree.{StatementTree, IfTree, ForeachTree, statements, BranchTree, branches}
 use Rattle.grammar.specs.Form.{Form, token, give, never, many, optional, ◌>>=◌, ◌or◌}
 use Rattle.grammar.specs.Expressions.{expr}
-use Rattle.grammar.specs.Statements.{simple, line, given, body, second, names, foreach, branch, elif, parts, last_part, otherwise, conditional, block, stmt}
+use Rattle.grammar.specs.Statements.{simple, line, given, body, second, names, foreach, branch, elif, parts, last_part, otherwise}
+use Rattle.grammar.specs.Statements.{conditional, block, stmt}
 use Rattle.grammar.specs.Reading.{Reader, begins, deep_at, many_at, optional_at, or_at}
 use Rattle.grammar.specs.ReadingExpressions.{expr_at}
-use Rattle.grammar.specs.ReadingStatements.{simple_at, in_line, ends_body, in_body, ended_line_at, body_at, second_at, names_at, foreach_at, branch_at, elif_at, parts_at, last_part_at, otherwise_at, conditional_at, opens_block, begins_block, block_at, stmt_at}
-use Rattle.grammar.proofs.Chain.{then_line, before_line, at_kind, EndsBefore, line-optional, line-many, weaken, give_line, line-apart, starts-weaker, leads-optional, leads-many, leads-give, starts-behind, before_leads, line-same, AreSame, are-same}
+use Rattle.grammar.specs.ReadingStatements.{simple_at, in_line, ends_body, in_body, ended_line_at, body_at, second_at, names_at, foreach_at}
+use Rattle.grammar.specs.ReadingStatements.{branch_at, elif_at, parts_at, last_part_at, otherwise_at, conditional_at, opens_block}
+use Rattle.grammar.specs.ReadingStatements.{begins_block, block_at, stmt_at}
+use Rattle.grammar.proofs.Chain.{then_line, before_line, at_kind, EndsBefore, line-optional, line-many, weaken, give_line, line-apart}
+use Rattle.grammar.proofs.Chain.{starts-weaker, leads-optional, leads-many, leads-give, starts-behind, before_leads, line-same, AreSame}
+use Rattle.grammar.proofs.Chain.{are-same}
 use Rattle.grammar.proofs.Expressions.{line-expr}
 use Rattle.grammar.proofs.Laws.{cases_bool}
 use Rattle.grammar.proofs.Line.{Line, Any, line-token}

@@ -1,6 +1,7 @@
 -- How the records of the parts of a line make that of the line: one part and the next, one or none,
 -- one again and again.
-use Rattle.std.proofs.Common.{◌≡◌, ℕ, ◌+◌, ◌≤◌, Bool, true, false, List, [], ◌∷◌, length, Result, Err, refl, sym, ap, subst, ◌∙◌, ◌⊎◌, inl, inr, arith, Some, None}
+use Rattle.std.proofs.Common.{◌≡◌, ℕ, ◌+◌, ◌≤◌, Bool, true, false, List, [], ◌∷◌, length, Result, Err, refl, sym, ap, subst, ◌∙◌, ◌⊎◌, inl}
+use Rattle.std.proofs.Common.{inr, arith, Some, None}
 use Rattle.lexer.specs.Lexeme.{Lexeme}
 use Rattle.lexer.specs.Kinds.{is}
 use Rattle.lexer.specs.declared.token.Kind.{Kind}

@@ -1,5 +1,6 @@
 -- A part and what follows it: many of a form, or one at most.
-use Rattle.std.proofs.Common.{◌≡◌, ℕ, ◌+◌, Bool, true, false, List, [], ◌∷◌, length, Option, Some, None, sym, subst, ◌∙◌, ◌⊎◌, inl, inr, arith}
+use Rattle.std.proofs.Common.{◌≡◌, ℕ, ◌+◌, Bool, true, false, List, [], ◌∷◌, length, Option, Some, None, sym, subst, ◌∙◌, ◌⊎◌, inl, inr}
+use Rattle.std.proofs.Common.{arith}
 use Rattle.lexer.specs.Lexeme.{Lexeme}
 use Rattle.lexer.specs.declared.token.Kind.{Kind}
 use Rattle.grammar.specs.Form.{Form, give, many, optional, Repeats, ◌>>=◌, ◌or◌}

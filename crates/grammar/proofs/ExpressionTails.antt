@@ -1,5 +1,6 @@
 -- What the functions that read expressions answer, case by case.
-use Rattle.std.proofs.Common.{◌⊎◌, ◌&&◌, ◌||◌, subst, inl, inr, take, drop, get_or, Bool, Option, Some, None, ◌≡◌, ℕ, zero, suc, ◌+◌, ◌-◌, ◌≤◌, ◌<◌, true, false, List, [], ◌∷◌, length, Result, Ok, Err, refl, sym, ap, ◌∙◌, arith, sub-one}
+use Rattle.std.proofs.Common.{◌⊎◌, ◌&&◌, ◌||◌, subst, inl, inr, take, drop, get_or, Bool, Option, Some, None, ◌≡◌, ℕ, zero, suc, ◌+◌, ◌-◌}
+use Rattle.std.proofs.Common.{◌≤◌, ◌<◌, true, false, List, [], ◌∷◌, length, Result, Ok, Err, refl, sym, ap, ◌∙◌, arith, sub-one}
 use Rattle.lexer.specs.declared.token.Kind.{Kind}
 use Rattle.lexer.specs.declared.token.Token.{Token}
 use Rattle.lexer.specs.declared.token.Kind.TheVariants as Kinds
@@ -9,7 +10,9 @@ use Rattle.grammar.specs.declared.stop.ReadError.{ReadError}
 use Rattle.grammar.specs.declared.stop.ReadError.TheVariants as errors
 use Rattle.lexer.specs.Kinds.{is}
 use Rattle.lexer.specs.Lexeme.{Lexeme, lexeme_of, lexemes}
-use Rattle.grammar.specs.ExpressionTree.{ArgumentTree, ChainTree, DictionaryTree, EntryTree, ListTree, entries, expressions, ExpressionTree, FunctionTree, IndexTree, LinkTree, MethodTree, OperandTree, PostfixTree, PrefixTree, TernaryTree, arguments, links, operands}
+use Rattle.grammar.specs.ExpressionTree.{ArgumentTree, ChainTree, DictionaryTree, EntryTree, ListTree, entries, expressions, ExpressionTree}
+use Rattle.grammar.specs.ExpressionTree.{FunctionTree, IndexTree, LinkTree, MethodTree, OperandTree, PostfixTree, PrefixTree, TernaryTree}
+use Rattle.grammar.specs.ExpressionTree.{arguments, links, operands}
 use Rattle.grammar.specs.declared.tree.Prefix.{Prefix}
 use Rattle.grammar.specs.declared.tree.Prefix.TheVariants as prefixes
 use Rattle.grammar.proofs.Laws.{cases_bool, cases_result}
@@ -25,7 +28,11 @@ use Rattle.grammar.specs.declared.tree.Operator.{Operator}
 use Rattle.grammar.specs.Expressions.{comparative, is_named, ternary_tree}
 use Rattle.grammar.specs.Form.{same_state}
 use Rattle.grammar.specs.Parts.{after_as, first_line, opened_at, stands_for, taken, token_as_at}
-use Rattle.grammar.specs.ReadingExpressions.{argument_at, atom_at, base_at, branches_at, call_at, chain_at, ternary_at, comparison_operator_at, dictionary_at, disjunction_at, enter_at, entered_at, entry_at, group_at, index_at, inner_at, items_at, link_at, list_at, label_at, links_at, links_on, method_at, name_colon_at, named_at, not_in_at, operand_at, operands_at, plain_comparison_at, positional_at, postfix_at, prefix_of, prefixed_at, single_at, unary_at, unary_in_at, word_of}
+use Rattle.grammar.specs.ReadingExpressions.{argument_at, atom_at, base_at, branches_at, call_at, chain_at, ternary_at}
+use Rattle.grammar.specs.ReadingExpressions.{comparison_operator_at, dictionary_at, disjunction_at, enter_at, entered_at, entry_at}
+use Rattle.grammar.specs.ReadingExpressions.{group_at, index_at, inner_at, items_at, link_at, list_at, label_at, links_at, links_on}
+use Rattle.grammar.specs.ReadingExpressions.{method_at, name_colon_at, named_at, not_in_at, operand_at, operands_at, plain_comparison_at}
+use Rattle.grammar.specs.ReadingExpressions.{positional_at, postfix_at, prefix_of, prefixed_at, single_at, unary_at, unary_in_at, word_of}
 use Rattle.grammar.proofs.Steps.{cases_option}
 use Rattle.grammar.proofs.Tails.{fails_at, length_lexemes, rest_is}
 

@@ -1,5 +1,6 @@
 -- The lines of the grammar of expressions, from atoms to whole expressions.
-use Rattle.std.proofs.Common.{◌≡◌, ℕ, zero, suc, ◌+◌, ◌<◌, Bool, true, false, List, [], ◌∷◌, Option, Some, None, refl, sym, ap, subst, ◌∙◌, inl, inr, lit≤, arith}
+use Rattle.std.proofs.Common.{◌≡◌, ℕ, zero, suc, ◌+◌, ◌<◌, Bool, true, false, List, [], ◌∷◌, Option, Some, None, refl, sym, ap, subst, ◌∙◌}
+use Rattle.std.proofs.Common.{inl, inr, lit≤, arith}
 use Rattle.lexer.specs.Lexeme.{Lexeme}
 use Rattle.lexer.specs.Kinds.{is}
 use Rattle.lexer.specs.declared.token.Kind.{Kind}
@@ -9,11 +10,16 @@ use Rattle.grammar.specs.declared.tree.Prefix.TheVariants as prefixes
 use Rattle.grammar.specs.ExpressionTree.{ExpressionTree, NameTree, FunctionTree, MethodTree, IndexTree, PrefixTree, arguments}
 use Rattle.grammar.specs.Form.{Form, token, give, ◌or◌}
 use Rattle.grammar.specs.Parts.{Inner, Closed, Inside, here, here_at, opened, stands_for}
-use Rattle.grammar.specs.Expressions.{atom, call, ternary, dictionary, expr, group, in_parentheses, index, is_named, items, link, list, literal, literal_of, method, name, postfix, postfix_tree, prefixed, unary, unary_in, argument}
+use Rattle.grammar.specs.Expressions.{atom, call, ternary, dictionary, expr, group, in_parentheses, index, is_named, items, link, list}
+use Rattle.grammar.specs.Expressions.{literal, literal_of, method, name, postfix, postfix_tree, prefixed, unary, unary_in, argument}
 use Rattle.grammar.specs.Reading.{Reader, begins, token_at}
-use Rattle.grammar.specs.ReadingExpressions.{argument_at, atom_at, base_at, call_at, ternary_at, dictionary_at, expr_at, group_at, in_parentheses_at, index_at, items_at, link_at, links_at, links_on, list_at, literal_at, method_at, name_at, postfix_at, prefixed_at, unary_at, unary_in_at}
+use Rattle.grammar.specs.ReadingExpressions.{argument_at, atom_at, base_at, call_at, ternary_at, dictionary_at, expr_at, group_at}
+use Rattle.grammar.specs.ReadingExpressions.{in_parentheses_at, index_at, items_at, link_at, links_at, links_on, list_at, literal_at}
+use Rattle.grammar.specs.ReadingExpressions.{method_at, name_at, postfix_at, prefixed_at, unary_at, unary_in_at}
 use Rattle.grammar.proofs.Alike.{line-alike}
-use Rattle.grammar.proofs.Atoms.{either, inside, line-argument, line-closed, line-dictionary, line-group, line-list, line-literal, line-name, of_kind, starts-either, starts-weaker, starts-inside, starts-literal, starts-name, AfterArgument}
+use Rattle.grammar.proofs.Atoms.{either, inside, line-argument, line-closed, line-dictionary, line-group, line-list, line-literal}
+use Rattle.grammar.proofs.Atoms.{line-name, of_kind, starts-either, starts-weaker, starts-inside, starts-literal, starts-name}
+use Rattle.grammar.proofs.Atoms.{AfterArgument}
 use Rattle.grammar.proofs.Binding.{After, AfterExpression, after_kind, binding}
 use Rattle.grammar.proofs.Chains.{line-map, line-then-many}
 use Rattle.grammar.proofs.TernaryLines.{line-before, single_ternary}

@@ -1,5 +1,6 @@
 -- What a loop has read so far, and what it still reads, make what is read from its first token on.
-use Rattle.std.proofs.Common.{◌≡◌, ℕ, zero, suc, ◌≤◌, ◌<◌, Bool, true, false, List, [], ◌∷◌, ◌++◌, length, Result, Ok, Err, refl, sym, ap, ◌∙◌, arith, Option, Some, None, append_assoc}
+use Rattle.std.proofs.Common.{◌≡◌, ℕ, zero, suc, ◌≤◌, ◌<◌, Bool, true, false, List, [], ◌∷◌, ◌++◌, length, Result, Ok, Err, refl, sym, ap}
+use Rattle.std.proofs.Common.{◌∙◌, arith, Option, Some, None, append_assoc}
 use Rattle.std.proofs.lemmas.List.{append-nil}
 use Rattle.lexer.specs.Lexeme.{Lexeme}
 use Rattle.lexer.specs.declared.token.Kind.{Kind}

@@ -7,7 +7,8 @@ use Rattle.grammar.specs.Reading.{Reader, begins, head_is, or_at, token_at}
 use Rattle.grammar.specs.declared.stop.Stop.TheVariants.{Unexpected, TooDeep}
 use Rattle.lexer.specs.declared.token.Kind.{Kind}
 use Rattle.grammar.proofs.Ends.{Ends, ends-bind, ends-give, ends-or, ends-token}
-use Rattle.grammar.proofs.Laws.{bind_at, cases_bool, give_at, IsForm, IsForm-bind, IsForm-give, IsForm-or, IsForm-token, reads-bind, reads-give, reads-or, reads-stops, reads-token, Reads}
+use Rattle.grammar.proofs.Laws.{bind_at, cases_bool, give_at, IsForm, IsForm-bind, IsForm-give, IsForm-or, IsForm-token, reads-bind}
+use Rattle.grammar.proofs.Laws.{reads-give, reads-or, reads-stops, reads-token, Reads}
 use Rattle.grammar.proofs.Raises.{Raises, raises-bind, raises-flat, raises-or}
 use Rattle.grammar.proofs.Starts.{Starts, Takes, head_is, begins-head, takes-bind, takes-give, takes-less, takes-or, takes-token}
 use Rattle.grammar.proofs.Numbers.{eq-is, is-true}

@@ -1,5 +1,6 @@
 -- A list with commas, with one more level.
-use Rattle.std.proofs.Common.{◌≡◌, ℕ, ◌≤◌, zero, suc, ◌+◌, Bool, true, false, List, [], ◌∷◌, length, Result, Ok, Err, refl, sym, ap, subst, ◌∙◌, ◌⊎◌, inl, inr, arith, Some, None}
+use Rattle.std.proofs.Common.{◌≡◌, ℕ, ◌≤◌, zero, suc, ◌+◌, Bool, true, false, List, [], ◌∷◌, length, Result, Ok, Err, refl, sym, ap, subst}
+use Rattle.std.proofs.Common.{◌∙◌, ◌⊎◌, inl, inr, arith, Some, None}
 use Rattle.lexer.specs.Lexeme.{Lexeme}
 use Rattle.lexer.specs.declared.token.Kind.{Kind}
 use Rattle.lexer.specs.declared.token.Kind.TheVariants as Kinds
@@ -10,7 +11,8 @@ use Rattle.grammar.specs.Form.{◌>>=◌ as ◌then◌}
 use Rattle.lexer.specs.Kinds.{is}
 use Rattle.grammar.specs.Reading.{Reader, ◌>>=◌, begins, token_at, tail_at, items_by, listed_at}
 use Rattle.grammar.proofs.Ends.{Ends, IsEnd, end_then, end_within, le_or_more, ends-bind, ends-give, ends-or, ends-token}
-use Rattle.grammar.proofs.Laws.{IsForm, IsForm-bind, IsForm-give, IsForm-optional, IsForm-or, IsForm-token, bind_err, cases_bool, reads-token}
+use Rattle.grammar.proofs.Laws.{IsForm, IsForm-bind, IsForm-give, IsForm-optional, IsForm-or, IsForm-token, bind_err, cases_bool}
+use Rattle.grammar.proofs.Laws.{reads-token}
 use Rattle.grammar.proofs.Line.{Line}
 use Rattle.grammar.proofs.Listed.{reads-listed}
 use Rattle.grammar.proofs.Numbers.{is-true}

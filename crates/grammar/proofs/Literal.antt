@@ -1,5 +1,6 @@
 -- The lines of a file, each ended by a newline but the last, are the lines, each begun by one but the first.
-use Rattle.std.proofs.Common.{◌≡◌, ℕ, suc, false, List, [], ◌∷◌, ◌++◌, refl, sym, ap, subst, ◌∙◌, inl, inr, Option, Ok, Err, ◌-◌, ◌≤◌, length}
+use Rattle.std.proofs.Common.{◌≡◌, ℕ, suc, false, List, [], ◌∷◌, ◌++◌, refl, sym, ap, subst, ◌∙◌, inl, inr, Option, Ok, Err, ◌-◌, ◌≤◌}
+use Rattle.std.proofs.Common.{length}
 use Rattle.lexer.specs.Lexeme.{Lexeme}
 use Rattle.lexer.specs.declared.token.Kind.TheVariants as Kinds
 use Rattle.grammar.specs.declared.stop.Stop.{Stop}

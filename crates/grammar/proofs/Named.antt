@@ -1,5 +1,6 @@
 -- An expression as a statement, beside statements that begin with a name and a sign.
-use Rattle.std.proofs.Common.{Option, None, zero, suc, ◌≡◌, ℕ, ◌≤◌, ◌<◌, Bool, true, false, List, [], ◌∷◌, ◌++◌, length, Result, Ok, refl, sym, ap, subst, ◌∙◌, ◌⊎◌, inl, inr, arith, length-append}
+use Rattle.std.proofs.Common.{Option, None, zero, suc, ◌≡◌, ℕ, ◌≤◌, ◌<◌, Bool, true, false, List, [], ◌∷◌, ◌++◌, length, Result, Ok, refl}
+use Rattle.std.proofs.Common.{sym, ap, subst, ◌∙◌, ◌⊎◌, inl, inr, arith, length-append}
 use Rattle.std.proofs.lemmas.Bool.{and_parts}
 use Rattle.lexer.specs.Lexeme.{Lexeme}
 use Rattle.lexer.specs.Kinds.{is}
@@ -7,7 +8,8 @@ use Rattle.lexer.specs.declared.token.Kind.{Kind}
 use Rattle.lexer.specs.declared.token.Kind.TheVariants as Kinds
 use Rattle.grammar.specs.declared.stop.Stop.{Stop}
 use Rattle.grammar.specs.ExpressionTree.{ExpressionTree, NameTree}
-use Rattle.grammar.specs.Expressions.{additive, chain, ternary, comparison, conjunction, conjunctive, disjunctive, expr, multiplicative, product, unary, unary_in}
+use Rattle.grammar.specs.Expressions.{additive, chain, ternary, comparison, conjunction, conjunctive, disjunctive, expr, multiplicative}
+use Rattle.grammar.specs.Expressions.{product, unary, unary_in}
 use Rattle.grammar.specs.Form.{Form}
 use Rattle.grammar.specs.Parts.{Inner, Closed, Inside, first_line}
 use Rattle.grammar.specs.declared.tree.Operator.{Operator}

@@ -22,7 +22,8 @@ use Rattle.grammar.specs.declared.stop.ReadError.{ReadError}
 use Rattle.grammar.specs.declared.stop.ReadError.TheVariants as reads
 use Rattle.lexer.specs.declared.token.Token.{Token}
 use Rattle.grammar.specs.declared.tree.File.{File}
-use Rattle.grammar.proofs.Literal.{file_ok, file_complete, file_only, file_unexpected, file_too_deep, file_left, file_none_too_deep, file_none_unexpected, file_not_both, file_one_too_deep, file_one_unexpected, file_shorter}
+use Rattle.grammar.proofs.Literal.{file_ok, file_complete, file_only, file_unexpected, file_too_deep, file_left, file_none_too_deep}
+use Rattle.grammar.proofs.Literal.{file_none_unexpected, file_not_both, file_one_too_deep, file_one_unexpected, file_shorter}
 use Rattle.grammar.proofs.Tails.{length_lexemes}
 use Rattle.lexer.proofs.Spans.{lexed_breaks, lexed_sound, lexed_complete, lexed_fault, lexed_only}
 

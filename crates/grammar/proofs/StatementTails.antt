@@ -1,5 +1,6 @@
 -- What the functions that read statements answer, case by case.
-use Rattle.std.proofs.Common.{◌++◌, ◌∙◌, subst, ◌≡◌, ℕ, zero, suc, ◌-◌, ◌≤◌, ◌<◌, Bool, true, false, List, [], ◌∷◌, length, Result, Ok, Err, refl, sym, ap, arith, sub-one, Option, Some, None}
+use Rattle.std.proofs.Common.{◌++◌, ◌∙◌, subst, ◌≡◌, ℕ, zero, suc, ◌-◌, ◌≤◌, ◌<◌, Bool, true, false, List, [], ◌∷◌, length, Result, Ok, Err}
+use Rattle.std.proofs.Common.{refl, sym, ap, arith, sub-one, Option, Some, None}
 use Rattle.std.proofs.lemmas.List.{append-nil}
 use Rattle.std.specs.Prelude.{unwrap_or}
 use Rattle.lexer.specs.declared.token.Token.{Token}
@@ -15,7 +16,9 @@ use Rattle.grammar.specs.ExpressionTree.{ExpressionTree}
 use Rattle.grammar.specs.Tree.{StatementTree, AssignTree, AppendTree, BreakTree, ContinueTree, BranchTree}
 use Rattle.grammar.specs.Reading.{Reader, ◌>>=◌, Fails, begins, deep_at, optional_at, or_at, token_at, two_begin}
 use Rattle.grammar.specs.ReadingExpressions.{expr_at}
-use Rattle.grammar.specs.ReadingStatements.{GivesLine, set_at, plain_at, leave_at, simple_at, ends_line, in_line, maybe_at, in_body, ended_line_at, body_at, elif_at, branch_at, parts_at, last_part_at, otherwise_at, foreach_at, conditional_at, begins_block, block_at, stmt_at, line_at, next_line_at, file_at}
+use Rattle.grammar.specs.ReadingStatements.{GivesLine, set_at, plain_at, leave_at, simple_at, ends_line, in_line, maybe_at, in_body}
+use Rattle.grammar.specs.ReadingStatements.{ended_line_at, body_at, elif_at, branch_at, parts_at, last_part_at, otherwise_at, foreach_at}
+use Rattle.grammar.specs.ReadingStatements.{conditional_at, begins_block, block_at, stmt_at, line_at, next_line_at, file_at}
 use Rattle.grammar.proofs.Gathered as loops
 use Rattle.grammar.proofs.Gathered.{all, with_one, one_regroup, with_line, line_regroup, begins_long}
 use Rattle.grammar.proofs.Tails.{fails_at, length_lexemes}

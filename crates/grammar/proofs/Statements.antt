@@ -1,5 +1,6 @@
 -- The lines of the grammar of statements.
-use Rattle.std.proofs.Common.{◌⊎◌, lit<, ◌<◌, lit≤, ◌≡◌, ℕ, suc, Bool, true, false, cond, List, ◌∷◌, refl, sym, ap, subst, ◌∙◌, inl, inr, arith, []}
+use Rattle.std.proofs.Common.{◌⊎◌, lit<, ◌<◌, lit≤, ◌≡◌, ℕ, suc, Bool, true, false, cond, List, ◌∷◌, refl, sym, ap, subst, ◌∙◌, inl, inr}
+use Rattle.std.proofs.Common.{arith, []}
 use Rattle.lexer.specs.Lexeme.{Lexeme}
 use Rattle.lexer.specs.Kinds.{is}
 use Rattle.lexer.specs.declared.token.Kind.{Kind}

@@ -10,15 +10,19 @@ use Rattle.grammar.specs.declared.tree.Operator.TheVariants as operators
 use Rattle.grammar.specs.ExpressionTree.{ExpressionTree}
 use Rattle.grammar.specs.Form.{Form, token, give, ◌>>=◌}
 use Rattle.grammar.specs.Parts.{here, here_at, stands_for, token_as, token_as_at}
-use Rattle.grammar.specs.Expressions.{additive, comparative, conjunctive, disjunctive, multiplicative, chain, chain_tree, ternary_tree, product, sum, comparison, conjunction, disjunction, compared, comparison_operator, not_in, branches, ternary}
+use Rattle.grammar.specs.Expressions.{additive, comparative, conjunctive, disjunctive, multiplicative, chain, chain_tree, ternary_tree}
+use Rattle.grammar.specs.Expressions.{product, sum, comparison, conjunction, disjunction, compared, comparison_operator, not_in, branches}
+use Rattle.grammar.specs.Expressions.{ternary}
 use Rattle.grammar.specs.Reading.{Reader, token_at}
-use Rattle.grammar.specs.ReadingExpressions.{asks, branches_at, ternary_at, compared_at, compares, comparison_at, comparison_operator_at, conjunction_at, disjunction_at, not_in_at, plain_comparison_at, product_at, sum_at}
+use Rattle.grammar.specs.ReadingExpressions.{asks, branches_at, ternary_at, compared_at, compares, comparison_at, comparison_operator_at}
+use Rattle.grammar.specs.ReadingExpressions.{conjunction_at, disjunction_at, not_in_at, plain_comparison_at, product_at, sum_at}
 use Rattle.grammar.proofs.Binding.{After, after_kind, binding}
 use Rattle.grammar.proofs.Chains.{line-either, line-map, line-then-optional}
 use Rattle.grammar.proofs.Laws.{bind_at, give_at}
 use Rattle.grammar.proofs.Line.{Line, Any, line-token, line-then, line-bind, line-stops, begins_token, begun_token}
 use Rattle.grammar.proofs.Numbers.{is-true}
-use Rattle.grammar.proofs.Operators.{after_less, head_binds, head_ends, line-chain, rank-additive, rank-conjunctive, rank-disjunctive, rank-multiplicative}
+use Rattle.grammar.proofs.Operators.{after_less, head_binds, head_ends, line-chain, rank-additive, rank-conjunctive, rank-disjunctive}
+use Rattle.grammar.proofs.Operators.{rank-multiplicative}
 use Rattle.grammar.proofs.Starts.{Starts, begins-head, starts-bind, starts-or, starts-token}
 use Rattle.grammar.proofs.Steps.{line-as, line-here, starts-as, starts-here}
 

@@ -6,7 +6,8 @@ use Rattle.grammar.specs.declared.tree.Expression.{Expression}
 use Rattle.grammar.specs.declared.tree.Expression.TheViews as Views
 use Rattle.grammar.specs.declared.tree.Expression.TheVariants as Variants
 use Rattle.grammar.specs.declared.tree.Expression.TheOpen as Open
-use Rattle.grammar.specs.declared.tree.Expression.TheFolds.{fold-roll-Argument, fold-roll-Entry, fold-roll-Expression, fold-roll-Link, fold-roll-Operand}
+use Rattle.grammar.specs.declared.tree.Expression.TheFolds.{fold-roll-Argument, fold-roll-Entry, fold-roll-Expression, fold-roll-Link}
+use Rattle.grammar.specs.declared.tree.Expression.TheFolds.{fold-roll-Operand}
 use Rattle.grammar.specs.declared.tree.Argument.{Argument}
 use Rattle.grammar.specs.declared.tree.Operand.{Operand}
 use Rattle.std.specs.Global.{Global}
@@ -16,7 +17,10 @@ use Rattle.grammar.specs.declared.tree.Link.TheVariants as Links
 use Rattle.grammar.specs.declared.tree.Prefix.{Prefix}
 use Rattle.grammar.specs.declared.tree.Literal.{Literal}
 use Rattle.grammar.specs.declared.tree.Operator.{Operator}
-use Rattle.grammar.specs.ExpressionTree.{ArgumentTree, ChainTree, DictionaryTree, ListTree, entries, entry_of, expressions, EntryTree, ExpressionTree, FunctionTree, IndexTree, LinkTree, LiteralTree, MethodTree, OperandTree, PostfixTree, PrefixTree, TernaryTree, arguments, argument_of, argument_step, entry_step, expression_of, expression_step, link_of, link_step, links, operand_of, operand_step, operands}
+use Rattle.grammar.specs.ExpressionTree.{ArgumentTree, ChainTree, DictionaryTree, ListTree, entries, entry_of, expressions, EntryTree}
+use Rattle.grammar.specs.ExpressionTree.{ExpressionTree, FunctionTree, IndexTree, LinkTree, LiteralTree, MethodTree, OperandTree}
+use Rattle.grammar.specs.ExpressionTree.{PostfixTree, PrefixTree, TernaryTree, arguments, argument_of, argument_step, entry_step}
+use Rattle.grammar.specs.ExpressionTree.{expression_of, expression_step, link_of, link_step, links, operand_of, operand_step, operands}
 
 pub operand_of-made : (o : Operator) (e : Expression) → operand_of (Views.roll-Operand record { operator = o; value = e }) ≡ (o, expression_of e)
 operand_of-made o e = fold-roll-Operand ExpressionTree LinkTree ArgumentTree EntryTree OperandTree expression_step link_step argument_step entry_step operand_step record { operator = o; value = e }

@@ -2,8 +2,8 @@
 use Rattle.std.proofs.Common.{◌≡◌, ◌≢◌, ℕ, zero, suc, ◌+◌, ◌≤◌, List, [], Result, Ok, Err, IsErrAnd, refl, sym, ap, subst, ◌∙◌, arith}
 use Rattle.basics.specs.Faults.{FaultData}
 use Rattle.world.specs.Details.{refuse_about}
-use Rattle.machine_file.specs.Fault.{MachineFaultData, told}
-use Rattle.machine_file.specs.Files.{Section}
+use Rattle.machine.specs.machine_file.Fault.{MachineFaultData, told}
+use Rattle.machine.specs.machine_file.Files.{Section}
 use Rattle.world.specs.Deed.{Files}
 use Rattle.world.specs.Gives.{Gives, failures_after}
 use Rattle.world.specs.Plan.{carry}

@@ -6,9 +6,9 @@ use Rattle.ports.specs.Outputs.{OutputState, Writes}
 use Rattle.ports.specs.declared.fault.DeviceFault.{DeviceFault}
 use Rattle.ports.proofs.Sending.{sends_none, sends_nothing, sends_stop, sends_then}
 use Rattle.basics.specs.Faults.{FaultData}
-use Rattle.build_file.specs.Concluding.{Agrees, failed_devices, faulted_with}
-use Rattle.build_file.specs.declared.concluding.Status.{Status}
-use Rattle.build_file.specs.declared.concluding.Status.TheVariants as statuses
+use Rattle.outputs.specs.build_file.Concluding.{Agrees, failed_devices, faulted_with}
+use Rattle.outputs.specs.declared.build_file.concluding.Status.{Status}
+use Rattle.outputs.specs.declared.build_file.concluding.Status.TheVariants as statuses
 use Rattle.world.specs.Gives.{failures_after}
 use Rattle.world.specs.Run.{Run, outcome_of}
 use Rattle.world.specs.declared.stop.Stop.{Stop}

@@ -3,14 +3,14 @@ use Rattle.std.proofs.Common.{◌≡◌, true, false, List, [], ◌∷◌, ◌++
 use Rattle.std.specs.Prelude.{bytes_eq}
 use Rattle.std.proofs.lemmas.Bool.{false≢true}
 use Rattle.std.proofs.lemmas.Slice.Eq.{bytes_eq-Decides}
-use Rattle.edge.specs.Paths.{source_path}
-use Rattle.edge.specs.Texts.{Path, holds}
-use Rattle.ninja.specs.Reading.{BuildEdge}
+use Rattle.targets.specs.edge.Paths.{source_path}
+use Rattle.targets.specs.edge.Texts.{Path, holds}
+use Rattle.outputs.specs.ninja.Reading.{BuildEdge}
 use Rattle.project.specs.Laws.{all_held}
 use Rattle.project.specs.World.{known_in}
 use Rattle.project.proofs.EdgeOrder.{both, holds_append, holds_left, holds_right, list_all-weaker, or_cases, split_and}
-use Rattle.build_file.specs.FileEdges.{are_made, made_by, needed_by}
-use Rattle.build_file.specs.Means.{edges_read}
+use Rattle.outputs.specs.build_file.FileEdges.{are_made, made_by, needed_by}
+use Rattle.outputs.specs.build_file.Means.{edges_read}
 use Rattle.world.specs.Made.{ClosesOutputs, closed_by}
 use Rattle.world.specs.Run.{Run, ran, Done, Faulted, marks_of, outcome_of, world_after}
 use Rattle.world.specs.Trace.{steps_of}

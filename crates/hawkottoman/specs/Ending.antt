@@ -3,9 +3,9 @@ use Rattle.std.specs.Prelude.{◌++◌, [], codes, option_map, Option, Some, Non
 use Rattle.ports.specs.Outputs.{OutputState, faults, logs}
 use Rattle.basics.specs.Faults.{FaultData, fault_line}
 use Rattle.basics.specs.View.{fault_view}
-use Rattle.build_file.specs.Concluding.{Whole, told_before}
-use Rattle.build_file.specs.declared.concluding.Status.{Status}
-use Rattle.build_file.specs.declared.concluding.Status.TheVariants as statuses
+use Rattle.outputs.specs.build_file.Concluding.{Whole, told_before}
+use Rattle.outputs.specs.declared.build_file.concluding.Status.{Status}
+use Rattle.outputs.specs.declared.build_file.concluding.Status.TheVariants as statuses
 use Rattle.world.specs.Deed.{Files}
 use Rattle.world.specs.Run.{outcome_of}
 use Rattle.world.specs.Settings.{SettingsData}

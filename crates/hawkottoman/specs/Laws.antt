@@ -1,10 +1,10 @@
 -- What holds of every run.
 use Rattle.std.specs.Prelude.{◌≡◌, ℕ, true, List, ◌++◌, Option, filter, map}
 use Rattle.std.specs.List.{list_all}
-use Rattle.edge.specs.Paths.{source_path}
-use Rattle.edge.specs.Texts.{Path, first_kept}
-use Rattle.build_file.specs.FileEdges.{are_made}
-use Rattle.build_file.specs.Means.{Means, edges_read}
+use Rattle.targets.specs.edge.Paths.{source_path}
+use Rattle.targets.specs.edge.Texts.{Path, first_kept}
+use Rattle.outputs.specs.build_file.FileEdges.{are_made}
+use Rattle.outputs.specs.build_file.Means.{Means, edges_read}
 use Rattle.world.specs.Deed.{Files}
 use Rattle.world.specs.Look.{Agree}
 use Rattle.world.specs.Made.{closed_by}

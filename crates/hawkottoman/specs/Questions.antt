@@ -4,11 +4,11 @@ use Rattle.std.specs.List.{flat_map, list_any}
 use Rattle.std.specs.Str.{bytes_eq}
 use Rattle.ports.specs.Outputs.{logs}
 use Rattle.basics.specs.Faults.{FaultData}
-use Rattle.machine_file.specs.Files.{Section}
-use Rattle.machine_file.specs.Questions.{answer_to}
-use Rattle.build_file.specs.Concluding.{Whole, faulted_with, told_before}
-use Rattle.build_file.specs.declared.concluding.Status.TheVariants as statuses
-use Rattle.introspection.specs.Questions.{Line, label_text, line_text, lines_of}
+use Rattle.machine.specs.machine_file.Files.{Section}
+use Rattle.machine.specs.machine_file.Questions.{answer_to}
+use Rattle.outputs.specs.build_file.Concluding.{Whole, faulted_with, told_before}
+use Rattle.outputs.specs.declared.build_file.concluding.Status.TheVariants as statuses
+use Rattle.outputs.specs.introspection.Questions.{Line, label_text, line_text, lines_of}
 use Rattle.world.specs.Deed.{Files}
 use Rattle.world.specs.Run.{Outcome, Done, Faulted, outcome_of}
 use Rattle.world.specs.Settings.{SettingsData}

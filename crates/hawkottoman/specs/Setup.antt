@@ -3,9 +3,9 @@ use Rattle.std.specs.Prelude.{◌≡◌, ◌≤◌, ℕ, ◌+◌, Result, Ok, Er
 use Rattle.ports.specs.Outputs.{OutputState}
 use Rattle.basics.specs.View.{fault_view}
 use Rattle.project.specs.World.{WorldData}
-use Rattle.build_file.specs.Concluding.{Agrees, Whole, done_with, failed_devices, faulted_with, told_before}
-use Rattle.build_file.specs.declared.concluding.Status.{Status}
-use Rattle.build_file.specs.declared.concluding.Status.TheVariants as statuses
+use Rattle.outputs.specs.build_file.Concluding.{Agrees, Whole, done_with, failed_devices, faulted_with, told_before}
+use Rattle.outputs.specs.declared.build_file.concluding.Status.{Status}
+use Rattle.outputs.specs.declared.build_file.concluding.Status.TheVariants as statuses
 use Rattle.world.specs.Deed.{Files}
 use Rattle.world.specs.Run.{Run, ran, Done, Faulted, world_after}
 use Rattle.world.specs.Settings.{SettingsData}

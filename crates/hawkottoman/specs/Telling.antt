@@ -2,8 +2,8 @@
 use Rattle.std.specs.Prelude.{◌≡◌, ◌≢◌, ℕ, List, [], ◌++◌, Some, None, option_map, string_bytes, Result, Ok, Err}
 use Rattle.basics.specs.View.{fault_view}
 use Rattle.ports.specs.Outputs.{OutputState}
-use Rattle.build_file.specs.declared.concluding.Status.{Status}
-use Rattle.machine_file.specs.Files.{Section}
+use Rattle.outputs.specs.declared.build_file.concluding.Status.{Status}
+use Rattle.machine.specs.machine_file.Files.{Section}
 use Rattle.world.specs.Deed.{Files}
 use Rattle.world.specs.Plan.{carry}
 use Rattle.world.specs.Run.{Run, Faulted, outcome_of, world_after}

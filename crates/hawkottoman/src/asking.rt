@@ -3,9 +3,9 @@ ghost use Rattle.std.specs.Prelude.{◌≡◌, ◌<◌, [], IfOk, option_map, st
 ghost use Rattle.std.specs.Rc.{rc_value};
 ghost use Rattle.ports.specs.Endings.{HasRoom};
 ghost use Rattle.basics.specs.View.{fault_view};
-ghost use Rattle.build_file.specs.Concluding.{Agrees};
+ghost use Rattle.outputs.specs.build_file.Concluding.{Agrees};
 ghost use Rattle.interp.specs.Evaluation.{IsSaid, MachineSaid, definitions, evaluated, sections_of};
-ghost use Rattle.machine_file.specs.View.{machine_in};
+ghost use Rattle.machine.specs.machine_file.View.{machine_in};
 ghost use Rattle.world.specs.AskedView.{all_asked_in};
 ghost use Rattle.world.specs.Prelude.{Files, Holds, failures_after, settings_view, world_of};
 ghost use Rattle.world.specs.Plan.{carry};
@@ -17,9 +17,9 @@ ghost use Rattle.hawkottoman.specs.Telling.{Asks, AsksOver, Ended, Told, text_of
 use crate::running::stopped;
 use crate::telling::questions_text;
 use basics::faults::Fault;
-use build_file::{Status, refuse};
 use interp::{Inputs, definitions, read_machine};
-use machine_file::Machine;
+use machine::machine_file::Machine;
+use outputs::build_file::{Status, refuse};
 use ports::{NoOutputs, Outputs, Tree, log_all};
 use std::alloc::{AllocError, Global};
 use std::marker::Brand;

@@ -3,7 +3,7 @@ ghost use Rattle.std.specs.Prelude.{◌++◌, ◌<◌, codes, option_map};
 ghost use Rattle.ports.specs.Endings.{HasRoom, ended};
 ghost use Rattle.ports.specs.Outputs.{Writes, logs};
 ghost use Rattle.basics.specs.View.{fault_view};
-ghost use Rattle.build_file.specs.Concluding.{Agrees};
+ghost use Rattle.outputs.specs.build_file.Concluding.{Agrees};
 ghost use Rattle.interp.specs.Evaluation.{IsSaid, MachineSaid};
 ghost use Rattle.world.specs.Prelude.{Files, Holds, settings_view};
 ghost use Rattle.hawkottoman.specs.Ending.{TellsFault, TellsStop, detail_told, ending_told, fault_told, told_whole};
@@ -11,7 +11,7 @@ ghost use Rattle.hawkottoman.specs.Setup.{Concludes, FailsOnce};
 
 use crate::asking::{Asking, ask_run};
 use basics::faults::Fault;
-use build_file::{Status, refuse};
+use outputs::build_file::{Status, refuse};
 use ports::{DeviceFault, Outputs, Tree, log_all};
 use std::alloc::Global;
 use world::{Settings, Stop};

@@ -2,7 +2,7 @@
 ghost use Rattle.std.specs.Prelude.{◌≡◌, IfOk};
 ghost use Rattle.ports.specs.MemOutputs.{mem_outputs_seen};
 
-use build_file::Status;
+use outputs::build_file::Status;
 use ports::{Event, MemOutputs};
 use std::alloc::{AllocError, Global};
 

@@ -5,7 +5,7 @@ ghost use Rattle.ports.specs.MemTree.{mem_tree_seen};
 
 use crate::expected::Expected;
 use crate::running::setup;
-use build_file::Status;
+use outputs::build_file::Status;
 use ports::{MemTree, Outputs, Tree};
 use std::alloc::{AllocError, Global};
 use world::Settings;

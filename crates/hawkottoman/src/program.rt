@@ -5,13 +5,13 @@ ghost use Rattle.command.specs.CommandLine.{IsRefused, IsTaken};
 ghost use Rattle.paths.specs.Below.{path_below};
 ghost use Rattle.paths.specs.Paths.{parts_of};
 ghost use Rattle.ports.specs.Endings.{HasRoom};
-ghost use Rattle.build_file.specs.Concluding.{exit_status};
+ghost use Rattle.outputs.specs.build_file.Concluding.{exit_status};
 
 use crate::asking::questions;
 use crate::ending::fault;
 use crate::running::setup;
-use build_file::Status;
 use command::{Line, LineFault, Task, command_line};
+use outputs::build_file::Status;
 use paths::path_below;
 use ports::{DiskOutputs, DiskTree, OutputPlace, Outputs};
 use std::alloc::{AllocError, Global};

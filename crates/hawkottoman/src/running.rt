@@ -1,16 +1,16 @@
 //! One run, from the bytes of a tree to the events of the outputs.
 ghost use Rattle.std.specs.Prelude.{◌≡◌, ◌<◌};
 ghost use Rattle.ports.specs.Endings.{HasRoom};
-ghost use Rattle.build_file.specs.Means.{Means};
-ghost use Rattle.build_file.specs.Concluding.{Agrees};
+ghost use Rattle.outputs.specs.build_file.Means.{Means};
+ghost use Rattle.outputs.specs.build_file.Concluding.{Agrees};
 ghost use Rattle.interp.specs.Evaluation.{IsSaid, MachineSaid};
 ghost use Rattle.world.specs.Prelude.{Files, Holds, settings_view};
 ghost use Rattle.hawkottoman.specs.Laws.{AreThere};
 ghost use Rattle.hawkottoman.specs.Setup.{FailsOnce, OnDone, OnEnd, OnFault, OnProject, Settles, Stops, project_of, run_of};
 
 use crate::law::needs_are_there;
-use build_file::{Status, conclude, refuse};
 use interp::{Inputs, evaluate};
+use outputs::build_file::{Status, conclude, refuse};
 use ports::{Outputs, Tree};
 use std::alloc::Global;
 use std::marker::Brand;

@@ -1,14 +1,14 @@
 //! The lines of what was asked, each once.
 ghost use Rattle.std.specs.Prelude.{◌≡◌, ◌∷◌, [], IfOk, OnOk, string_bytes};
-ghost use Rattle.introspection.specs.QuestionsView.{line_in};
-ghost use Rattle.machine_file.specs.View.{machine_in};
+ghost use Rattle.outputs.specs.introspection.QuestionsView.{line_in};
+ghost use Rattle.machine.specs.machine_file.View.{machine_in};
 ghost use Rattle.world.specs.AskedView.{all_asked_in, asked_in};
 ghost use Rattle.hawkottoman.specs.Questions.{lines_asked, questions_text, shown};
 ghost use Rattle.hawkottoman.specs.Telling.{Tells};
 
 use code::Names;
-use introspection::{QuestionLine, question_lines};
-use machine_file::Machine;
+use machine::machine_file::Machine;
+use outputs::introspection::{QuestionLine, question_lines};
 use std::alloc::{AllocError, Global};
 use world::Asked;
 

@@ -1,5 +1,6 @@
 -- Calls inside of an expression one after another, against their plans.
-use Rattle.std.proofs.Common.{◌≡◌, ℕ, zero, suc, ◌+◌, List, [], ◌∷◌, ◌++◌, add-one, string_bytes, Result, Ok, Err, IsErrAnd, Box, Global, refl, sym, ap, subst, ◌∙◌}
+use Rattle.std.proofs.Common.{◌≡◌, ℕ, zero, suc, ◌+◌, List, [], ◌∷◌, ◌++◌, add-one, string_bytes, Result, Ok, Err, IsErrAnd, Box, Global}
+use Rattle.std.proofs.Common.{refl, sym, ap, subst, ◌∙◌}
 use Rattle.basics.specs.Faults.{FaultData}
 use Rattle.basics.specs.declared.faults.refusal.Refusal.{Refusal}
 use Rattle.basics.specs.declared.faults.refusal.Refusal.TheVariants as refusals
@@ -22,7 +23,8 @@ use Rattle.interp.specs.declared.flow.Flow.{Flow}
 use Rattle.interp.specs.declared.halt.Halt.{Halt}
 use Rattle.interp.specs.declared.halt.Halt.TheVariants as halts
 use Rattle.interp.specs.declared.halt.Inside.{Inside}
-use Rattle.expressions.proofs.Evaluating.{follow-after, given_none, given_rule, given_stop, given_then, leads_as, leads_end, leads_further, leads_next, with_end-after}
+use Rattle.expressions.proofs.Evaluating.{follow-after, given_none, given_rule, given_stop, given_then, leads_as, leads_end, leads_further}
+use Rattle.expressions.proofs.Evaluating.{leads_next, with_end-after}
 
 -- ---- what comes behind a fault never comes
 

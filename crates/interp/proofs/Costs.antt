@@ -1,5 +1,6 @@
 -- No evaluation in which long loops are refused ends more rules than its tree costs.
-use Rattle.std.proofs.Common.{◌≡◌, ℕ, zero, suc, ◌+◌, ◌*◌, ◌≤◌, Bool, true, false, List, [], ◌∷◌, ◌++◌, Option, Some, None, is_some, Result, Ok, Err, refl, ap, ◌∙◌, arith}
+use Rattle.std.proofs.Common.{◌≡◌, ℕ, zero, suc, ◌+◌, ◌*◌, ◌≤◌, Bool, true, false, List, [], ◌∷◌, ◌++◌, Option, Some, None, is_some, Result}
+use Rattle.std.proofs.Common.{Ok, Err, refl, ap, ◌∙◌, arith}
 use Rattle.std.specs.Prelude.{if◌then◌else◌, nat_le, nat_lt, not, ◌||◌, ◌&&◌, length, bytes_eq}
 use Rattle.std.specs.List.{list_any}
 use Rattle.std.specs.Str.{is_utf8}
@@ -8,35 +9,40 @@ use Rattle.std.proofs.Math.Nat.{suc-mul, mul-le-mul_right}
 use Rattle.lexer.specs.declared.fault.SyntaxFault.{SyntaxFault}
 use Rattle.grammar.specs.declared.tree.Literal.{Literal}
 use Rattle.grammar.specs.declared.tree.Literal.TheVariants as literals
-use Rattle.grammar.specs.ExpressionTree.{ExpressionTree, NameTree, LiteralTree, ListTree, DictionaryTree, FunctionTree, PostfixTree, PrefixTree, ChainTree, TernaryTree, ExpressionTrees, NoExpression, MoreExpressions, EntryTrees, NoEntry, MoreEntries, ArgumentTrees, NoArgument, MoreArguments, LinkTree, MethodTree, IndexTree, LinkTrees, NoLink, MoreLinks, OperandTrees, NoOperand, MoreOperands}
+use Rattle.grammar.specs.ExpressionTree.{ExpressionTree, NameTree, LiteralTree, ListTree, DictionaryTree, FunctionTree, PostfixTree}
+use Rattle.grammar.specs.ExpressionTree.{PrefixTree, ChainTree, TernaryTree, ExpressionTrees, NoExpression, MoreExpressions, EntryTrees}
+use Rattle.grammar.specs.ExpressionTree.{NoEntry, MoreEntries, ArgumentTrees, NoArgument, MoreArguments, LinkTree, MethodTree, IndexTree}
+use Rattle.grammar.specs.ExpressionTree.{LinkTrees, NoLink, MoreLinks, OperandTrees, NoOperand, MoreOperands}
 use Rattle.grammar.specs.Parsed.{parsed}
-use Rattle.grammar.specs.Tree.{StatementTree, AssignTree, AppendTree, ValueTree, BreakTree, ContinueTree, IfTree, ForeachTree, Statements, NoStatement, MoreStatements, Branches, NoBranch, MoreBranches, FileTree}
+use Rattle.grammar.specs.Tree.{StatementTree, AssignTree, AppendTree, ValueTree, BreakTree, ContinueTree, IfTree, ForeachTree, Statements}
+use Rattle.grammar.specs.Tree.{NoStatement, MoreStatements, Branches, NoBranch, MoreBranches, FileTree}
 use Rattle.data.specs.declared.object.Object.{Object}
 use Rattle.data.specs.declared.refusal.Refusal.{Refusal as OperationRefusal}
-use Rattle.data.specs.Data.{Data, boolean, integer, text, list, dictionary, object, Items, no_items, item, items_append, boolean_in, object_in, is_disabler}
+use Rattle.data.specs.Data.{Data, boolean, integer, text, list, dictionary, object, Items, no_items, item, items_append, boolean_in}
+use Rattle.data.specs.Data.{object_in, is_disabler}
 use Rattle.data.specs.Limits.{within}
 use Rattle.arguments.specs.Refused.{RefusedData}
 use Rattle.arguments.specs.Rules.{broken}
 use Rattle.arguments.specs.declared.rule.Rule.TheVariants as call_rules
 use Rattle.basics.specs.declared.faults.refusal.Refusal.{Refusal}
 use Rattle.basics.specs.declared.faults.refusal.Refusal.TheVariants as refusals
-use Rattle.operators.specs.declared.operator.Binary.TheVariants.{Add}
-use Rattle.operators.specs.Operations.{binary_answer}
-use Rattle.operators.specs.Logic.{left_answer, right_answer}
-use Rattle.operators.specs.Index.{index_answer}
-use Rattle.operators.specs.Literal.{literal_answer}
-use Rattle.operators.specs.declared.literal.LiteralRefusal.{LiteralRefusal}
-use Rattle.operators.specs.declared.literal.LiteralRefusal.TheVariants as literal_refusals
-use Rattle.methods.specs.Methods.{answer as method_answer, has_name}
+use Rattle.operations.specs.declared.operators.operator.Binary.TheVariants.{Add}
+use Rattle.operations.specs.operators.Operations.{binary_answer}
+use Rattle.operations.specs.operators.Logic.{left_answer, right_answer}
+use Rattle.operations.specs.operators.Index.{index_answer}
+use Rattle.operations.specs.operators.Literal.{literal_answer}
+use Rattle.operations.specs.declared.operators.literal.LiteralRefusal.{LiteralRefusal}
+use Rattle.operations.specs.declared.operators.literal.LiteralRefusal.TheVariants as literal_refusals
+use Rattle.operations.specs.methods.Methods.{answer as method_answer, has_name}
 use Rattle.objects.specs.Methods.{has_method as has_object_method}
-use Rattle.texts.specs.Segments.{Segment, text as between, place}
+use Rattle.data.specs.texts.Segments.{Segment, text as between, place}
 use Rattle.arguments.specs.Arguments.{ArgumentsData, no_arguments, with_argument}
 use Rattle.arguments.specs.Disablers.{gives_disabler}
-use Rattle.language_calls.specs.Turning.{is_turned_off}
-use Rattle.language_names.specs.Functions.{function_named}
-use Rattle.language_names.specs.Names.{is_left_out, is_predefined}
+use Rattle.calls.specs.language_calls.Turning.{is_turned_off}
+use Rattle.data.specs.language_names.Functions.{function_named}
+use Rattle.data.specs.language_names.Names.{is_left_out, is_predefined}
 use Rattle.paths.specs.Paths.{folder_below}
-use Rattle.language_names.specs.declared.functions.Function.{Function}
+use Rattle.data.specs.declared.language_names.functions.Function.{Function}
 use Rattle.ports.specs.Tree.{file_at}
 use Rattle.world.specs.World.{World, Facts, looking, entering, with_facts, with_place}
 use Rattle.world.specs.Run.{Run, ran, follow, after, Done, Faulted, marks_of}
@@ -45,13 +51,20 @@ use Rattle.world.specs.Plan.{Plan, deed, ruled, next as next_plan, carry, answer
 use Rattle.world.specs.Costs.{definition_file, is_opened, unopened, spent}
 use Rattle.world.specs.Start.{first_world}
 use Rattle.world.specs.Trace.{ends_of}
-use Rattle.world.proofs.Costs.{Takes, more as more_in, free as free_in, none as none_in, chain as chain_in, rules as rules_in, opens, paid, paid-after, spent-after, spent-paid, deed-costs}
+use Rattle.world.proofs.Costs.{Takes, more as more_in, free as free_in, none as none_in, chain as chain_in, rules as rules_in, opens, paid}
+use Rattle.world.proofs.Costs.{paid-after, spent-after, spent-paid, deed-costs}
 use Rattle.expressions.specs.declared.meaning.Meaning.{Meaning}
 use Rattle.expressions.specs.declared.meaning.Meaning.TheVariants.{Combines, Connects}
-use Rattle.interp.specs.Cost.{value_cost, values_cost, entries_cost, arguments_cost, links_cost, link_cost, chain_cost, statement_cost, branches_cost, statements_cost, parsed_cost, file_cost, tree_cost}
-use Rattle.expressions.specs.Forms.{known, variable, variable_by, printed_plain, part_text, filled, number, literal_value, meaning_of, unless_decided, combined, unchosen, chosen, needed, known_function, refused_name, function_at, may_come_first, allowed, function_inside, known_method, may_be_asked_first, value_method, fitted, answered_with, paired_by}
+use Rattle.interp.specs.Cost.{value_cost, values_cost, entries_cost, arguments_cost, links_cost, link_cost, chain_cost, statement_cost}
+use Rattle.interp.specs.Cost.{branches_cost, statements_cost, parsed_cost, file_cost, tree_cost}
+use Rattle.expressions.specs.Forms.{known, variable, variable_by, printed_plain, part_text, filled, number, literal_value, meaning_of}
+use Rattle.expressions.specs.Forms.{unless_decided, combined, unchosen, chosen, needed, known_function, refused_name, function_at}
+use Rattle.expressions.specs.Forms.{may_come_first, allowed, function_inside, known_method, may_be_asked_first, value_method, fitted}
+use Rattle.expressions.specs.Forms.{answered_with, paired_by}
 use Rattle.expressions.specs.Details.{key_twice, method_detail}
-use Rattle.interp.specs.Expressions.{called_by, called, entered_inside, inside_by, known_object_method, method_at_by, method_at, object_method_called, method_by, method_called_by, method_of, value_of, values_of, entries_of, arguments_of, links_of, link_of, chain_of}
+use Rattle.interp.specs.Expressions.{called_by, called, entered_inside, inside_by, known_object_method, method_at_by, method_at}
+use Rattle.interp.specs.Expressions.{object_method_called, method_by, method_called_by, method_of, value_of, values_of, entries_of}
+use Rattle.interp.specs.Expressions.{arguments_of, links_of, link_of, chain_of}
 use Rattle.interp.specs.declared.flow.Flow.{Flow}
 use Rattle.interp.specs.declared.flow.Flow.TheVariants.{Next, Continued, Broken, Finished}
 use Rattle.expressions.specs.declared.conditions.Choice.{Choice}
@@ -67,7 +80,8 @@ use Rattle.expressions.specs.Rounds.{Round, looped, item_rounds, entry_rounds}
 use Rattle.expressions.specs.Folders.{opened_by, opened, fresh_by, fresh, go_back}
 use Rattle.interp.specs.Folders.{folder_by}
 use Rattle.world.specs.DefinitionFiles.{most_bytes, refuse_line, tree_or_fault, spelled_by, spelled}
-use Rattle.interp.specs.Evaluation.{begun_by, is_project, begins, begins_all, root, MachineSaid, sections_of, defined, evaluated_few, evaluation}
+use Rattle.interp.specs.Evaluation.{begun_by, is_project, begins, begins_all, root, MachineSaid, sections_of, defined, evaluated_few}
+use Rattle.interp.specs.Evaluation.{evaluation}
 use Rattle.interp.specs.Laws.{StepsWithinCost}
 use Rattle.interp.proofs.Paths.{not_opened, is_definition}
 use Rattle.world.specs.Details.{refuse_about}

@@ -1,7 +1,7 @@
 -- What an evaluation depends on.
 use Rattle.std.proofs.Common.{false, ◌≡◌, [], Ok, Err, ap, ◌∙◌}
 use Rattle.world.specs.Details.{refuse_about}
-use Rattle.machine_file.specs.Fault.{MachineFaultData}
+use Rattle.machine.specs.machine_file.Fault.{MachineFaultData}
 use Rattle.world.specs.Deed.{Files}
 use Rattle.world.specs.Look.{ran_over}
 use Rattle.world.specs.Settings.{SettingsData}

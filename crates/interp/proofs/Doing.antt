@@ -1,5 +1,6 @@
 -- Statements that are done where they stand.
-use Rattle.std.proofs.Common.{◌≡◌, ℕ, ◌+◌, ◌<◌, ◌≤◌, true, false, List, drop, length, get_or, Option, Some, None, Result, Ok, Err, IsErrAnd, Box, Global, refl, sym, ap, subst, ◌∙◌}
+use Rattle.std.proofs.Common.{◌≡◌, ℕ, ◌+◌, ◌<◌, ◌≤◌, true, false, List, drop, length, get_or, Option, Some, None, Result, Ok, Err, IsErrAnd}
+use Rattle.std.proofs.Common.{Box, Global, refl, sym, ap, subst, ◌∙◌}
 use Rattle.code.specs.Statements.{statement_at}
 use Rattle.code.specs.declared.code.Code.{Code}
 use Rattle.code.specs.declared.node.StatementNode.{StatementNode}

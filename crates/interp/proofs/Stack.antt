@@ -1,5 +1,6 @@
 -- Plans under a stack of frames.
-use Rattle.std.proofs.Common.{◌≡◌, Bool, ℕ, zero, suc, ◌+◌, List, [], ◌∷◌, ◌++◌, Result, Ok, Err, IsErrAnd, drop, length, refl, sym, subst, ap, ◌∙◌, option_map, arith}
+use Rattle.std.proofs.Common.{◌≡◌, Bool, ℕ, zero, suc, ◌+◌, List, [], ◌∷◌, ◌++◌, Result, Ok, Err, IsErrAnd, drop, length, refl, sym, subst}
+use Rattle.std.proofs.Common.{ap, ◌∙◌, option_map, arith}
 use Rattle.code.specs.Draft.{IsFront}
 use Rattle.code.specs.declared.code.Code.{Code}
 use Rattle.code.specs.Statements.{name_at}
@@ -26,9 +27,11 @@ use Rattle.interp.specs.declared.frames.BlockRest.{BlockRest}
 use Rattle.interp.specs.declared.frames.LoopRest.{LoopRest}
 use Rattle.interp.specs.declared.frames.Frame.{Frame}
 use Rattle.interp.specs.declared.frames.Frame.TheVariants as frames
-use Rattle.interp.specs.Frames.{Rest, Others, Rounds, End, Left, Refuses, one_round, gone_back, behind, behind_all, Made, Means, EachMeans, Stacked, ends_in, pending, unwound, Moved, Moves, Stepped, others_by, round_by, rounds_left}
+use Rattle.interp.specs.Frames.{Rest, Others, Rounds, End, Left, Refuses, one_round, gone_back, behind, behind_all, Made, Means, EachMeans}
+use Rattle.interp.specs.Frames.{Stacked, ends_in, pending, unwound, Moved, Moves, Stepped, others_by, round_by, rounds_left}
 use Rattle.interp.specs.Inside.{ended_all}
-use Rattle.expressions.proofs.Evaluating.{follow-after, with_end-after, given_give, given_none, given_rule, given_stop, leads_as, leads_end, leads_further, leads_given, leads_next}
+use Rattle.expressions.proofs.Evaluating.{follow-after, with_end-after, given_give, given_none, given_rule, given_stop, leads_as, leads_end}
+use Rattle.expressions.proofs.Evaluating.{leads_further, leads_given, leads_next}
 
 -- ---- marks that come first
 

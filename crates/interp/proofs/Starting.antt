@@ -1,5 +1,6 @@
 -- How an evaluation begins.
-use Rattle.std.proofs.Common.{◌≡◌, ℕ, ◌<◌, Bool, true, false, List, [], ◌∷◌, length, get_or, IsTrue, Option, Some, None, Result, Ok, Err, IsErrAnd, refl, sym, ap, subst, ◌∙◌, arith}
+use Rattle.std.proofs.Common.{◌≡◌, ℕ, ◌<◌, Bool, true, false, List, [], ◌∷◌, length, get_or, IsTrue, Option, Some, None, Result, Ok, Err}
+use Rattle.std.proofs.Common.{IsErrAnd, refl, sym, ap, subst, ◌∙◌, arith}
 use Rattle.std.specs.Prelude.{codes, slice_get}
 use Rattle.code.specs.Nodes.{tree_at, tree_of}
 use Rattle.code.specs.Statements.{statement_at, statement_tree, statement_within}
@@ -11,8 +12,8 @@ use Rattle.code.proofs.CallerLemmas.{node_opens, statement_opens, statement_part
 use Rattle.code.proofs.Trees.{less}
 use Rattle.expressions.specs.Contexts.{Given, Stand}
 use Rattle.expressions.specs.Codes.{expressions_by, statements_by}
-use Rattle.machine_file.specs.Fault.{told}
-use Rattle.machine_file.specs.Files.{Section}
+use Rattle.machine.specs.machine_file.Fault.{told}
+use Rattle.machine.specs.machine_file.Files.{Section}
 use Rattle.world.specs.Details.{refuse_about}
 use Rattle.world.specs.Settings.{SettingsData}
 use Rattle.world.specs.Start.{first_world}
@@ -29,7 +30,8 @@ use Rattle.world.specs.World.{World, with_facts, with_place}
 use Rattle.world.specs.declared.stop.Stop.{Stop}
 use Rattle.world.specs.declared.stop.Stop.TheVariants as stops
 use Rattle.world.proofs.Follow.{begun, refused_later}
-use Rattle.grammar.specs.Tree.{StatementTree, AssignTree, AppendTree, ValueTree, BreakTree, ContinueTree, IfTree, ForeachTree, Statements, NoStatement, MoreStatements}
+use Rattle.grammar.specs.Tree.{StatementTree, AssignTree, AppendTree, ValueTree, BreakTree, ContinueTree, IfTree, ForeachTree, Statements}
+use Rattle.grammar.specs.Tree.{NoStatement, MoreStatements}
 use Rattle.interp.specs.Beginnings.{Reads, RootGives, Starts, begun_at, line_before, line_unless, other_line}
 use Rattle.interp.specs.Evaluation.{MachineSaid, begins, begins_all, begun_by, defined, evaluation, is_project, sections_of}
 use Rattle.interp.proofs.Blocks.{number_below}

@@ -5,8 +5,8 @@ use Rattle.arguments.specs.Arguments.{ArgumentsData, no_arguments}
 use Rattle.arguments.specs.Disablers.{gives_disabler}
 use Rattle.arguments.specs.Misfits.{checked}
 use Rattle.interp.specs.Rows.{row_of}
-use Rattle.language_names.specs.declared.functions.Function.{Function}
-use Rattle.language_names.specs.declared.functions.Function.TheVariants as functions
+use Rattle.data.specs.declared.language_names.functions.Function.{Function}
+use Rattle.data.specs.declared.language_names.functions.Function.TheVariants as functions
 use Rattle.world.specs.Plan.{Plan, ◌>>=◌, give}
 use Rattle.interp.specs.declared.acting.Action.{Action}
 use Rattle.interp.specs.declared.acting.Action.TheVariants.{Call, Enter, Leave}

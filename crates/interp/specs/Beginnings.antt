@@ -4,8 +4,8 @@ use Rattle.grammar.specs.Tree.{StatementTree, AssignTree, AppendTree, ValueTree,
 use Rattle.grammar.specs.Tree.{NoStatement, MoreStatements}
 use Rattle.basics.specs.View.{fault_view}
 use Rattle.basics.specs.declared.faults.refusal.Refusal.TheVariants as refusals
-use Rattle.machine_file.specs.Fault.{told}
-use Rattle.machine_file.specs.Files.{Section}
+use Rattle.machine.specs.machine_file.Fault.{told}
+use Rattle.machine.specs.machine_file.Files.{Section}
 use Rattle.ports.specs.Outputs.{OutputState}
 use Rattle.world.specs.Deed.{Files}
 use Rattle.world.specs.Gives.{Gives}

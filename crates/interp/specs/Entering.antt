@@ -7,8 +7,8 @@ use Rattle.arguments.specs.Disablers.{gives_disabler}
 use Rattle.arguments.specs.Given.{keyword, text_at}
 use Rattle.arguments.specs.Misfits.{checked}
 use Rattle.interp.specs.Rows.{row_of}
-use Rattle.language_names.specs.declared.functions.Function.{Function}
-use Rattle.language_names.specs.declared.functions.Function.TheVariants as functions
+use Rattle.data.specs.declared.language_names.functions.Function.{Function}
+use Rattle.data.specs.declared.language_names.functions.Function.TheVariants as functions
 use Rattle.world.specs.Plan.{Plan, ◌>>=◌, give, at}
 use Rattle.interp.specs.declared.acting.Action.{Action}
 use Rattle.interp.specs.declared.acting.Action.TheVariants.{Call, Enter, Leave}

@@ -5,8 +5,8 @@ use Rattle.grammar.specs.Tree.{StatementTree, AssignTree, AppendTree, ValueTree,
 use Rattle.grammar.specs.Tree.{NoStatement, MoreStatements}
 use Rattle.basics.specs.declared.faults.refusal.Refusal.TheVariants as refusals
 use Rattle.world.specs.Details.{refuse_about}
-pub use Rattle.machine_file.specs.Answers.{IsSaid, MachineSaid}
-use Rattle.machine_file.specs.Files.{Section}
+pub use Rattle.machine.specs.machine_file.Answers.{IsSaid, MachineSaid}
+use Rattle.machine.specs.machine_file.Files.{Section}
 use Rattle.world.specs.Deed.{Files}
 use Rattle.world.specs.Plan.{Plan, carry, deed, ruled, ◌>>=◌, give, refuse}
 use Rattle.world.specs.Run.{Run}

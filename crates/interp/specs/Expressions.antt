@@ -7,13 +7,13 @@ use Rattle.grammar.specs.ExpressionTree.{LinkTrees, NoLink, MoreLinks, OperandTr
 use Rattle.data.specs.declared.object.Object.{Object}
 use Rattle.data.specs.Data.{Data, Items, no_items, item, items_append, boolean_in, object_in, is_disabler}
 use Rattle.basics.specs.declared.faults.refusal.Refusal.TheVariants as refusals
-use Rattle.operators.specs.Operations.{disabler}
-use Rattle.methods.specs.Methods.{has_name}
+use Rattle.operations.specs.operators.Operations.{disabler}
+use Rattle.operations.specs.methods.Methods.{has_name}
 use Rattle.arguments.specs.Arguments.{ArgumentsData, no_arguments, with_argument}
 use Rattle.arguments.specs.Disablers.{gives_disabler}
 use Rattle.interp.specs.Functions.{call}
-use Rattle.language_calls.specs.Turning.{is_turned_off}
-use Rattle.language_names.specs.declared.functions.Function.{Function}
+use Rattle.calls.specs.language_calls.Turning.{is_turned_off}
+use Rattle.data.specs.declared.language_names.functions.Function.{Function}
 use Rattle.objects.specs.Left.{is_left_out as is_left_out_method}
 use Rattle.objects.specs.Methods.{has_method as has_object_method, object_method}
 use Rattle.world.specs.Plan.{Plan, deed, ruled, ◌>>=◌, give, at, refuse}

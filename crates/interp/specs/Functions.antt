@@ -5,21 +5,21 @@ use Rattle.arguments.specs.Arguments.{ArgumentsData}
 use Rattle.arguments.specs.Disablers.{gives_disabler}
 use Rattle.basics.specs.declared.faults.refusal.Refusal.TheVariants as refusals
 use Rattle.arguments.specs.Row.{RowData}
-use Rattle.configuration_calls.specs.ConfigureFile.{has_meson_format}
-use Rattle.configuration_calls.specs.Rows.{other_format_row}
+use Rattle.objects.specs.configuration_calls.ConfigureFile.{has_meson_format}
+use Rattle.objects.specs.configuration_calls.Rows.{other_format_row}
 use Rattle.world.specs.Deed.{Deed, give, ◌>>=◌, need}
 use Rattle.world.specs.Fit.{fit}
-use Rattle.language_calls.specs.Disablers.{give_disabler, tell_disabler}
-use Rattle.language_calls.specs.JoinPaths.{join_paths}
-use Rattle.language_calls.specs.Messages.{message, warning, error, assert}
+use Rattle.calls.specs.language_calls.Disablers.{give_disabler, tell_disabler}
+use Rattle.calls.specs.language_calls.JoinPaths.{join_paths}
+use Rattle.calls.specs.language_calls.Messages.{message, warning, error, assert}
 use Rattle.interp.specs.ProjectFunctions.{project_function}
-use Rattle.project_calls.specs.Project.{project}
-use Rattle.language_calls.specs.Range.{range}
+use Rattle.calls.specs.project_calls.Project.{project}
+use Rattle.calls.specs.language_calls.Range.{range}
 use Rattle.interp.specs.Rows.{row_of}
-use Rattle.language_calls.specs.Variables.{set_variable, get_variable, is_variable, unset_variable}
-use Rattle.language_names.specs.declared.functions.Function.{Function}
-use Rattle.language_names.specs.declared.functions.Function.TheVariants as functions
-use Rattle.language_calls.specs.Turning.{makes_file}
+use Rattle.calls.specs.language_calls.Variables.{set_variable, get_variable, is_variable, unset_variable}
+use Rattle.data.specs.declared.language_names.functions.Function.{Function}
+use Rattle.data.specs.declared.language_names.functions.Function.TheVariants as functions
+use Rattle.calls.specs.language_calls.Turning.{makes_file}
 
 -- what a function does with arguments that its row has let through: a value, or none
 abbrev pub does : Function → ArgumentsData → Deed (Option Data)

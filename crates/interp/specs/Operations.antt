@@ -2,8 +2,8 @@
 use Rattle.std.specs.Prelude.{Option, Some, None}
 use Rattle.data.specs.Data.{Data}
 use Rattle.data.specs.View.{data_of}
-use Rattle.operators.specs.declared.logic.Left.{Left}
-use Rattle.operators.specs.declared.logic.Left.TheVariants.{Decides, Open}
+use Rattle.operations.specs.declared.operators.logic.Left.{Left}
+use Rattle.operations.specs.declared.operators.logic.Left.TheVariants.{Decides, Open}
 
 -- what the left side of `and` or `or` decided
 abbrev pub left_view : Left → Option Data

@@ -3,11 +3,11 @@ use Rattle.std.specs.Prelude.{Option}
 use Rattle.data.specs.Data.{Data}
 use Rattle.arguments.specs.Arguments.{ArgumentsData}
 use Rattle.arguments.specs.Row.{RowData}
-use Rattle.configuration_calls.specs.ConfigurationData.{configuration_data}
-use Rattle.configuration_calls.specs.ConfigureFile.{configure_file}
-use Rattle.configuration_calls.specs.Rows.{configuration_data_row, configure_file_row}
-use Rattle.project_calls.specs.GetOption.{get_option}
-use Rattle.project_calls.specs.Rows.{get_option_row}
+use Rattle.objects.specs.configuration_calls.ConfigurationData.{configuration_data}
+use Rattle.objects.specs.configuration_calls.ConfigureFile.{configure_file}
+use Rattle.objects.specs.configuration_calls.Rows.{configuration_data_row, configure_file_row}
+use Rattle.calls.specs.project_calls.GetOption.{get_option}
+use Rattle.calls.specs.project_calls.Rows.{get_option_row}
 use Rattle.resource_calls.specs.DeclareDependency.{declare_dependency}
 use Rattle.resource_calls.specs.Dependency.{dependency}
 use Rattle.resource_calls.specs.Installs.{install}
@@ -24,8 +24,8 @@ use Rattle.target_calls.specs.Rows.{target_row}
 use Rattle.target_calls.specs.Targets.{declare, library}
 use Rattle.targets.specs.declared.target.Kind.TheVariants as kinds
 use Rattle.world.specs.Deed.{Deed}
-use Rattle.language_names.specs.declared.functions.ProjectFunction.{ProjectFunction}
-use Rattle.language_names.specs.declared.functions.ProjectFunction.TheVariants as functions
+use Rattle.data.specs.declared.language_names.functions.ProjectFunction.{ProjectFunction}
+use Rattle.data.specs.declared.language_names.functions.ProjectFunction.TheVariants as functions
 
 -- what a function takes
 abbrev pub project_function_row : ProjectFunction → RowData

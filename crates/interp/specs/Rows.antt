@@ -4,10 +4,10 @@ use Rattle.arguments.specs.declared.row.Kind.TheVariants.{Any, Boolean, Integer,
 use Rattle.arguments.specs.Row.{RowData}
 use Rattle.arguments.specs.Rows.{any_values, some_texts, values}
 use Rattle.interp.specs.ProjectFunctions.{project_function_row}
-use Rattle.project_calls.specs.Rows.{project_row}
-use Rattle.language_calls.specs.Rows.{subdir_row}
-use Rattle.language_names.specs.declared.functions.Function.{Function}
-use Rattle.language_names.specs.declared.functions.Function.TheVariants as functions
+use Rattle.calls.specs.project_calls.Rows.{project_row}
+use Rattle.calls.specs.language_calls.Rows.{subdir_row}
+use Rattle.data.specs.declared.language_names.functions.Function.{Function}
+use Rattle.data.specs.declared.language_names.functions.Function.TheVariants as functions
 
 abbrev pub row_of : Function → RowData
 row_of functions.Assert = values (Boolean ∷ Text ∷ []) 1

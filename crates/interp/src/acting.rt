@@ -15,7 +15,7 @@ use crate::rows::row;
 use arguments::{Arguments, are_found, check, gives_disabler};
 use code::Code;
 use code::node::ArgumentNode;
-use language_names::{Function, FunctionName};
+use data::language_names::{Function, FunctionName};
 use ports::{Outputs, Tree};
 use std::alloc::{AllocError, Global};
 use std::sync::ledger::Ledger;

@@ -1,7 +1,7 @@
 //! A whole evaluation.
 ghost use Rattle.std.specs.Prelude.{Bool, ◌≡◌, ℕ, [], IfOk, length};
 ghost use Rattle.std.specs.Rc.{rc_value};
-ghost use Rattle.machine_file.specs.View.{machine_in};
+ghost use Rattle.machine.specs.machine_file.View.{machine_in};
 ghost use Rattle.ports.specs.Endings.{HasRoom};
 ghost use Rattle.world.specs.Prelude.{Files, Holds, failures_after, settings_view};
 ghost use Rattle.world.specs.Trace.{seen};
@@ -18,7 +18,7 @@ use arguments::no_arguments;
 use basics::faults::Refusal;
 use code::Code;
 use expressions::Context;
-use machine_file::Machine;
+use machine::machine_file::Machine;
 use ports::{Outputs, Tree};
 use std::alloc::Global;
 use std::rc::Rc;

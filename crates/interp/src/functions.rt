@@ -9,15 +9,15 @@ use crate::project_functions::project_function;
 use crate::rows::row;
 use arguments::{Arguments, Row, gives_disabler};
 use basics::faults::Refusal;
-use configuration_calls::{has_meson_format, other_format_row};
-use data::Value;
-use language_calls::{
+use calls::language_calls::{
     assert, disabler, error, get_variable, is_disabler, is_variable, join_paths, makes_file,
     message, range, set_variable, unset_variable, warning,
 };
-use language_names::Function;
+use calls::project_calls::project;
+use data::Value;
+use data::language_names::Function;
+use objects::configuration_calls::{has_meson_format, other_format_row};
 use ports::{Outputs, Tree};
-use project_calls::project;
 use world::{Caller, Stop};
 
 // What the function takes beside these arguments: `configure_file` with another format than `'meson'` is told by a row of its own.

@@ -16,7 +16,7 @@ use code::Code;
 use code::node::{ArgumentNode, CallNode, EntryNode, LinkNode, Node, OperandNode};
 use data::Value;
 use expressions::{Meaning, meaning_of};
-use operators::{Left, right_side};
+use operations::operators::{Left, right_side};
 use ports::{Outputs, Tree};
 use std::mem;
 use std::sync::ledger::Ledger;

@@ -1,14 +1,14 @@
 //! The operators of a chain.
 ghost use Rattle.std.specs.Prelude.{◌≡◌, ℕ};
-ghost use Rattle.operators.specs.Logic.{left_answer};
-ghost use Rattle.operators.specs.Operations.{binary_answer};
+ghost use Rattle.operations.specs.operators.Logic.{left_answer};
+ghost use Rattle.operations.specs.operators.Operations.{binary_answer};
 ghost use Rattle.world.specs.Prelude.{data_of, failures_after};
 ghost use Rattle.world.specs.Plan.{answered};
 ghost use Rattle.interp.specs.Operations.{left_view};
 
 use crate::evaluator::Evaluator;
 use data::Value;
-use operators::{Binary, Connective, Left, binary, left_side};
+use operations::operators::{Binary, Connective, Left, binary, left_side};
 use ports::{Outputs, Tree};
 use std::sync::ledger::Ledger;
 use world::{Stop, of_operation};

@@ -5,13 +5,13 @@ ghost use Rattle.world.specs.Prelude.{Does, MayFail, arguments_data, data_of};
 ghost use Rattle.interp.specs.ProjectFunctions.{project_function, project_function_row};
 
 use arguments::{Arguments, Row};
-use configuration_calls::{
+use calls::project_calls::{get_option, get_option_row};
+use data::Value;
+use data::language_names::ProjectFunction;
+use objects::configuration_calls::{
     configuration_data, configuration_data_row, configure_file, configure_file_row,
 };
-use data::Value;
-use language_names::ProjectFunction;
 use ports::{Outputs, Tree};
-use project_calls::{get_option, get_option_row};
 use resource_calls::{
     Sort, declare_dependency, declare_dependency_row, dependency, dependency_row, find_program,
     find_program_row, install, install_data_row, install_headers_row, install_man_row, test,

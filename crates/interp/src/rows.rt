@@ -5,9 +5,9 @@ ghost use Rattle.interp.specs.Rows.{row_of};
 
 use crate::project_functions::project_function_row;
 use arguments::{Kind, Row, any_values, some_texts, values};
-use language_calls::subdir_row;
-use language_names::Function;
-use project_calls::project_row;
+use calls::language_calls::subdir_row;
+use calls::project_calls::project_row;
+use data::language_names::Function;
 
 /// What a function takes.
 pub fn row(function: Function) -> Row

@@ -1,12 +1,14 @@
 -- Numbers are made of what words go on with.
-use Rattle.std.proofs.Common.{◌≡◌, ◌≢◌, ℕ, ◌-◌, ◌≤◌, ◌<◌, true, false, List, [], ◌∷◌, length, take, drop, get_or, refl, sym, ap, subst, ◌∙◌, inl, inr, arith}
+use Rattle.std.proofs.Common.{◌≡◌, ◌≢◌, ℕ, ◌-◌, ◌≤◌, ◌<◌, true, false, List, [], ◌∷◌, length, take, drop, get_or, refl, sym, ap, subst, ◌∙◌}
+use Rattle.std.proofs.Common.{inl, inr, arith}
 use Rattle.std.specs.Prelude.{◌==◌, ◌||◌}
 use Rattle.std.specs.Char.{is_ascii_digit, is_ascii_hexdigit}
 use Rattle.std.specs.List.{list_all}
 use Rattle.std.proofs.lemmas.Bool.{eqb-true, eq-eqb, cases_Bool, or_right, ne_eqb, cond-true, cond-false}
 use Rattle.std.proofs.lemmas.Bool.Decides.{nat_tests}
 use Rattle.lexer.specs.Bytes.{digit_zero, is_letter, continues_word}
-use Rattle.lexer.specs.Numbers.{lower_x, upper_x, lower_o, upper_o, lower_b, upper_b, is_octal_digit, is_binary_digit, is_digit_of, is_behind_zero, is_number}
+use Rattle.lexer.specs.Numbers.{lower_x, upper_x, lower_o, upper_o, lower_b, upper_b, is_octal_digit, is_binary_digit, is_digit_of}
+use Rattle.lexer.specs.Numbers.{is_behind_zero, is_number}
 use Rattle.lexer.proofs.Runs.{all_both, all_first, all_weaker, take_all, first_holds}
 
 -- ---- digits

@@ -1,12 +1,14 @@
 -- An escape that is read is one, and there is no other there.
-use Rattle.std.proofs.Common.{◌≡◌, ℕ, zero, suc, ◌+◌, ◌*◌, ◌≤◌, ◌<◌, Bool, true, false, List, [], ◌∷◌, ◌++◌, length, take, drop, refl, sym, ap, subst, ◌∙◌, inl, inr, arith, Option, Some, None}
+use Rattle.std.proofs.Common.{◌≡◌, ℕ, zero, suc, ◌+◌, ◌*◌, ◌≤◌, ◌<◌, Bool, true, false, List, [], ◌∷◌, ◌++◌, length, take, drop, refl, sym}
+use Rattle.std.proofs.Common.{ap, subst, ◌∙◌, inl, inr, arith, Option, Some, None}
 use Rattle.std.specs.Prelude.{not, fold}
 use Rattle.std.specs.Char.{is_digit, digit_value}
 use Rattle.std.specs.List.{list_all}
 use Rattle.std.proofs.lemmas.Bool.Decides.{nat_tests}
 use Rattle.std.proofs.lemmas.List.{take-append-drop, length-take-le}
 use Rattle.std.proofs.lemmas.Bool.{cases_Bool, cond-true, cond-false}
-use Rattle.lexer.specs.Escapes.{control, digit_count, hexadecimal, octal, sized, named, escape_at, is_character, names_none, is_bad_escape, NamesCharacters, begins_octal, IsEscape, alone, sixteen, eight}
+use Rattle.lexer.specs.Escapes.{control, digit_count, hexadecimal, octal, sized, named, escape_at, is_character, names_none, is_bad_escape}
+use Rattle.lexer.specs.Escapes.{NamesCharacters, begins_octal, IsEscape, alone, sixteen, eight}
 use Rattle.lexer.specs.Numbers.{is_octal_digit}
 use Rattle.lexer.proofs.Runs.{all_both, all_first}
 use Rattle.lexer.proofs.Texts.{hex_ends, sized_some}

@@ -1,5 +1,6 @@
 -- The text that is made of a token is the one that it stands for.
-use Rattle.std.proofs.Common.{◌≡◌, ℕ, zero, suc, false, List, [], ◌∷◌, ◌++◌, length, take, drop, refl, sym, ap, subst, ◌∙◌, inl, inr, lit<, Option, Some, None}
+use Rattle.std.proofs.Common.{◌≡◌, ℕ, zero, suc, false, List, [], ◌∷◌, ◌++◌, length, take, drop, refl, sym, ap, subst, ◌∙◌, inl, inr, lit<}
+use Rattle.std.proofs.Common.{Option, Some, None}
 use Rattle.std.specs.Prelude.{◌==◌, encode_utf8}
 use Rattle.std.proofs.Math.Seq.{drop-append_seam}
 use Rattle.std.proofs.lemmas.Bool.{eqb-true, cases_Bool, not-true, not_from_false, cond-true, cond-false}

@@ -1,5 +1,6 @@
 -- Files one after another.
-use Rattle.std.proofs.Common.{◌≡◌, ℕ, ◌+◌, ◌<◌, false, List, [], ◌∷◌, ◌++◌, map, drop, length, get_or, Result, Ok, String, Global, string_bytes, refl, sym, ap, ◌∙◌}
+use Rattle.std.proofs.Common.{◌≡◌, ℕ, ◌+◌, ◌<◌, false, List, [], ◌∷◌, ◌++◌, map, drop, length, get_or, Result, Ok, String, Global}
+use Rattle.std.proofs.Common.{string_bytes, refl, sym, ap, ◌∙◌}
 use Rattle.std.proofs.lemmas.List.{at_drop_more}
 use Rattle.data.specs.Data.{object, Items, no_items, item, items_append}
 use Rattle.data.specs.Limits.{within_bytes}

@@ -4,3 +4,6 @@ pub mod Numbers
 pub mod Places
 pub mod Steps
 pub mod Unmarked
+pub mod Assigned
+pub mod Digits
+pub mod Within

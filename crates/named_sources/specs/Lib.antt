@@ -11,3 +11,4 @@ pub mod Unnamed
 pub mod Values
 pub mod ValuesView
 pub mod Versions
+pub mod resources

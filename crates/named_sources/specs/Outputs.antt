@@ -1,6 +1,6 @@
 -- The outputs of the targets so far.
 use Rattle.std.specs.Prelude.{ℕ, List, Option, option_map, option_and_then, slice_get}
-use Rattle.edge.specs.Texts.{Path}
+use Rattle.targets.specs.edge.Texts.{Path}
 use Rattle.targets.specs.Libraries.{LinkedData}
 
 -- the outputs of the target with a number

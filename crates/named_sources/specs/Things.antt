@@ -3,7 +3,7 @@ use Rattle.std.specs.Prelude.{Bool, List, Option, Some, None, option_map}
 use Rattle.data.specs.declared.object.Object.{Object}
 use Rattle.data.specs.declared.object.Object.TheVariants as objects
 use Rattle.data.specs.declared.object.Program.{Program}
-use Rattle.edge.specs.Texts.{Path}
+use Rattle.targets.specs.edge.Texts.{Path}
 use Rattle.targets.specs.Data.{BuildData}
 use Rattle.targets.specs.Libraries.{LinkedData, build_at}
 use Rattle.named_sources.specs.Outputs.{output_at, outputs_at}

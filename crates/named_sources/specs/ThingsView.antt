@@ -1,5 +1,5 @@
 -- Things, without where they lie in memory.
-use Rattle.edge.specs.Texts.{texts}
+use Rattle.targets.specs.edge.Texts.{texts}
 use Rattle.targets.specs.View.{build_view}
 use Rattle.named_sources.specs.Things.{ThingData, a_file, a_program, a_target, all_outputs, an_output}
 use Rattle.named_sources.specs.declared.things.Thing.{Thing}

@@ -1,6 +1,6 @@
 //! What the arguments of a call that declares a target name: sources, folders, libraries, a version, and outputs of the targets so far; and
 //! what the placeholders in the texts of a custom target stand for, as `@INPUT@` and `@BASENAME@` (the Reference manual's `custom_target`).
-//! Nothing is asked of the tree here.
+//! Nothing is asked of the tree here. What a project takes from outside and gives away is of [`resources`].
 #![tactic(auto)]
 
 mod filling;
@@ -9,6 +9,7 @@ mod holes;
 mod keywords;
 mod libraries;
 mod outputs;
+pub mod resources;
 mod sources;
 mod things;
 mod unnamed;

@@ -1,6 +1,6 @@
 //! The outputs of the targets so far.
 ghost use Rattle.std.specs.Prelude.{◌≡◌, option_map};
-ghost use Rattle.edge.specs.Texts.{texts};
+ghost use Rattle.targets.specs.edge.Texts.{texts};
 ghost use Rattle.named_sources.specs.Outputs.{output_at, outputs_at};
 ghost use Rattle.targets.specs.LinkedViews.{linked_views};
 

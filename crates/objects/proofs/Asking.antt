@@ -1,9 +1,9 @@
 -- Questions of checks, whose texts are those of a call.
 use Rattle.std.proofs.Common.{◌≡◌, ℕ, List, Result, subst}
 use Rattle.arguments.specs.Arguments.{ArgumentsData}
-use Rattle.machine_file.specs.Files.{Section}
-use Rattle.machine_file.specs.Questions.{answer_to, check_topic}
-use Rattle.resources.specs.Beside.{call_question}
+use Rattle.machine.specs.machine_file.Files.{Section}
+use Rattle.machine.specs.machine_file.Questions.{answer_to, check_topic}
+use Rattle.named_sources.specs.resources.Beside.{call_question}
 use Rattle.world.specs.Answering.{State, Carries}
 use Rattle.world.specs.Deed.{consult}
 use Rattle.world.specs.declared.stop.Stop.{Stop}

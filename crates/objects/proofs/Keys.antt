@@ -1,7 +1,7 @@
 -- Questions of a machine, whose key is that of a method.
 use Rattle.std.proofs.Common.{◌≡◌, ℕ, List, Result, subst}
-use Rattle.machine_file.specs.Files.{Section}
-use Rattle.machine_file.specs.Questions.{Key, answer_to, plain}
+use Rattle.machine.specs.machine_file.Files.{Section}
+use Rattle.machine.specs.machine_file.Questions.{Key, answer_to, plain}
 use Rattle.world.specs.Answering.{State, Carries}
 use Rattle.world.specs.Deed.{consult}
 use Rattle.world.specs.declared.stop.Stop.{Stop}

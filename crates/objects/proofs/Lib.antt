@@ -5,3 +5,8 @@ pub mod Others
 pub mod Outputs
 pub mod Keys
 pub mod At
+pub mod Data
+pub mod Filling
+pub mod Quotes
+pub mod Telling
+pub mod NameOrders

@@ -6,7 +6,7 @@ use Rattle.arguments.specs.Given.{text_or_none}
 use Rattle.data.specs.Data.{Data, Items, items_append}
 use Rattle.data.specs.View.{data_of}
 use Rattle.data.specs.declared.value.Value.{Value}
-use Rattle.machine_file.specs.Questions.{plain}
+use Rattle.machine.specs.machine_file.Questions.{plain}
 use Rattle.world.specs.Deed.{consult, give, then}
 use Rattle.objects.specs.CompilerMethods.{kept, supported}
 use Rattle.objects.specs.CompilerSaid.{argument_topic}

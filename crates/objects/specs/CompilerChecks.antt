@@ -11,9 +11,9 @@ use Rattle.data.specs.declared.object.Object.TheVariants as objects
 use Rattle.data.specs.declared.refusal.Refusal.{Refusal}
 use Rattle.data.specs.declared.refusal.Refusal.TheVariants as operations
 use Rattle.basics.specs.declared.faults.refusal.Refusal.TheVariants as refusals
-use Rattle.machine_file.specs.Questions.{check_topic}
-use Rattle.resources.specs.Beside.{call_question}
-use Rattle.resources.specs.Found.{found, missing}
+use Rattle.machine.specs.machine_file.Questions.{check_topic}
+use Rattle.named_sources.specs.resources.Beside.{call_question}
+use Rattle.named_sources.specs.resources.Found.{found, missing}
 use Rattle.world.specs.Deed.{Deed, give, consult, ◌>>=◌, answered, need}
 use Rattle.objects.specs.CompilerSaid.{is_true}
 

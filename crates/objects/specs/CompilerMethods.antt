@@ -7,16 +7,16 @@ use Rattle.arguments.specs.Leaves.{leaves_from}
 use Rattle.data.specs.Data.{Data, integer, list, text, Items, no_items, item, items_append}
 use Rattle.data.specs.Limits.{within}
 use Rattle.basics.specs.declared.faults.refusal.Refusal.TheVariants as refusals
-use Rattle.machine_file.specs.Questions.{Answer, check_topic, plain}
-use Rattle.resources.specs.Beside.{call_question}
+use Rattle.machine.specs.machine_file.Questions.{Answer, check_topic, plain}
+use Rattle.named_sources.specs.resources.Beside.{call_question}
 use Rattle.world.specs.Deed.{Deed, give, refuse, consult, ◌>>=◌, answered}
 use Rattle.world.specs.Fit.{fit}
 use Rattle.objects.specs.CompilerChecks.{check, find_library}
-use Rattle.language_names.specs.ObjectMethods.{compiler_method_named}
+use Rattle.data.specs.language_names.ObjectMethods.{compiler_method_named}
 use Rattle.objects.specs.CompilerRows.{row_of}
 use Rattle.objects.specs.CompilerSaid.{argument_topic, id_of, id_topic, is_true, number_of, version_of, version_topic}
-use Rattle.language_names.specs.declared.object_methods.CompilerMethod.{CompilerMethod}
-use Rattle.language_names.specs.declared.object_methods.CompilerMethod.TheVariants as methods
+use Rattle.data.specs.declared.language_names.object_methods.CompilerMethod.{CompilerMethod}
+use Rattle.data.specs.declared.language_names.object_methods.CompilerMethod.TheVariants as methods
 
 -- `get_id()`
 unfoldable pub get_id : Deed (Option Data)

@@ -1,8 +1,8 @@
 -- What the machine file says in place of a compiler that is asked.
 use Rattle.std.specs.Prelude.{ℕ, ℤ, negsuc, Bool, false, List, [], ◌∷◌, unwrap_or, codes}
 use Rattle.std.specs.Option.{option_and_then}
-use Rattle.machine_file.specs.Questions.{Answer, Topic, Key, check_topic, value_of_answer}
-use Rattle.machine_file.specs.Readers.{boolean_said, integer_said, text_said}
+use Rattle.machine.specs.machine_file.Questions.{Answer, Topic, Key, check_topic, value_of_answer}
+use Rattle.machine.specs.machine_file.Readers.{boolean_said, integer_said, text_said}
 
 -- which compiler it is, and its version: `id` and `version` of `[compiler]`
 abbrev pub id_topic : Topic

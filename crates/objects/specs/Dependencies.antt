@@ -5,9 +5,9 @@ use Rattle.data.specs.Limits.{within}
 use Rattle.data.specs.declared.object.Dependency.{Dependency}
 use Rattle.data.specs.declared.refusal.Refusal.{Refusal}
 use Rattle.data.specs.declared.refusal.Refusal.TheVariants as refusal
-use Rattle.language_names.specs.declared.object_methods.DependencyMethod.{DependencyMethod}
-use Rattle.language_names.specs.declared.object_methods.DependencyMethod.TheVariants.{Found, Name, Version}
-use Rattle.language_names.specs.ObjectMethods.{dependency_method_named}
+use Rattle.data.specs.declared.language_names.object_methods.DependencyMethod.{DependencyMethod}
+use Rattle.data.specs.declared.language_names.object_methods.DependencyMethod.TheVariants.{Found, Name, Version}
+use Rattle.data.specs.language_names.ObjectMethods.{dependency_method_named}
 
 -- the version, `unknown` where it is not found
 abbrev pub version_of : Dependency → Result Data Refusal

@@ -5,9 +5,9 @@ use Rattle.data.specs.declared.object.Feature.{Feature}
 use Rattle.data.specs.declared.object.Feature.TheVariants as features
 use Rattle.data.specs.declared.refusal.Refusal.{Refusal}
 use Rattle.data.specs.declared.refusal.Refusal.TheVariants as refusal
-use Rattle.language_names.specs.declared.object_methods.FeatureMethod.{FeatureMethod}
-use Rattle.language_names.specs.declared.object_methods.FeatureMethod.TheVariants.{Allowed, Auto, Disabled, Enabled}
-use Rattle.language_names.specs.ObjectMethods.{feature_method_named}
+use Rattle.data.specs.declared.language_names.object_methods.FeatureMethod.{FeatureMethod}
+use Rattle.data.specs.declared.language_names.object_methods.FeatureMethod.TheVariants.{Allowed, Auto, Disabled, Enabled}
+use Rattle.data.specs.language_names.ObjectMethods.{feature_method_named}
 
 abbrev pub is_enabled : Feature → Bool
 is_enabled features.Enabled = true

@@ -12,3 +12,4 @@ pub mod Methods
 pub mod Programs
 pub mod Rows
 pub mod Targets
+pub mod configuration_calls

@@ -6,12 +6,12 @@ use Rattle.basics.specs.declared.faults.refusal.Refusal.TheVariants as refusals
 use Rattle.objects.specs.CompilerSaid.{said_or}
 use Rattle.data.specs.Data.{Data, text}
 use Rattle.data.specs.Limits.{within}
-use Rattle.machine_file.specs.Questions.{Topic, Key, plain}
-use Rattle.language_names.specs.declared.object_methods.MachineMethod.{MachineMethod}
-use Rattle.language_names.specs.declared.object_methods.MachineMethod.TheVariants.{Cpu, CpuFamily, Endian, System}
+use Rattle.machine.specs.machine_file.Questions.{Topic, Key, plain}
+use Rattle.data.specs.declared.language_names.object_methods.MachineMethod.{MachineMethod}
+use Rattle.data.specs.declared.language_names.object_methods.MachineMethod.TheVariants.{Cpu, CpuFamily, Endian, System}
 use Rattle.world.specs.Deed.{Deed, give, refuse, consult, ◌>>=◌, answered}
 use Rattle.world.specs.Fit.{fit}
-use Rattle.language_names.specs.ObjectMethods.{machine_method_named}
+use Rattle.data.specs.language_names.ObjectMethods.{machine_method_named}
 
 -- the method's key in the section `host_machine` of the machine file
 abbrev pub key_of : MachineMethod → List ℕ

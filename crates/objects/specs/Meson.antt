@@ -9,9 +9,9 @@ use Rattle.data.specs.declared.refusal.Refusal.{Refusal}
 use Rattle.data.specs.declared.refusal.Refusal.TheVariants as refusal
 use Rattle.paths.specs.Below.{path_below}
 use Rattle.world.specs.World.{Facts}
-use Rattle.language_names.specs.declared.object_methods.MesonMethod.{MesonMethod}
-use Rattle.language_names.specs.declared.object_methods.MesonMethod.TheVariants as methods
-use Rattle.language_names.specs.ObjectMethods.{meson_method_named}
+use Rattle.data.specs.declared.language_names.object_methods.MesonMethod.{MesonMethod}
+use Rattle.data.specs.declared.language_names.object_methods.MesonMethod.TheVariants as methods
+use Rattle.data.specs.language_names.ObjectMethods.{meson_method_named}
 
 -- a folder of the tree below a root; the root folder is the root itself
 abbrev pub folder_below : List ℕ → List ℕ → List ℕ

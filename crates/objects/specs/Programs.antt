@@ -6,9 +6,9 @@ use Rattle.data.specs.declared.object.Program.{Program}
 use Rattle.data.specs.declared.object.Program.TheVariants as programs
 use Rattle.data.specs.declared.refusal.Refusal.{Refusal}
 use Rattle.data.specs.declared.refusal.Refusal.TheVariants as refusal
-use Rattle.language_names.specs.declared.object_methods.ProgramMethod.{ProgramMethod}
-use Rattle.language_names.specs.declared.object_methods.ProgramMethod.TheVariants.{Found, FullPath}
-use Rattle.language_names.specs.ObjectMethods.{program_method_named}
+use Rattle.data.specs.declared.language_names.object_methods.ProgramMethod.{ProgramMethod}
+use Rattle.data.specs.declared.language_names.object_methods.ProgramMethod.TheVariants.{Found, FullPath}
+use Rattle.data.specs.language_names.ObjectMethods.{program_method_named}
 use Rattle.paths.specs.Below.{path_below}
 
 abbrev pub is_found : Program → Bool

@@ -7,16 +7,16 @@ use Rattle.data.specs.Limits.{within}
 use Rattle.data.specs.declared.object.Object.TheVariants as objects
 use Rattle.data.specs.declared.refusal.Refusal.{Refusal}
 use Rattle.data.specs.declared.refusal.Refusal.TheVariants as refusal
-use Rattle.edge.specs.Texts.{Path, Text}
+use Rattle.targets.specs.edge.Texts.{Path, Text}
 use Rattle.paths.specs.Below.{path_below}
 use Rattle.targets.specs.Data.{TargetData, Build, Custom}
 use Rattle.paths.specs.Paths.{path_in}
 use Rattle.targets.specs.Files.{file_path}
 use Rattle.targets.specs.Libraries.{LinkedData, linked_of}
 use Rattle.world.specs.World.{Facts}
-use Rattle.language_names.specs.declared.object_methods.TargetMethod.{TargetMethod}
-use Rattle.language_names.specs.declared.object_methods.TargetMethod.TheVariants.{FullPath, Name, ToList}
-use Rattle.language_names.specs.ObjectMethods.{build_target_method_named, custom_target_method_named, output_method_named}
+use Rattle.data.specs.declared.language_names.object_methods.TargetMethod.{TargetMethod}
+use Rattle.data.specs.declared.language_names.object_methods.TargetMethod.TheVariants.{FullPath, Name, ToList}
+use Rattle.data.specs.language_names.ObjectMethods.{build_target_method_named, custom_target_method_named, output_method_named}
 
 -- ---- names
 

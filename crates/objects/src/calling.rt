@@ -7,6 +7,7 @@ ghost use Rattle.objects.specs.Methods.{breaking, has_method, object_method, rul
 ghost use Rattle.objects.specs.Rows.{row_of};
 
 use crate::compiler::{compiler_method, has_compiler_method};
+use crate::configuration_calls::{configuration_method, has_configuration_method};
 use crate::dependencies::dependency_answer;
 use crate::features::feature_answer;
 use crate::machines::machine_answer;
@@ -14,9 +15,8 @@ use crate::meson_object::meson_answer;
 use crate::programs::program_answer;
 use crate::target_methods::{build_answer, custom_answer, output_answer};
 use arguments::{Arguments, Kind, Row, Rule};
-use configuration_calls::{configuration_method, has_configuration_method};
+use data::language_names::MethodName;
 use data::{Object, Refusal, Value};
-use language_names::MethodName;
 use ports::{Outputs, Tree};
 use std::alloc::{AllocError, Global};
 use world::{Caller, Stop, Store};

@@ -3,8 +3,8 @@ ghost use Rattle.std.specs.Prelude.{IfOk};
 ghost use Rattle.world.specs.Prelude.{Answers};
 ghost use Rattle.objects.specs.Dependencies.{answer, version_of};
 
+use data::language_names::{DependencyMethod, MethodName};
 use data::{Dependency, Refusal, Value};
-use language_names::{DependencyMethod, MethodName};
 use std::alloc::{AllocError, Global};
 
 fn version_of(alloc: Global, dependency: &Dependency) -> Result<Result<Value, Refusal>, AllocError>

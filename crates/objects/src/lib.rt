@@ -1,4 +1,4 @@
-//! The methods of objects: the pages "Reference manual" of their types.
+//! The methods of objects: the pages "Reference manual" of their types; and the functions that make configuration data and files of it.
 //!
 //! What a method does is a deed of `specs/`, and its code carries it out on a [`world::Caller`]. A name is looked up before the
 //! arguments are evaluated, by [`has_object_method`] and [`is_left_out_method`].
@@ -6,6 +6,7 @@
 
 mod calling;
 mod compiler;
+pub mod configuration_calls;
 mod dependencies;
 mod features;
 mod left;

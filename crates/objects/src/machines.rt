@@ -1,16 +1,16 @@
 //! The methods of a machine: the type `build_machine` of the page "Reference manual".
 ghost use Rattle.std.specs.Prelude.{◌≡◌, option_map};
 ghost use Rattle.objects.specs.CompilerSaid.{said_or};
-ghost use Rattle.machine_file.specs.Questions.{answer_to};
-ghost use Rattle.machine_file.specs.View.{machine_in};
-ghost use Rattle.language_names.specs.ObjectMethods.{machine_method_named};
+ghost use Rattle.machine.specs.machine_file.Questions.{answer_to};
+ghost use Rattle.machine.specs.machine_file.View.{machine_in};
+ghost use Rattle.data.specs.language_names.ObjectMethods.{machine_method_named};
 ghost use Rattle.world.specs.Prelude.{Does, data_of};
 ghost use Rattle.objects.specs.Machines.{default_of, key_of, told, told_by, topic_of};
 
 use basics::faults::Refusal;
 use data::Value;
-use language_names::{MachineMethod, MethodName};
-use machine_file::Machine;
+use data::language_names::{MachineMethod, MethodName};
+use machine::machine_file::Machine;
 use ports::{Outputs, Tree};
 use world::{Caller, Stop};
 

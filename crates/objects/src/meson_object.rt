@@ -5,8 +5,8 @@ ghost use Rattle.world.specs.Prelude.{Answers, arguments_data, within, world_of}
 ghost use Rattle.objects.specs.Meson.{answer, compiler_of, folder_below};
 
 use arguments::Arguments;
+use data::language_names::{MesonMethod, MethodName};
 use data::{Object, Refusal, Value};
-use language_names::{MesonMethod, MethodName};
 use paths::path_below;
 use std::alloc::{AllocError, Global};
 use world::Store;

@@ -4,8 +4,8 @@ ghost use Rattle.world.specs.Prelude.{Answers, world_of};
 ghost use Rattle.objects.specs.Programs.{answer, first_word, full_path, is_found};
 
 use crate::meson_object::source_root;
+use data::language_names::{MethodName, ProgramMethod};
 use data::{Program, Refusal, Text, Value};
-use language_names::{MethodName, ProgramMethod};
 use paths::path_below;
 use std::alloc::{AllocError, Global};
 use world::Store;

@@ -1,7 +1,7 @@
 //! The methods of targets, and of the outputs of custom targets: the types `build_tgt`, `custom_tgt` and `custom_idx` of the page
 //! "Reference manual".
 ghost use Rattle.std.specs.Prelude.{◌≡◌, IfOk, Some, option_map, string_bytes};
-ghost use Rattle.edge.specs.Texts.{texts};
+ghost use Rattle.targets.specs.edge.Texts.{texts};
 ghost use Rattle.targets.specs.LinkedViews.{linked_views};
 ghost use Rattle.targets.specs.View.{target_view};
 ghost use Rattle.world.specs.Prelude.{Answers, items_of, world_of};
@@ -10,8 +10,8 @@ ghost use Rattle.objects.specs.Targets.{only_path, output_answer, output_list, o
 ghost use Rattle.objects.specs.Targets.{told_of};
 
 use crate::meson_object::build_root;
+use data::language_names::{MethodName, TargetMethod};
 use data::{List, Object, Refusal, Value};
-use language_names::{MethodName, TargetMethod};
 use paths::{path_below, path_in};
 use std::alloc::{AllocError, Global};
 use targets::{Linked, Target, file_path, target_at};

@@ -6,11 +6,11 @@ use Rattle.std.specs.declared.alloc.Global.{Global}
 use Rattle.std.specs.Map.{lookup, set_value, values_of}
 use Rattle.std.specs.Str.{bytes_eq}
 use Rattle.indexmap.specs.IndexMap.{set_value_at}
-use Rattle.option_values.specs.Values.{Value}
-use Rattle.option_values.specs.declared.settings.Setting.{Setting}
-use Rattle.option_values.specs.Settings as plain
-use Rattle.option_values.specs.Settings.{fill, or_given, change_at}
-use Rattle.option_values.specs.SettingsView.{Becomes, setting_in, entry_in, settings_in}
+use Rattle.machine.specs.option_values.Values.{Value}
+use Rattle.machine.specs.declared.option_values.settings.Setting.{Setting}
+use Rattle.machine.specs.option_values.Settings as plain
+use Rattle.machine.specs.option_values.Settings.{fill, or_given, change_at}
+use Rattle.machine.specs.option_values.SettingsView.{Becomes, setting_in, entry_in, settings_in}
 
 fill_here : (b : Bool) (v : Value) (e : String Global
     × Setting) (es more : List (String Global × Setting)) (o : Option Setting) (old new : Setting) (rest : List plain.Setting)

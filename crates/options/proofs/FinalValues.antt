@@ -6,15 +6,15 @@ use Rattle.std.specs.List.{list_all, fold, flat_map}
 use Rattle.std.specs.Option.{option_and_then}
 use Rattle.std.proofs.lemmas.List.{append-nil}
 use Rattle.std.proofs.lemmas.List.Sums.{fold-append}
-use Rattle.machine_file.specs.Files as machine
+use Rattle.machine.specs.machine_file.Files as machine
 use Rattle.basics.specs.Among.{is_among}
-use Rattle.option_values.specs.declared.kind.FeatureState.{FeatureState}
-use Rattle.option_values.specs.declared.kind.FeatureState.TheVariants as feature
-use Rattle.option_values.specs.BuiltIns.{built_ins, built_in_kinds, built_in_kind, levels}
-use Rattle.option_values.specs.Kinds as kind
-use Rattle.option_values.specs.Values as value
-use Rattle.option_file.specs.Declarations.{Declaration}
-use Rattle.option_file.specs.Lookups.{is_new, are_new_after, are_new}
+use Rattle.machine.specs.declared.option_values.kind.FeatureState.{FeatureState}
+use Rattle.machine.specs.declared.option_values.kind.FeatureState.TheVariants as feature
+use Rattle.machine.specs.option_values.BuiltIns.{built_ins, built_in_kinds, built_in_kind, levels}
+use Rattle.machine.specs.option_values.Kinds as kind
+use Rattle.machine.specs.option_values.Values as value
+use Rattle.options.specs.option_file.Declarations.{Declaration}
+use Rattle.options.specs.option_file.Lookups.{is_new, are_new_after, are_new}
 use Rattle.options.specs.Faults.{OptionFaultData}
 use Rattle.options.specs.Defaults.{default_of}
 use Rattle.options.specs.FillIns as filling
@@ -22,7 +22,7 @@ use Rattle.options.specs.FillIns.{build_types, type_among, with_type, by_buildty
 use Rattle.options.specs.FillIns.{with_state, state_at, text_at, is_usr, filled_in}
 use Rattle.options.specs.Laws.{fits, fits_known, has_fitting, all_fit, names_in, built_in_names, declared_names}
 use Rattle.options.specs.Resolves.{State, after_verdict, unless_fault, next, verdicts, at_first, outcome_of, resolved}
-use Rattle.option_values.specs.Settings.{Setting, put, or_given, fill, built_in_settings}
+use Rattle.machine.specs.option_values.Settings.{Setting, put, or_given, fill, built_in_settings}
 use Rattle.options.specs.Verdicts.{Verdict, Sets, Warns, Refuses, Default, of_declaration, of_default, of_project_default, of_section}
 use Rattle.options.specs.Verdicts.{of_words, kind_named}
 use Rattle.options.proofs.Bools.{both, first, second}

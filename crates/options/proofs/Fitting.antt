@@ -5,16 +5,16 @@ use Rattle.std.specs.List.{list_any, list_all}
 use Rattle.std.specs.Option.{option_map, option_and_then, unwrap_or}
 use Rattle.std.proofs.lemmas.Slice.Eq.{bytes_eq-Decides}
 use Rattle.basics.specs.Among.{is_among}
-use Rattle.machine_file.specs.Values as written
-use Rattle.option_values.specs.Given.{value_of_items, value_of_given, printed, boolean_text}
-use Rattle.option_values.specs.Integers.{is_within, bounded, integer_of}
-use Rattle.option_values.specs.declared.kind.FeatureState.{FeatureState}
-use Rattle.option_values.specs.Kinds as kind
-use Rattle.option_values.specs.Lists.{are_among, items_of, word_items_of}
-use Rattle.option_values.specs.Texts.{boolean_of, state_of, array_of, value_of}
-use Rattle.option_values.specs.Values as value
-use Rattle.option_file.specs.Declarations.{Declaration}
-use Rattle.option_file.specs.Given as given
+use Rattle.machine.specs.machine_file.Values as written
+use Rattle.machine.specs.option_values.Given.{value_of_items, value_of_given, printed, boolean_text}
+use Rattle.machine.specs.option_values.Integers.{is_within, bounded, integer_of}
+use Rattle.machine.specs.declared.option_values.kind.FeatureState.{FeatureState}
+use Rattle.machine.specs.option_values.Kinds as kind
+use Rattle.machine.specs.option_values.Lists.{are_among, items_of, word_items_of}
+use Rattle.machine.specs.option_values.Texts.{boolean_of, state_of, array_of, value_of}
+use Rattle.machine.specs.option_values.Values as value
+use Rattle.options.specs.option_file.Declarations.{Declaration}
+use Rattle.options.specs.option_file.Given as given
 use Rattle.options.specs.Defaults as default
 use Rattle.options.specs.Defaults.{default_of}
 use Rattle.options.specs.Laws.{fits}

@@ -3,18 +3,18 @@ use Rattle.std.proofs.Common.{◌≡◌, ℕ, Bool, true, false, List, [], ◌�
 use Rattle.std.specs.Prelude.{bytes_eq, codes, if◌then◌else◌}
 use Rattle.std.specs.List.{fold}
 use Rattle.std.specs.Option.{option_map, option_and_then}
-use Rattle.machine_file.specs.Files as machine
-use Rattle.option_values.specs.declared.kind.FeatureState.{FeatureState}
-use Rattle.option_values.specs.declared.kind.FeatureState.TheVariants as feature
-use Rattle.option_values.specs.Values as value
-use Rattle.option_file.specs.Declarations.{Declaration}
+use Rattle.machine.specs.machine_file.Files as machine
+use Rattle.machine.specs.declared.option_values.kind.FeatureState.{FeatureState}
+use Rattle.machine.specs.declared.option_values.kind.FeatureState.TheVariants as feature
+use Rattle.machine.specs.option_values.Values as value
+use Rattle.options.specs.option_file.Declarations.{Declaration}
 use Rattle.options.specs.Faults.{OptionFaultData}
 use Rattle.options.specs.FillIns as filling
 use Rattle.options.specs.FillIns.{build_types, type_among, with_type, by_buildtype, by_prefix, by_auto_features, decided, decided_value}
 use Rattle.options.specs.FillIns.{with_state, state_at, text_at, is_usr, filled_in}
 use Rattle.options.specs.Laws.{set_by, or_later, last_setting, is_auto}
 use Rattle.options.specs.Resolves.{State, after_verdict, unless_fault, next, verdicts, at_first, resolved}
-use Rattle.option_values.specs.Settings.{value_named, Setting, put, setting_named, or_given, fill}
+use Rattle.machine.specs.option_values.Settings.{value_named, Setting, put, setting_named, or_given, fill}
 use Rattle.options.specs.Verdicts.{Verdict, Sets, Warns, Refuses, Default}
 use Rattle.options.proofs.FinalValues.{ended, no_fault, given_name}
 use Rattle.options.proofs.KnownKinds.{same_name, is_itself}

@@ -9,3 +9,10 @@ pub mod VerdictFits
 pub mod FinalValues
 pub mod LastPlaces
 pub mod OptionSections
+pub mod Arguments
+pub mod Entries
+pub mod Items
+pub mod NewNames
+pub mod Ranges
+pub mod Statements
+pub mod Walks

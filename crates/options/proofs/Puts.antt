@@ -5,16 +5,16 @@ use Rattle.std.specs.Map.{lookup, set_value}
 use Rattle.std.specs.Str.{bytes_eq}
 use Rattle.std.specs.List.{fold}
 use Rattle.std.proofs.lemmas.List.{length-map}
-use Rattle.option_values.specs.declared.built_in.BuiltIn.{BuiltIn}
+use Rattle.machine.specs.declared.option_values.built_in.BuiltIn.{BuiltIn}
 use Rattle.std.specs.declared.alloc.Global.{Global}
 use Rattle.std.specs.String.{string_eq}
 use Rattle.indexmap.specs.IndexMap.{insert_entry}
-use Rattle.option_values.specs.declared.settings.Setting.{Setting}
-use Rattle.option_values.specs.BuiltIns.{built_ins}
-use Rattle.option_values.specs.View.{row_in}
-use Rattle.option_values.specs.Settings as plain
-use Rattle.option_values.specs.Settings.{put, add_setting, built_in_settings}
-use Rattle.option_values.specs.SettingsView.{setting_in, entry_in, settings_in}
+use Rattle.machine.specs.declared.option_values.settings.Setting.{Setting}
+use Rattle.machine.specs.option_values.BuiltIns.{built_ins}
+use Rattle.machine.specs.option_values.View.{row_in}
+use Rattle.machine.specs.option_values.Settings as plain
+use Rattle.machine.specs.option_values.Settings.{put, add_setting, built_in_settings}
+use Rattle.machine.specs.option_values.SettingsView.{setting_in, entry_in, settings_in}
 
 put_step : (b : Bool) (e : String Global × Setting) (s : Setting) (es more : List (String Global × Setting)) (rest : List plain.Setting)
     → settings_in more ≡ rest

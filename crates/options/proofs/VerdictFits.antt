@@ -3,14 +3,14 @@ use Rattle.std.proofs.Common.{◌≡◌, ℕ, ◌+◌, Bool, true, List, [], ◌
 use Rattle.std.proofs.Common.{append_assoc}
 use Rattle.std.specs.List.{list_all, flat_map}
 use Rattle.lexer.specs.Bytes.{equals}
-use Rattle.machine_file.specs.Files as machine
-use Rattle.machine_file.specs.Texts.{Parts, cut_first}
-use Rattle.machine_file.specs.Values as written
-use Rattle.option_values.specs.Given.{value_of_given}
-use Rattle.option_values.specs.Kinds.{Kind}
-use Rattle.option_values.specs.Values.{Value}
-use Rattle.option_file.specs.Declarations.{Declaration}
-use Rattle.option_file.specs.Lookups.{is_new, are_new_after, are_new}
+use Rattle.machine.specs.machine_file.Files as machine
+use Rattle.machine.specs.machine_file.Texts.{Parts, cut_first}
+use Rattle.machine.specs.machine_file.Values as written
+use Rattle.machine.specs.option_values.Given.{value_of_given}
+use Rattle.machine.specs.option_values.Kinds.{Kind}
+use Rattle.machine.specs.option_values.Values.{Value}
+use Rattle.options.specs.option_file.Declarations.{Declaration}
+use Rattle.options.specs.option_file.Lookups.{is_new, are_new_after, are_new}
 use Rattle.options.specs.declared.fault.Place.{Place}
 use Rattle.options.specs.declared.fault.Place.TheVariants.{Declared, Project, MachineFile, CommandLine}
 use Rattle.options.specs.declared.known.Scope.{Scope}

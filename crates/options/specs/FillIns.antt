@@ -1,10 +1,10 @@
 -- What some options say of others.
 use Rattle.std.specs.Prelude.{ℕ, Bool, true, false, List, [], ◌∷◌, map, Option, Some, None, codes, if◌then◌else◌, bytes_eq}
 use Rattle.std.specs.Option.{option_and_then}
-use Rattle.option_values.specs.declared.kind.FeatureState.{FeatureState}
-use Rattle.option_values.specs.declared.kind.FeatureState.TheVariants.{Auto}
-use Rattle.option_values.specs.Values.{Value, Text, Boolean, Combo, Feature}
-use Rattle.option_values.specs.Settings.{Setting, setting_named, fill}
+use Rattle.machine.specs.declared.option_values.kind.FeatureState.{FeatureState}
+use Rattle.machine.specs.declared.option_values.kind.FeatureState.TheVariants.{Auto}
+use Rattle.machine.specs.option_values.Values.{Value, Text, Boolean, Combo, Feature}
+use Rattle.machine.specs.option_values.Settings.{Setting, setting_named, fill}
 
 -- what a type of build says of the options `debug` and `optimization`
 pub record BuildType : Type 0 where

@@ -2,14 +2,14 @@
 use Rattle.std.specs.Prelude.{ℕ, Bool, true, false, List, [], ◌∷◌, map, Option, Some, None, bytes_eq, if◌then◌else◌}
 use Rattle.std.specs.List.{list_all}
 use Rattle.basics.specs.Among.{is_among}
-use Rattle.option_values.specs.declared.kind.FeatureState.TheVariants.{Auto}
-use Rattle.option_values.specs.BuiltIns.{BuiltIn, built_ins}
-use Rattle.option_values.specs.Integers.{is_within}
-use Rattle.option_values.specs.Kinds as kind
-use Rattle.option_values.specs.Lists.{are_among}
-use Rattle.option_values.specs.Values as value
-use Rattle.option_file.specs.Declarations.{Declaration}
-use Rattle.option_values.specs.Settings.{Setting}
+use Rattle.machine.specs.declared.option_values.kind.FeatureState.TheVariants.{Auto}
+use Rattle.machine.specs.option_values.BuiltIns.{BuiltIn, built_ins}
+use Rattle.machine.specs.option_values.Integers.{is_within}
+use Rattle.machine.specs.option_values.Kinds as kind
+use Rattle.machine.specs.option_values.Lists.{are_among}
+use Rattle.machine.specs.option_values.Values as value
+use Rattle.options.specs.option_file.Declarations.{Declaration}
+use Rattle.machine.specs.option_values.Settings.{Setting}
 use Rattle.options.specs.Verdicts.{Verdict, Sets, Warns, Refuses, kind_named}
 
 -- ---- each value is one of its option's type

@@ -7,3 +7,4 @@ pub mod FillIns
 pub mod Resolves
 pub mod Laws
 pub mod View
+pub mod option_file

@@ -1,9 +1,9 @@
 -- What is written at a place, and what is wrong with it, without where it lies in memory.
 use Rattle.std.specs.Option.{option_map}
-use Rattle.machine_file.specs.Values as machine_values
-use Rattle.machine_file.specs.View.{value_in as machine_value_in}
-use Rattle.option_file.specs.View.{given_in}
-use Rattle.option_values.specs.View.{kind_in}
+use Rattle.machine.specs.machine_file.Values as machine_values
+use Rattle.machine.specs.machine_file.View.{value_in as machine_value_in}
+use Rattle.options.specs.option_file.View.{given_in}
+use Rattle.machine.specs.option_values.View.{kind_in}
 use Rattle.options.specs.Misfits as plain
 use Rattle.options.specs.declared.misfit.Misfit.{Misfit}
 use Rattle.options.specs.declared.misfit.Misfit.TheVariants as misfit

@@ -3,11 +3,11 @@ use Rattle.std.specs.Prelude.{ℕ, List, ◌++◌, Option, Some, None, codes}
 use Rattle.std.specs.Fmt.{signed_decimal}
 use Rattle.basics.specs.declared.faults.refusal.Refusal.{Refusal}
 use Rattle.basics.specs.declared.faults.refusal.Refusal.TheVariants as refusals
-use Rattle.machine_file.specs.Values as written
-use Rattle.option_file.specs.Given as given
-use Rattle.option_values.specs.Given.{boolean_text}
-use Rattle.option_values.specs.Kinds.{Kind}
-use Rattle.option_values.specs.Takes.{kind_words}
+use Rattle.machine.specs.machine_file.Values as written
+use Rattle.options.specs.option_file.Given as given
+use Rattle.machine.specs.option_values.Given.{boolean_text}
+use Rattle.machine.specs.option_values.Kinds.{Kind}
+use Rattle.machine.specs.option_values.Takes.{kind_words}
 
 -- what is refused of a name and a value
 pub data MisfitData : Type 0 where

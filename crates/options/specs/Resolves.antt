@@ -1,10 +1,10 @@
 -- The values that the options of a project have in the end.
 use Rattle.std.specs.Prelude.{ℕ, List, [], ◌∷◌, ◌++◌, map, fold, Option, Some, None, Result, Ok, Err}
 use Rattle.std.specs.List.{flat_map}
-use Rattle.machine_file.specs.Files as machine
-use Rattle.option_file.specs.Declarations.{Declaration}
+use Rattle.machine.specs.machine_file.Files as machine
+use Rattle.options.specs.option_file.Declarations.{Declaration}
 use Rattle.options.specs.Faults.{OptionFaultData}
-use Rattle.option_values.specs.Settings.{Setting, put, built_in_settings}
+use Rattle.machine.specs.option_values.Settings.{Setting, put, built_in_settings}
 use Rattle.options.specs.Verdicts.{Verdict, Sets, Warns, Refuses, Default, of_declaration, of_project_default, of_section, of_words}
 use Rattle.options.specs.FillIns.{filled_in}
 

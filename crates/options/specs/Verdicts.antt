@@ -2,22 +2,22 @@
 use Rattle.std.specs.Prelude.{ℕ, ◌+◌, Bool, true, false, ◌&&◌, List, [], ◌∷◌, map, Option, Some, None, codes, if◌then◌else◌, bytes_eq}
 use Rattle.std.specs.Option.{option_map}
 use Rattle.lexer.specs.Bytes.{equals}
-use Rattle.machine_file.specs.Files as machine
-use Rattle.machine_file.specs.Texts.{Parts, cut_first}
-use Rattle.machine_file.specs.Values as written
-use Rattle.option_values.specs.BuiltIns.{built_in_kind}
-use Rattle.option_values.specs.Kinds.{Kind}
-use Rattle.option_values.specs.Values.{Value}
-use Rattle.option_values.specs.Given.{value_of_given}
-use Rattle.option_file.specs.Declarations.{Declaration}
-use Rattle.option_file.specs.Lookups.{option_named}
+use Rattle.machine.specs.machine_file.Files as machine
+use Rattle.machine.specs.machine_file.Texts.{Parts, cut_first}
+use Rattle.machine.specs.machine_file.Values as written
+use Rattle.machine.specs.option_values.BuiltIns.{built_in_kind}
+use Rattle.machine.specs.option_values.Kinds.{Kind}
+use Rattle.machine.specs.option_values.Values.{Value}
+use Rattle.machine.specs.option_values.Given.{value_of_given}
+use Rattle.options.specs.option_file.Declarations.{Declaration}
+use Rattle.options.specs.option_file.Lookups.{option_named}
 use Rattle.options.specs.declared.fault.Place.{Place}
 use Rattle.options.specs.declared.fault.Place.TheVariants.{Declared, Project, MachineFile, CommandLine}
 use Rattle.options.specs.declared.known.Scope.{Scope}
 use Rattle.options.specs.declared.known.Scope.TheVariants.{BuiltIn, OfProject}
 use Rattle.options.specs.Faults.{OptionFaultData}
 use Rattle.options.specs.Misfits.{MisfitData, NoOption, NoSign, Both, NoValue, NoDefault, refusal_of, words_of}
-use Rattle.option_values.specs.Settings.{Setting}
+use Rattle.machine.specs.option_values.Settings.{Setting}
 use Rattle.options.specs.Defaults.{default_of}
 
 -- An option takes a value; or there is no option of this name, of which the user is warned; or the value is refused.

@@ -1,26 +1,26 @@
 -- What the code's own types stand for.
 use Rattle.std.specs.Prelude.{ℕ, List, map, Result, Ok, Err, string_bytes}
 use Rattle.std.specs.Option.{option_map}
-use Rattle.option_values.specs.View.{strings_in}
-use Rattle.option_values.specs.SettingsView.{options_in, setting_in, settings_in}
-use Rattle.machine_file.specs.Files as machine
-use Rattle.machine_file.specs.View.{value_in as machine_value_in}
-use Rattle.machine_file.specs.declared.machine.Entry.{Entry}
+use Rattle.machine.specs.option_values.View.{strings_in}
+use Rattle.machine.specs.option_values.SettingsView.{options_in, setting_in, settings_in}
+use Rattle.machine.specs.machine_file.Files as machine
+use Rattle.machine.specs.machine_file.View.{value_in as machine_value_in}
+use Rattle.machine.specs.declared.machine_file.machine.Entry.{Entry}
 use Rattle.options.specs.declared.fault.OptionFault.{OptionFault}
-use Rattle.option_values.specs.declared.settings.Options.{Options}
+use Rattle.machine.specs.declared.option_values.settings.Options.{Options}
 use Rattle.options.specs.declared.state.State.{State}
 use Rattle.options.specs.declared.verdict.Verdict.{Verdict}
 use Rattle.options.specs.declared.verdict.Verdict.TheVariants as verdict
 use Rattle.options.specs.declared.resolution.Resolved.{Resolved}
 use Rattle.options.specs.declared.fill_in.BuildType.{BuildType}
-use Rattle.option_file.specs.Declarations.{Declaration}
-use Rattle.option_file.specs.View.{options_in as declared_in}
+use Rattle.options.specs.option_file.Declarations.{Declaration}
+use Rattle.options.specs.option_file.View.{options_in as declared_in}
 use Rattle.options.specs.declared.known.Known.{Known}
 use Rattle.options.specs.declared.place.ProjectDefault.{ProjectDefault}
 use Rattle.options.specs.declared.place.ProjectDefault.TheVariants as given
 use Rattle.options.specs.FillIns as filling
 use Rattle.options.specs.Faults.{OptionFaultData}
-use Rattle.option_values.specs.Settings as plain
+use Rattle.machine.specs.option_values.Settings as plain
 use Rattle.options.specs.Resolves as resolving
 use Rattle.options.specs.Verdicts as judged
 

@@ -1,13 +1,13 @@
 //! The options that every project has, where no value is given.
 
 ghost use Rattle.std.specs.Prelude.{◌≡◌, IfOk, OnOk};
-ghost use Rattle.option_values.specs.View.{row_in};
-ghost use Rattle.option_values.specs.Settings.{built_in_settings, add_setting};
-ghost use Rattle.option_values.specs.SettingsView.{settings_in};
+ghost use Rattle.machine.specs.option_values.View.{row_in};
+ghost use Rattle.machine.specs.option_values.Settings.{built_in_settings, add_setting};
+ghost use Rattle.machine.specs.option_values.SettingsView.{settings_in};
 
 use crate::state::put;
 use basics::tables::{SipMap, new_map};
-use option_values::{BuiltIn, Setting, built_in_value, built_ins};
+use machine::option_values::{BuiltIn, Setting, built_in_value, built_ins};
 use std::alloc::{AllocError, Global};
 
 // The option of a row of the table has the value that stands there.

@@ -2,14 +2,14 @@
 
 ghost use Rattle.std.specs.Prelude.{◌≡◌, ℕ, List, IfOk};
 ghost use Rattle.std.specs.Option.{option_map};
-ghost use Rattle.option_file.specs.View.{given_in, option_in};
-ghost use Rattle.option_values.specs.View.{kind_in, strings_in, texts_of, value_in};
+ghost use Rattle.options.specs.option_file.View.{given_in, option_in};
+ghost use Rattle.machine.specs.option_values.View.{kind_in, strings_in, texts_of, value_in};
 ghost use Rattle.options.specs.Defaults.{first_of, value_of_kind, boolean_of, integer_of, items_of};
 ghost use Rattle.options.specs.Defaults.{declared_value, value_or_kind, default_of};
 
+use crate::option_file::{Declaration, Given};
 use basics::text_lists::copies;
-use option_file::{Declaration, Given};
-use option_values::{
+use machine::option_values::{
     Choices, FeatureState, OptionKind, OptionValue, is_within, value_of_items, value_of_text,
 };
 use std::alloc::{AllocError, Global};

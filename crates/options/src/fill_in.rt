@@ -2,15 +2,15 @@
 
 ghost use Rattle.std.specs.Prelude.{◌≡◌, codes, map, OnOk};
 ghost use Rattle.std.specs.Option.{option_map};
-ghost use Rattle.option_values.specs.View.{value_in};
+ghost use Rattle.machine.specs.option_values.View.{value_in};
 ghost use Rattle.options.specs.FillIns.{build_types, type_among, text_in, state_in, text_at, state_at, is_usr, decided};
 ghost use Rattle.options.specs.FillIns.{by_buildtype, by_prefix, by_auto_features, filled_in};
-ghost use Rattle.option_values.specs.Settings.{or_given, fill, change_at};
+ghost use Rattle.machine.specs.option_values.Settings.{or_given, fill, change_at};
 ghost use Rattle.options.specs.View.{type_in};
-ghost use Rattle.option_values.specs.SettingsView.{Becomes, settings_in};
+ghost use Rattle.machine.specs.option_values.SettingsView.{Becomes, settings_in};
 
 use basics::tables::SipMap;
-use option_values::{FeatureState, OptionValue, Setting};
+use machine::option_values::{FeatureState, OptionValue, Setting};
 use std::alloc::{AllocError, Global};
 
 /// What a type of build says of the options `debug` and `optimization`.

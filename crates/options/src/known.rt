@@ -2,14 +2,14 @@
 
 ghost use Rattle.std.specs.Prelude.{◌≡◌, IfOk};
 ghost use Rattle.std.specs.Option.{option_map};
-ghost use Rattle.option_file.specs.View.{options_in as declared_in};
-ghost use Rattle.option_values.specs.BuiltIns.{built_in_kind};
-ghost use Rattle.option_values.specs.View.{AreBuiltIns, kind_in};
+ghost use Rattle.options.specs.option_file.View.{options_in as declared_in};
+ghost use Rattle.machine.specs.option_values.BuiltIns.{built_in_kind};
+ghost use Rattle.machine.specs.option_values.View.{AreBuiltIns, kind_in};
 ghost use Rattle.options.specs.Verdicts.{scope_of, declared_kind, kind_named, kind_in_scope};
 
+use crate::option_file::Declared;
 use indexmap::IndexMap;
-use option_file::Declared;
-use option_values::{OptionKind, built_in_kinds};
+use machine::option_values::{OptionKind, built_in_kinds};
 use std::alloc::{AllocError, Global};
 
 /// Which options a section of the machine file knows.

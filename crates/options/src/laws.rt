@@ -2,14 +2,14 @@
 //! nothing.
 
 ghost use Rattle.std.specs.Prelude.{◌≡◌, ◌++◌, ℕ, List, Ok, Some, true, false};
-ghost use Rattle.machine_file.specs.Files.{Section};
-ghost use Rattle.option_file.specs.View.{options_in as declared_in};
+ghost use Rattle.machine.specs.machine_file.Files.{Section};
+ghost use Rattle.options.specs.option_file.View.{options_in as declared_in};
 ghost use Rattle.options.specs.Laws.{all_fit, names_in, built_in_names, declared_names, last_setting, is_auto};
 ghost use Rattle.options.specs.Resolves.{resolved, verdicts};
-ghost use Rattle.option_values.specs.Settings.{value_named, Setting as SettingSaid};
+ghost use Rattle.machine.specs.option_values.Settings.{value_named, Setting as SettingSaid};
 ghost use Rattle.options.specs.Verdicts.{Default};
 
-use option_file::Declared;
+use crate::option_file::Declared;
 
 /// Each final value is a value of its option's type, and within its choices and bounds.
 pub fn values_fit(declared: &Declared)

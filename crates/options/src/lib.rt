@@ -2,7 +2,7 @@
 //! file and the words of the command line give it.
 //!
 //! [`declare`] reads an option file, [`Machine::read`] a machine file, and [`resolve`] gives the values. Everything that these
-//! show stands here under one name, from the crates below.
+//! show stands here under one name.
 //!
 //! The rules are those of the Meson manual's pages "Build options" and "Built-in options".
 //!
@@ -24,16 +24,17 @@ mod fill_in;
 mod known;
 pub mod laws;
 mod misfit;
+pub mod option_file;
 mod place;
 mod resolution;
 mod state;
 mod verdict;
 
+pub use crate::option_file::fault::DeclareFault;
+pub use crate::option_file::{Declared, declare};
 pub use fault::{OptionFault, Place};
-pub use machine_file::fault::MachineFault;
-pub use machine_file::{Machine, MachineValue, Section};
-pub use option_file::fault::DeclareFault;
-pub use option_file::{Declared, declare};
-pub use option_values::{FeatureState, OptionType, OptionValue, Options, is_built_in};
+pub use machine::machine_file::fault::MachineFault;
+pub use machine::machine_file::{Machine, MachineValue, Section};
+pub use machine::option_values::{FeatureState, OptionType, OptionValue, Options, is_built_in};
 pub use place::ProjectDefault;
 pub use resolution::{Resolved, resolve};

@@ -1,17 +1,17 @@
 //! What is wrong with a value that a place gives an option, and the words that say so.
 
 ghost use Rattle.std.specs.Prelude.{◌≡◌, IfOk, option_map, string_bytes};
-ghost use Rattle.option_file.specs.View.{given_in};
-ghost use Rattle.option_values.specs.Given.{boolean_text};
-ghost use Rattle.option_values.specs.View.{kind_in};
+ghost use Rattle.options.specs.option_file.View.{given_in};
+ghost use Rattle.machine.specs.option_values.Given.{boolean_text};
+ghost use Rattle.machine.specs.option_values.View.{kind_in};
 ghost use Rattle.options.specs.MisfitView.{misfit_in, written_in};
 ghost use Rattle.options.specs.Misfits.{default_words, given_words, in_quotes, option_is, refusal_of, takes, words_of, written_words};
-ghost use Rattle.machine_file.specs.View.{value_in as machine_value_in};
+ghost use Rattle.machine.specs.machine_file.View.{value_in as machine_value_in};
 
+use crate::option_file::Given;
 use basics::faults::Refusal;
-use machine_file::MachineValue;
-use option_file::Given;
-use option_values::{OptionKind, kind_words};
+use machine::machine_file::MachineValue;
+use machine::option_values::{OptionKind, kind_words};
 use std::alloc::{AllocError, Global};
 
 /// What is written at a place.

@@ -3,9 +3,9 @@
 ghost use Rattle.std.specs.Prelude.{◌≡◌, IfOk, OnOk, fold, map};
 ghost use Rattle.std.specs.List.{flat_map};
 ghost use Rattle.std.specs.Option.{option_map};
-ghost use Rattle.machine_file.specs.View.{machine_in, entries_of, value_in};
-ghost use Rattle.option_file.specs.View.{options_in as declared_in, option_in};
-ghost use Rattle.option_values.specs.View.{kind_in, strings_in};
+ghost use Rattle.machine.specs.machine_file.View.{machine_in, entries_of, value_in};
+ghost use Rattle.options.specs.option_file.View.{options_in as declared_in, option_in};
+ghost use Rattle.machine.specs.option_values.View.{kind_in, strings_in};
 ghost use Rattle.options.specs.Resolves.{next};
 ghost use Rattle.options.specs.Verdicts.{of_declaration, of_assignment, of_named, of_project_default, of_words, of_entry, of_section};
 ghost use Rattle.options.specs.View.{declared_of, default_in, defaults_in, verdict_in, state_in};
@@ -15,11 +15,11 @@ use crate::default::default_of;
 use crate::fault::Place;
 use crate::known::{Known, Scope, scope_of};
 use crate::misfit::{Misfit, Written};
+use crate::option_file::{Declaration, Declared};
 use crate::state::State;
 use crate::verdict::{Verdict, of_named, refused};
-use machine_file::{Entry, Machine, Section, cut_first};
-use option_file::{Declaration, Declared};
-use option_values::{OptionKind, Setting};
+use machine::machine_file::{Entry, Machine, Section, cut_first};
+use machine::option_values::{OptionKind, Setting};
 use std::alloc::{AllocError, Global};
 
 /// A value that the keyword `default_options` of `project` gives, with the name of its option.

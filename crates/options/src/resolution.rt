@@ -1,21 +1,21 @@
 //! The values that options have in the end.
 
 ghost use Rattle.std.specs.Prelude.{◌≡◌, IfOk};
-ghost use Rattle.machine_file.specs.Questions.{options_at};
-ghost use Rattle.machine_file.specs.View.{machine_in};
-ghost use Rattle.option_file.specs.View.{options_in as declared_in};
-ghost use Rattle.option_values.specs.View.{strings_in};
+ghost use Rattle.machine.specs.machine_file.Questions.{options_at};
+ghost use Rattle.machine.specs.machine_file.View.{machine_in};
+ghost use Rattle.options.specs.option_file.View.{options_in as declared_in};
+ghost use Rattle.machine.specs.option_values.View.{strings_in};
 ghost use Rattle.options.specs.Resolves.{at_first, resolved};
 ghost use Rattle.options.specs.View.{defaults_in, state_in, resolved_in};
 
 use crate::built_in::built_in_settings;
 use crate::fault::OptionFault;
 use crate::known::Known;
+use crate::option_file::Declared;
 use crate::place::{ProjectDefault, take_declarations, take_defaults, take_machine, take_words};
 use crate::state::State;
-use machine_file::Machine;
-use option_file::Declared;
-use option_values::Options;
+use machine::machine_file::Machine;
+use machine::option_values::Options;
 use std::alloc::{AllocError, Global};
 
 /// What the values of a project's options come to.

@@ -3,16 +3,16 @@
 ghost use Rattle.std.specs.Prelude.{◌≡◌, is_some, IfOk, OnOk};
 ghost use Rattle.options.specs.Resolves.{after_verdict, next, resolution_of};
 ghost use Rattle.options.specs.Verdicts.{Warns};
-ghost use Rattle.option_values.specs.Settings.{put};
+ghost use Rattle.machine.specs.option_values.Settings.{put};
 ghost use Rattle.options.specs.View.{verdict_in, state_in, resolved_in};
-ghost use Rattle.option_values.specs.SettingsView.{setting_in, settings_in};
+ghost use Rattle.machine.specs.option_values.SettingsView.{setting_in, settings_in};
 
 use crate::fault::OptionFault;
 use crate::fill_in::fill_in;
 use crate::resolution::Resolved;
 use crate::verdict::Verdict;
 use basics::tables::SipMap;
-use option_values::{Options, Setting};
+use machine::option_values::{Options, Setting};
 use std::alloc::{AllocError, Global};
 
 /// The names of no option so far, the options with their values, and the first fault.

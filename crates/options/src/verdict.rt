@@ -1,9 +1,9 @@
 //! What it means that a place gives an option a value.
 
 ghost use Rattle.std.specs.Prelude.{◌≡◌, IfOk};
-ghost use Rattle.machine_file.specs.Readers.{text_said};
-ghost use Rattle.option_values.specs.View.{kind_in, value_in};
-ghost use Rattle.option_values.specs.Given.{value_of_given};
+ghost use Rattle.machine.specs.machine_file.Readers.{text_said};
+ghost use Rattle.machine.specs.option_values.View.{kind_in, value_in};
+ghost use Rattle.machine.specs.option_values.Given.{value_of_given};
 ghost use Rattle.std.specs.Option.{option_map};
 ghost use Rattle.options.specs.Verdicts.{refused, unknown_at, is_both, misfit_of, of_value, of_named};
 ghost use Rattle.options.specs.MisfitView.{misfit_in, written_in};
@@ -11,7 +11,7 @@ ghost use Rattle.options.specs.View.{verdict_in};
 
 use crate::fault::{OptionFault, Place};
 use crate::misfit::{Misfit, Written};
-use option_values::{OptionKind, OptionValue, Setting, value_of_given, value_of_text};
+use machine::option_values::{OptionKind, OptionValue, Setting, value_of_given, value_of_text};
 use std::alloc::{AllocError, Global};
 
 /// What a value at a place means.

@@ -1,5 +1,6 @@
 -- Files as the entries of a map.
-use Rattle.std.proofs.Common.{◌≡◌, ℕ, Bool, true, false, List, [], ◌∷◌, ◌++◌, Option, Some, String, Vec, string_bytes, refl, sym, ap, ◌∙◌, cond, append_assoc, ◌||◌, if◌then◌else◌}
+use Rattle.std.proofs.Common.{◌≡◌, ℕ, Bool, true, false, List, [], ◌∷◌, ◌++◌, Option, Some, String, Vec, string_bytes, refl, sym, ap, ◌∙◌}
+use Rattle.std.proofs.Common.{cond, append_assoc, ◌||◌, if◌then◌else◌}
 use Rattle.std.specs.declared.alloc.Global.{Global}
 use Rattle.std.specs.Option.{option_map}
 use Rattle.std.specs.Str.{bytes_eq}

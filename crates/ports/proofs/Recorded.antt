@@ -1,5 +1,6 @@
 -- What outputs in memory are seen as after each call.
-use Rattle.std.proofs.Common.{◌≡◌, ℕ, ◌+◌, ◌-◌, ◌≤◌, ◌<◌, get_or, true, false, ◌&&◌, List, [], ◌∷◌, ◌++◌, map, take, drop, length, nat_le, Option, Some, None, IsSome, refl, sym, ap, ◌∙◌, arith, length-append}
+use Rattle.std.proofs.Common.{◌≡◌, ℕ, ◌+◌, ◌-◌, ◌≤◌, ◌<◌, get_or, true, false, ◌&&◌, List, [], ◌∷◌, ◌++◌, map, take, drop, length, nat_le}
+use Rattle.std.proofs.Common.{Option, Some, None, IsSome, refl, sym, ap, ◌∙◌, arith, length-append}
 use Rattle.std.specs.List.{list_all, slice_get}
 use Rattle.std.specs.Option.{option_map}
 use Rattle.std.proofs.lemmas.Option.{slice_get-map, slice_get-get_or, slice_get_past}
@@ -14,7 +15,8 @@ use Rattle.ports.specs.declared.event.Event.TheVariants.{Open, Byte, Close, Log,
 use Rattle.ports.specs.declared.memory_outputs.Span.{Span}
 use Rattle.ports.specs.declared.memory_outputs.Stream.TheVariants.{ToOutput, ToLog, ToFault}
 use Rattle.ports.specs.Outputs.{OutputState, Step, name_or_empty, told, name_after, opening, closing, puts, logs, faults, Takes}
-use Rattle.ports.specs.Slots.{name_at, event_at, open_at, events_at, is_span_within, is_within, is_open_within, are_within, slot_of, state_at}
+use Rattle.ports.specs.Slots.{name_at, event_at, open_at, events_at, is_span_within, is_within, is_open_within, are_within, slot_of}
+use Rattle.ports.specs.Slots.{state_at}
 
 -- the run is added as it stands
 takes_as_told : (old new : OutputState) (run : List Step) → new.tells ≡ true → new.open_name ≡ name_after old.open_name run → new.events ≡ old.events ++ told old.open_name run → Takes old new run

@@ -1,5 +1,6 @@
 -- How calls that write follow one another.
-use Rattle.std.proofs.Common.{◌≡◌, ℕ, ◌+◌, ◌-◌, ◌≤◌, ◌<◌, ◌^◌, get_or, Bool, true, false, IsSome, List, [], ◌∷◌, ◌++◌, map, take, drop, length, Option, Some, None, Result, Ok, Err, IsErr, is_err, refl, sym, ap, subst, ◌∙◌, append_assoc, arith}
+use Rattle.std.proofs.Common.{◌≡◌, ℕ, ◌+◌, ◌-◌, ◌≤◌, ◌<◌, ◌^◌, get_or, Bool, true, false, IsSome, List, [], ◌∷◌, ◌++◌, map, take, drop}
+use Rattle.std.proofs.Common.{length, Option, Some, None, Result, Ok, Err, IsErr, is_err, refl, sym, ap, subst, ◌∙◌, append_assoc, arith}
 use Rattle.std.proofs.Math.Seq.{take-add}
 use Rattle.std.proofs.lemmas.List.{take_more, drop_more, map-append, append-nil, take-append-drop, take_rest, length-drop}
 use Rattle.std.specs.List.{flat_map}
@@ -7,7 +8,8 @@ use Rattle.std.proofs.lemmas.Grind.{flat_map-append}
 use Rattle.std.proofs.lemmas.Bool.{false≢true}
 use Rattle.ports.specs.declared.fault.DeviceFault.{DeviceFault}
 use Rattle.ports.specs.declared.event.Event.TheVariants.{Open, Byte, Close, Log, Fault}
-use Rattle.ports.specs.Outputs.{OutputState, Step, Opens, Puts, Closes, Logs, Faults, name_or_empty, told, name_after, opening, Takes, Sends, all, part, IsOpen, Took, Makes, Writes}
+use Rattle.ports.specs.Outputs.{OutputState, Step, Opens, Puts, Closes, Logs, Faults, name_or_empty, told, name_after, opening, Takes}
+use Rattle.ports.specs.Outputs.{Sends, all, part, IsOpen, Took, Makes, Writes}
 use Rattle.ports.specs.Endings.{Ending, Whole, Failed, Short, ended, is_whole, failures_after}
 
 -- ---- names and events

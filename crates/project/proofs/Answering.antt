@@ -3,16 +3,17 @@ use Rattle.std.proofs.Common.{◌≡◌, ℕ, ◌≤◌, Bool, true, false, List
 use Rattle.std.specs.Prelude.{◌&&◌, ◌||◌, not, if◌then◌else◌}
 use Rattle.std.specs.List.{list_all}
 use Rattle.std.proofs.lemmas.Bool.{and_parts}
-use Rattle.edge.specs.Texts.{Path, holds}
-use Rattle.edge.specs.Data.{EdgeData}
-use Rattle.edge.specs.Holding.{are_writable}
+use Rattle.targets.specs.edge.Texts.{Path, holds}
+use Rattle.targets.specs.edge.Data.{EdgeData}
+use Rattle.targets.specs.edge.Holding.{are_writable}
 use Rattle.targets.specs.Data.{SurroundingsData, SourceData, Tree, Built, Made, TargetData}
 use Rattle.targets.specs.Libraries.{LinkedData, linked, linked_libraries, linked_of}
-use Rattle.target_edges.specs.Edges.{target_edges}
+use Rattle.targets.specs.target_edges.Edges.{target_edges}
 use Rattle.project.specs.Laws.{outputs_of, times}
 use Rattle.project.specs.World.{WorldData, reserved, made_of, is_made_in}
 use Rattle.project.specs.Whole.{targets_in, IsWhole, IsNext}
-use Rattle.project.specs.Adding.{sources_of, is_made_source, is_present, target_fits, is_fit, edges_with, place_answer, target_answer, is_within}
+use Rattle.project.specs.Adding.{sources_of, is_made_source, is_present, target_fits, is_fit, edges_with, place_answer, target_answer}
+use Rattle.project.specs.Adding.{is_within}
 use Rattle.project.specs.Refused.{refused}
 use Rattle.project.specs.Unheld.{unheld}
 use Rattle.project.specs.declared.refusal.Refusal.TheVariants.{Arguments, Missing, Unholdable}

@@ -1,12 +1,12 @@
 -- Arguments of the project change nothing of custom targets.
 use Rattle.std.proofs.Common.{◌≡◌, ◌≤◌, true, false, List, [], ◌∷◌, ◌++◌, map, Result, Ok, Err, refl, sym, ap, ◌∙◌, subst}
 use Rattle.std.specs.List.{list_any}
-use Rattle.edge.specs.Texts.{Path, Text, holds}
-use Rattle.edge.specs.Data.{EdgeData}
-use Rattle.edge.specs.Holding.{are_writable}
+use Rattle.targets.specs.edge.Texts.{Path, Text, holds}
+use Rattle.targets.specs.edge.Data.{EdgeData}
+use Rattle.targets.specs.edge.Holding.{are_writable}
 use Rattle.targets.specs.Data.{SurroundingsData, TargetData, Build, Custom}
 use Rattle.targets.specs.Libraries.{LinkedData, linked}
-use Rattle.target_edges.specs.Edges.{edges_of, edges_after}
+use Rattle.targets.specs.target_edges.Edges.{edges_of, edges_after}
 use Rattle.project.specs.Laws.{outputs_of, times, all_made, all_inside}
 use Rattle.project.specs.World.{reserved, known_of}
 use Rattle.std.specs.Prelude.{◌&&◌, ◌||◌}
@@ -20,8 +20,8 @@ use Rattle.project.specs.Unheld.{unheld_word}
 use Rattle.project.specs.declared.refusal.Refusal.TheVariants.{Late, Unholdable}
 use Rattle.std.specs.Prelude.{if◌then◌else◌}
 use Rattle.std.specs.List.{list_all}
-use Rattle.edge.specs.Holding.{value_held}
-use Rattle.edge.proofs.TextLists.{list_any-map}
+use Rattle.targets.specs.edge.Holding.{value_held}
+use Rattle.targets.proofs.TextLists.{list_any-map}
 use Rattle.targets.specs.LinkedViews.{linked_views}
 use Rattle.targets.specs.View.{target_view}
 use Rattle.targets.specs.declared.linked_target.Linked.{Linked}

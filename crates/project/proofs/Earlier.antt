@@ -1,14 +1,16 @@
 -- Targets that refer to earlier ones.
-use Rattle.std.proofs.Common.{◌≡◌, ℕ, zero, suc, ◌<◌, Bool, true, List, [], ◌∷◌, ◌++◌, length, refl, sym, ap, ◌∙◌, append-nil, append_assoc, nat_lt, arith}
+use Rattle.std.proofs.Common.{◌≡◌, ℕ, zero, suc, ◌<◌, Bool, true, List, [], ◌∷◌, ◌++◌, length, refl, sym, ap, ◌∙◌, append-nil, append_assoc}
+use Rattle.std.proofs.Common.{nat_lt, arith}
 use Rattle.std.specs.Prelude.{◌&&◌, flat_map, slice_get, not}
 use Rattle.std.specs.List.{list_all}
 use Rattle.std.proofs.lemmas.Bool.Decides.{nat_tests}
-use Rattle.edge.specs.Texts.{Path, holds}
+use Rattle.targets.specs.edge.Texts.{Path, holds}
 use Rattle.targets.specs.Data.{SurroundingsData, SourceData, Tree, Built, Made, ListsData, TargetData, Build, Custom}
 use Rattle.targets.specs.Sources.{has_foreign}
-use Rattle.targets.specs.Libraries.{LinkedData, linked_of, build_of, is_library_in, is_library_at, library_numbers, links_in, links_libraries}
+use Rattle.targets.specs.Libraries.{LinkedData, linked_of, build_of, is_library_in, is_library_at, library_numbers, links_in}
+use Rattle.targets.specs.Libraries.{links_libraries}
 use Rattle.targets.proofs.LinkedLists.{targets_after}
-use Rattle.target_edges.specs.Edges.{all_edges}
+use Rattle.targets.specs.target_edges.Edges.{all_edges}
 use Rattle.project.specs.Laws.{outputs_of}
 use Rattle.project.specs.World.{made_of}
 use Rattle.project.specs.Whole.{targets_in}

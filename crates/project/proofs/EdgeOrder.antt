@@ -4,8 +4,8 @@ use Rattle.std.specs.Prelude.{◌&&◌, ◌||◌, flat_map, if◌then◌else◌}
 use Rattle.std.specs.List.{list_all}
 use Rattle.std.proofs.lemmas.List.Folds.{list_any-append, list_all-append}
 use Rattle.std.proofs.lemmas.Slice.Eq.{bytes_eq-Decides}
-use Rattle.edge.specs.Texts.{Path, holds, put_new, put_all_new}
-use Rattle.edge.specs.Data.{EdgeData}
+use Rattle.targets.specs.edge.Texts.{Path, holds, put_new, put_all_new}
+use Rattle.targets.specs.edge.Data.{EdgeData}
 use Rattle.project.specs.Laws.{outputs_of, needs, all_held, all_made}
 
 pub split_and : (a b : Bool) → (a && b) ≡ true → (a ≡ true) × (b ≡ true)

@@ -5,7 +5,7 @@ use Rattle.std.proofs.Math.Seq.{take-append_seam}
 use Rattle.targets.specs.Data.{SurroundingsData, TargetData}
 use Rattle.targets.specs.Libraries.{LinkedData, linked, linked_after, linked_of}
 use Rattle.targets.proofs.LinkedLists.{begun, get_seam}
-use Rattle.target_edges.specs.Edges.{edges_of, edges_after, all_edges}
+use Rattle.targets.specs.target_edges.Edges.{edges_of, edges_after, all_edges}
 use Rattle.project.specs.Adding.{edges_if, edges_between}
 
 module _ (s : SurroundingsData) (all : List LinkedData) where

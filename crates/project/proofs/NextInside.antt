@@ -4,14 +4,14 @@ use Rattle.std.specs.Prelude.{◌&&◌, ◌||◌, not, bytes_eq}
 use Rattle.std.specs.List.{list_all}
 use Rattle.std.proofs.lemmas.List.Folds.{list_all-map}
 use Rattle.std.proofs.lemmas.Bool.{not_from_false, not-true, or_parts}
-use Rattle.edge.specs.Texts.{Path, Text}
-use Rattle.edge.specs.Paths.{is_upward, object_path}
+use Rattle.targets.specs.edge.Texts.{Path, Text}
+use Rattle.targets.specs.edge.Paths.{is_upward, object_path}
 use Rattle.targets.specs.Data.{SurroundingsData, TargetData, Build, Custom}
 use Rattle.targets.specs.Sources.{InputData, compiled, has_foreign}
 use Rattle.paths.specs.Paths.{path_in}
 use Rattle.targets.specs.Files.{file_path, file_name, link_names, link_paths, object_paths, output_paths}
 use Rattle.targets.specs.Libraries.{LinkedData, linked, links_libraries}
-use Rattle.target_edges.specs.Edges.{edges_of}
+use Rattle.targets.specs.target_edges.Edges.{edges_of}
 use Rattle.project.specs.Laws.{outputs_of, all_inside}
 use Rattle.paths.specs.Names.{has_slash, is_file_name}
 use Rattle.project.specs.Adding.{is_folder, is_target_name, names_fit, has_c, optional_file_name, target_fits}

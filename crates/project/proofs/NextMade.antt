@@ -1,23 +1,28 @@
 -- The edges of a target that fits need only what is there or made before.
-use Rattle.std.proofs.Common.{◌≡◌, ℕ, zero, suc, Bool, true, false, List, [], ◌∷◌, ◌++◌, map, refl, sym, ap, ◌∙◌, append-nil, append_assoc, bytes_eq}
+use Rattle.std.proofs.Common.{◌≡◌, ℕ, zero, suc, Bool, true, false, List, [], ◌∷◌, ◌++◌, map, refl, sym, ap, ◌∙◌, append-nil, append_assoc}
+use Rattle.std.proofs.Common.{bytes_eq}
 use Rattle.std.specs.Prelude.{◌&&◌, flat_map, Some, if◌then◌else◌}
 use Rattle.std.specs.List.{list_all}
 use Rattle.std.proofs.lemmas.List.Folds.{list_all-map}
 use Rattle.std.proofs.lemmas.List.Concat.{flat_map-append}
 use Rattle.std.proofs.lemmas.Slice.Eq.{bytes_eq-Decides}
-use Rattle.edge.specs.Texts.{Path, Text, holds}
-use Rattle.edge.specs.Paths.{source_path, object_path}
-use Rattle.edge.specs.Data.{EdgeData}
+use Rattle.targets.specs.edge.Texts.{Path, Text, holds}
+use Rattle.targets.specs.edge.Paths.{source_path, object_path}
+use Rattle.targets.specs.edge.Data.{EdgeData}
 use Rattle.targets.specs.Data.{SurroundingsData, SourceData, Tree, Built, Made, BuildData, CustomData, TargetData, Build, Custom}
-use Rattle.targets.specs.Sources.{InputData, all_sources, is_c, own_input, inputs_in, c_input, c_inputs_in, put_input, put_inputs, compiled, if_not_c, generated_in, generated, source_paths}
+use Rattle.targets.specs.Sources.{InputData, all_sources, is_c, own_input, inputs_in, c_input, c_inputs_in, put_input, put_inputs, compiled}
+use Rattle.targets.specs.Sources.{if_not_c, generated_in, generated, source_paths}
 use Rattle.targets.specs.Files.{is_static, file_path, file_name, link_paths, object_paths}
 use Rattle.targets.specs.Libraries.{LinkedData, linked, linked_after, linked_of, build_in}
-use Rattle.target_edges.specs.Words.{compile_words, file_in, library_file, library_files, link_words}
-use Rattle.target_edges.specs.Edges.{compile_edge, compile_edges, archiving, linking, file_edge, naming, link_edges, custom_edge, build_edges, target_edges, edges_of, edges_after, all_edges}
+use Rattle.targets.specs.target_edges.Words.{compile_words, file_in, library_file, library_files, link_words}
+use Rattle.targets.specs.target_edges.Edges.{compile_edge, compile_edges, archiving, linking, file_edge, naming, link_edges, custom_edge}
+use Rattle.targets.specs.target_edges.Edges.{build_edges, target_edges, edges_of, edges_after, all_edges}
 use Rattle.project.specs.Laws.{outputs_of, needs, all_held, all_made}
 use Rattle.project.specs.World.{known_of, made_of}
 use Rattle.project.specs.Adding.{sources_of, is_made_source, is_present}
-use Rattle.project.proofs.EdgeOrder.{split_and, both, or_left, or_right, or_cases, list_all-weaker, list_all-and, list_all-flat_map, list_all-each, list_all-parts, list_all-joined, list_all-put_all_new, holds_append, holds_left, holds_right, held_more, held_self, made_append}
+use Rattle.project.proofs.EdgeOrder.{split_and, both, or_left, or_right, or_cases, list_all-weaker, list_all-and, list_all-flat_map}
+use Rattle.project.proofs.EdgeOrder.{list_all-each, list_all-parts, list_all-joined, list_all-put_all_new, holds_append, holds_left}
+use Rattle.project.proofs.EdgeOrder.{holds_right, held_more, held_self, made_append}
 
 -- ---- sources
 

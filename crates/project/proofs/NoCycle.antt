@@ -1,14 +1,15 @@
 -- No path is made twice, and no edge reaches itself.
-use Rattle.std.proofs.Common.{◌≡◌, ℕ, zero, suc, ◌+◌, ◌<◌, ◌≤◌, Bool, true, false, List, [], ◌∷◌, ◌++◌, map, refl, sym, ap, ◌∙◌, bytes_eq, codes, arith}
+use Rattle.std.proofs.Common.{◌≡◌, ℕ, zero, suc, ◌+◌, ◌<◌, ◌≤◌, Bool, true, false, List, [], ◌∷◌, ◌++◌, map, refl, sym, ap, ◌∙◌, bytes_eq}
+use Rattle.std.proofs.Common.{codes, arith}
 use Rattle.std.specs.Prelude.{◌||◌, not, ◌-◌, slice_get, if◌then◌else◌}
 use Rattle.std.specs.List.{list_all}
 use Rattle.std.proofs.lemmas.Slice.Eq.{bytes_eq-Decides}
-use Rattle.edge.specs.Texts.{Path, holds}
-use Rattle.edge.specs.Paths.{way_up, source_path, is_upward}
-use Rattle.edge.specs.Data.{EdgeData}
+use Rattle.targets.specs.edge.Texts.{Path, holds}
+use Rattle.targets.specs.edge.Paths.{way_up, source_path, is_upward}
+use Rattle.targets.specs.edge.Data.{EdgeData}
 use Rattle.targets.specs.Data.{SurroundingsData, TargetData}
 use Rattle.targets.specs.Libraries.{LinkedData}
-use Rattle.target_edges.specs.Edges.{all_edges}
+use Rattle.targets.specs.target_edges.Edges.{all_edges}
 use Rattle.project.specs.Laws.{outputs_of, needs, times, AtMostOnce, all_held, all_made, outputs_if, Feeds, Reaches, at_once, through}
 use Rattle.project.specs.World.{reserved, known_of, taken_of}
 use Rattle.project.specs.Whole.{targets_in, IsWhole}

@@ -1,15 +1,16 @@
 -- A project stays whole when it grows.
-use Rattle.std.proofs.Common.{◌≡◌, ℕ, ◌≤◌, Bool, true, false, List, [], ◌∷◌, ◌++◌, length, map, Result, Ok, Err, refl, sym, ap, ◌∙◌, subst, append-nil, append_assoc, arith}
+use Rattle.std.proofs.Common.{◌≡◌, ℕ, ◌≤◌, Bool, true, false, List, [], ◌∷◌, ◌++◌, length, map, Result, Ok, Err, refl, sym, ap, ◌∙◌, subst}
+use Rattle.std.proofs.Common.{append-nil, append_assoc, arith}
 use Rattle.std.specs.Prelude.{◌&&◌, ◌||◌, not, is_some, Option, Some, None, option_map, OnOk, if◌then◌else◌}
 use Rattle.std.proofs.lemmas.List.{map-append}
 use Rattle.std.proofs.lemmas.List.Concat.{flat_map-append}
-use Rattle.edge.specs.Texts.{Path, holds, put_new}
-use Rattle.edge.specs.Data.{EdgeData}
-use Rattle.edge.specs.Holding.{are_writable, is_writable}
-use Rattle.edge.specs.Paths.{is_upward, source_path}
+use Rattle.targets.specs.edge.Texts.{Path, holds, put_new}
+use Rattle.targets.specs.edge.Data.{EdgeData}
+use Rattle.targets.specs.edge.Holding.{are_writable, is_writable}
+use Rattle.targets.specs.edge.Paths.{is_upward, source_path}
 use Rattle.targets.specs.Data.{SurroundingsData, TargetData}
 use Rattle.targets.specs.Libraries.{LinkedData, linked, linked_after, linked_of}
-use Rattle.target_edges.specs.Edges.{edges_of, edges_after, all_edges}
+use Rattle.targets.specs.target_edges.Edges.{edges_of, edges_after, all_edges}
 use Rattle.project.specs.Laws.{outputs_of, first_taken, times, all_made, all_inside}
 use Rattle.project.specs.World.{WorldData, reserved, taken_of, known_of, taken_in}
 use Rattle.project.specs.Earlier.{all_refer_back}

@@ -1,12 +1,13 @@
 -- The targets that a project keeps, and the edges of the one with a number.
-use Rattle.std.proofs.Common.{◌≡◌, ℕ, zero, suc, ◌+◌, List, [], ◌∷◌, ◌++◌, length, map, take, get_or, Option, Some, None, nat_lt, Bool, true, false, refl, sym, ap, ◌∙◌, subst, option_map, arith, length-append}
+use Rattle.std.proofs.Common.{◌≡◌, ℕ, zero, suc, ◌+◌, List, [], ◌∷◌, ◌++◌, length, map, take, get_or, Option, Some, None, nat_lt, Bool}
+use Rattle.std.proofs.Common.{true, false, refl, sym, ap, ◌∙◌, subst, option_map, arith, length-append}
 use Rattle.std.specs.Prelude.{slice_get, unwrap_or, if◌then◌else◌}
 use Rattle.std.specs.List.{list_all}
 use Rattle.std.proofs.lemmas.Bool.{ltb-true}
 use Rattle.std.proofs.lemmas.List.{map-append, take-map}
 use Rattle.std.proofs.lemmas.Option.{slice_get-map, slice_get-get_or}
-use Rattle.edge.specs.Texts.{Path, holds, texts}
-use Rattle.edge.specs.Data.{EdgeData}
+use Rattle.targets.specs.edge.Texts.{Path, holds, texts}
+use Rattle.targets.specs.edge.Data.{EdgeData}
 use Rattle.targets.specs.Data.{SurroundingsData, TargetData, Build, Custom}
 use Rattle.targets.specs.Files.{is_static, file_path, object_paths}
 use Rattle.targets.specs.Libraries.{LinkBack, LinkedData, linked, linked_of, linked_libraries, libraries_of, library_numbers}
@@ -14,8 +15,8 @@ use Rattle.targets.specs.LinkedViews.{linked_views}
 use Rattle.targets.specs.View.{target_view}
 use Rattle.targets.specs.declared.linked_target.Linked.{Linked}
 use Rattle.targets.proofs.LinkedLists.{back-take, linked_got, linked_of-take, target_missed, targets_after}
-use Rattle.target_edges.specs.Edges.{archiving, build_edges, compile_edges, edges_of, link_edges, linking, target_edges}
-use Rattle.target_edges.specs.Words.{library_files, link_words}
+use Rattle.targets.specs.target_edges.Edges.{archiving, build_edges, compile_edges, edges_of, link_edges, linking, target_edges}
+use Rattle.targets.specs.target_edges.Words.{library_files, link_words}
 use Rattle.project.specs.World.{WorldData, made_of}
 use Rattle.project.specs.Whole.{IsWhole, targets_in}
 use Rattle.project.specs.Earlier.{all_refer_back, is_earlier_library, is_library_if, refers_back}

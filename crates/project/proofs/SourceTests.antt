@@ -3,7 +3,7 @@ use Rattle.std.proofs.Common.{◌≡◌, Bool, List, [], ◌∷◌, ◌++◌, ma
 use Rattle.std.specs.Prelude.{◌&&◌, ◌||◌, flat_map}
 use Rattle.std.specs.List.{list_any, list_all}
 use Rattle.std.proofs.lemmas.List.Folds.{list_any-append, list_all-append, list_all-map}
-use Rattle.edge.proofs.TextLists.{list_any-map}
+use Rattle.targets.proofs.TextLists.{list_any-map}
 use Rattle.targets.specs.Data.{SourceData, ListsData}
 use Rattle.targets.specs.View.{source_view}
 use Rattle.targets.specs.declared.target.Source.{Source}

@@ -4,16 +4,16 @@ use Rattle.std.specs.Prelude.{slice_get, bytes_eq, codes, Option, Some, None, Re
 use Rattle.std.specs.List.{list_any, list_all, sum_by}
 use Rattle.basics.specs.Limits.{items}
 use Rattle.paths.specs.Names.{has_slash, is_file_name}
-use Rattle.edge.specs.Texts.{Path, Text, holds, put_new}
-use Rattle.edge.specs.Paths.{is_upward}
-use Rattle.edge.specs.Data.{EdgeData}
-use Rattle.edge.specs.Holding.{path_held, value_held, are_writable}
+use Rattle.targets.specs.edge.Texts.{Path, Text, holds, put_new}
+use Rattle.targets.specs.edge.Paths.{is_upward}
+use Rattle.targets.specs.edge.Data.{EdgeData}
+use Rattle.targets.specs.edge.Holding.{path_held, value_held, are_writable}
 use Rattle.targets.specs.Data.{SurroundingsData, SourceData, Tree, Built, Made, ListsData, BuildData, CustomData, TargetData, Build, Custom}
 use Rattle.targets.specs.Sources.{all_sources, is_c, has_foreign}
 use Rattle.paths.specs.Paths.{path_in}
 use Rattle.targets.specs.Files.{file_name, link_names}
 use Rattle.targets.specs.Libraries.{LinkedData, linked, linked_of, links_libraries}
-use Rattle.target_edges.specs.Edges.{edges_of}
+use Rattle.targets.specs.target_edges.Edges.{edges_of}
 use Rattle.project.specs.Laws.{first_taken, outputs_of}
 use Rattle.project.specs.Refused.{RefusedData, refused}
 use Rattle.project.specs.Unheld.{unheld, unheld_word}

@@ -1,7 +1,7 @@
 -- A target refers only to earlier targets.
 use Rattle.std.specs.Prelude.{ℕ, nat_lt, Bool, true, false, ◌&&◌, List, [], ◌∷◌, ◌++◌, length, slice_get, Option, Some, None}
 use Rattle.std.specs.List.{list_all}
-use Rattle.edge.specs.Texts.{Path, holds}
+use Rattle.targets.specs.edge.Texts.{Path, holds}
 use Rattle.targets.specs.Data.{SurroundingsData, TargetData, Build, Custom}
 use Rattle.targets.specs.Files.{is_library}
 use Rattle.targets.specs.Libraries.{library_numbers}

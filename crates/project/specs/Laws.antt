@@ -2,9 +2,9 @@
 use Rattle.std.specs.Prelude.{◌≡◌, ℕ, ◌+◌, ◌≤◌, Bool, true, not, ◌&&◌, List, [], ◌∷◌, ◌++◌, flat_map, slice_get, bytes_eq, Option, Some}
 use Rattle.std.specs.Prelude.{None, if◌then◌else◌}
 use Rattle.std.specs.List.{list_all}
-use Rattle.edge.specs.Texts.{Path, holds}
-use Rattle.edge.specs.Paths.{is_upward}
-use Rattle.edge.specs.Data.{EdgeData}
+use Rattle.targets.specs.edge.Texts.{Path, holds}
+use Rattle.targets.specs.edge.Paths.{is_upward}
+use Rattle.targets.specs.edge.Data.{EdgeData}
 
 abbrev pub outputs_of : List EdgeData → List Path
 outputs_of edges = flat_map (λ e. e.outputs) edges

@@ -1,6 +1,6 @@
 -- What was looked at and noted, without where it lies in memory.
 use Rattle.std.specs.Prelude.{map}
-use Rattle.edge.specs.Texts.{texts}
+use Rattle.targets.specs.edge.Texts.{texts}
 use Rattle.project.specs.View.{NotesData, answer_view, install_view, test_view}
 use Rattle.project.specs.declared.project.Notes.{Notes}
 

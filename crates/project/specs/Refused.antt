@@ -1,6 +1,6 @@
 -- What a project refuses, and what each refusal is about.
 use Rattle.std.specs.Prelude.{ℕ, List, [], ◌++◌, Result, Ok, Err, codes, string_bytes}
-use Rattle.edge.specs.Texts.{Text}
+use Rattle.targets.specs.edge.Texts.{Text}
 use Rattle.project.specs.declared.refusal.Refusal.{Refusal}
 use Rattle.project.specs.declared.refusal.Refusal.TheVariants.{Arguments, Missing, Unholdable, Duplicate, Limit, Late}
 use Rattle.project.specs.declared.refusal.Refused.{Refused}

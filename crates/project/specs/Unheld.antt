@@ -2,8 +2,8 @@
 use Rattle.std.specs.Prelude.{not, List, [], ◌∷◌, Option, Some, None, if◌then◌else◌}
 use Rattle.std.specs.List.{find}
 use Rattle.std.specs.Option.{option_or, unwrap_or}
-use Rattle.edge.specs.Texts.{Path, Text}
-use Rattle.edge.specs.Holding.{path_held, value_held}
+use Rattle.targets.specs.edge.Texts.{Path, Text}
+use Rattle.targets.specs.edge.Holding.{path_held, value_held}
 use Rattle.targets.specs.Data.{SourceData, Tree, Built, Made, ListsData, BuildData, CustomData, TargetData, Build, Custom}
 
 -- the first, and where there is none the second

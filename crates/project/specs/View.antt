@@ -1,6 +1,6 @@
 -- What a project holds, without where it lies in memory.
 use Rattle.std.specs.Prelude.{List, map, string_bytes}
-use Rattle.edge.specs.Texts.{Path, texts}
+use Rattle.targets.specs.edge.Texts.{Path, texts}
 use Rattle.targets.specs.Data.{SurroundingsData}
 use Rattle.targets.specs.Libraries.{LinkedData}
 use Rattle.project.specs.World.{WorldData, AnswerData, InstallData, TestData}

@@ -1,11 +1,11 @@
 -- How a project keeps what it holds.
 use Rattle.std.specs.Prelude.{◌≡◌, true, List, [], ◌++◌, map, String}
 use Rattle.std.specs.Global.{Global}
-use Rattle.edge.specs.Texts.{Path, holds}
-use Rattle.edge.specs.Holding.{are_writable}
+use Rattle.targets.specs.edge.Texts.{Path, holds}
+use Rattle.targets.specs.edge.Holding.{are_writable}
 use Rattle.targets.specs.Data.{SurroundingsData, TargetData}
 use Rattle.targets.specs.Libraries.{LinkedData, linked, linked_of}
-use Rattle.target_edges.specs.Edges.{all_edges, edges_of}
+use Rattle.targets.specs.target_edges.Edges.{all_edges, edges_of}
 use Rattle.project.specs.Laws.{outputs_of, AtMostOnce, all_made, all_inside}
 use Rattle.project.specs.World.{taken_of, known_of}
 use Rattle.project.specs.Earlier.{refers_back, all_refer_back}

@@ -1,10 +1,10 @@
 -- What a project holds.
 use Rattle.std.specs.Prelude.{ℤ, Bool, not, ◌&&◌, List, [], ◌∷◌, ◌++◌, map, codes}
-use Rattle.edge.specs.Texts.{Path, Text, holds}
-use Rattle.edge.specs.Paths.{source_path}
+use Rattle.targets.specs.edge.Texts.{Path, Text, holds}
+use Rattle.targets.specs.edge.Paths.{source_path}
 use Rattle.targets.specs.Data.{FactsData, SurroundingsData, TargetData}
-use Rattle.edge.specs.Data.{EdgeData}
-use Rattle.target_edges.specs.Edges.{all_edges}
+use Rattle.targets.specs.edge.Data.{EdgeData}
+use Rattle.targets.specs.target_edges.Edges.{all_edges}
 use Rattle.project.specs.Laws.{outputs_of}
 
 -- what a call of `dependency` answered

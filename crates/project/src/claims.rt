@@ -1,6 +1,6 @@
 //! The paths that a project makes.
 ghost use Rattle.std.specs.Prelude.{◌≡◌, ◌++◌, IfOk, OnErr, ◌&&◌, not, is_some, None, option_map, if◌then◌else◌};
-ghost use Rattle.edge.specs.Texts.{texts};
+ghost use Rattle.targets.specs.edge.Texts.{texts};
 ghost use Rattle.project.specs.Laws.{first_taken};
 ghost use Rattle.project.specs.Whole.{IsFront};
 

@@ -2,7 +2,7 @@
 ghost use Rattle.std.specs.Prelude.{◌≡◌, ◌+◌, min, IfOk, ◌&&◌, ◌||◌, string_bytes, option_map};
 ghost use Rattle.std.specs.List.{list_any, list_all};
 ghost use Rattle.basics.specs.Limits.{items};
-ghost use Rattle.edge.specs.Texts.{texts, holds as is_held};
+ghost use Rattle.targets.specs.edge.Texts.{texts, holds as is_held};
 ghost use Rattle.paths.specs.Names.{has_slash, is_file_name};
 ghost use Rattle.targets.specs.LinkedViews.{linked_views};
 ghost use Rattle.targets.specs.View.{source_view, lists_view, build_view, custom_view, target_view};
@@ -14,9 +14,9 @@ ghost use Rattle.project.specs.Adding.{has_c_in, has_c, names_fit, optional_file
 ghost use Rattle.project.specs.Adding.{is_short, is_within, is_build};
 
 use basics::tables::SipSet;
-use edge::{holds, is_upward};
 use paths::{has_slash, is_file_name};
 use std::alloc::{AllocError, Global};
+use targets::edge::{holds, is_upward};
 use targets::{
     BuildTarget, CustomTarget, Linked, Lists, Source, Target, file_name, has_foreign_source, is_c,
     link_names, links_libraries,

@@ -1,6 +1,6 @@
 ghost use Rattle.std.specs.Prelude.{◌≡◌, ℕ, ◌<◌, [], ◌++◌, ◌&&◌, not, true, map, IfOk, OnOk, OnErr, Result, Ok, string_bytes};
 ghost use Rattle.std.specs.Prelude.{if◌then◌else◌};
-ghost use Rattle.edge.specs.Texts.{texts};
+ghost use Rattle.targets.specs.edge.Texts.{texts};
 ghost use Rattle.targets.specs.LinkedViews.{linked_views};
 ghost use Rattle.targets.specs.View.{facts_view, surroundings_view, target_view};
 ghost use Rattle.targets.specs.Libraries.{LinkBack, linked, linked_of};
@@ -14,15 +14,15 @@ ghost use Rattle.project.specs.Adding.{with_install, with_test, edges_at, is_fol
 ghost use Rattle.project.specs.Adding.{edges_by_number, arguments_answer, with_arguments, with_link_arguments};
 ghost use Rattle.project.specs.Adding.{first_build, is_build as is_build_target};
 ghost use Rattle.std.specs.List.{list_any};
-ghost use Rattle.edge.specs.Paths.{is_upward};
-ghost use Rattle.edge.specs.Holding.{are_writable};
+ghost use Rattle.targets.specs.edge.Paths.{is_upward};
+ghost use Rattle.targets.specs.edge.Holding.{are_writable};
 ghost use Rattle.paths.specs.Paths.{path_in as path_of};
 ghost use Rattle.targets.specs.Files.{default_paths};
 ghost use Rattle.project.specs.Laws.{AtMostOnce, all_made, outputs_of, Reaches};
 ghost use Rattle.project.specs.World.{new_world, edges_in, known_in, taken_in};
 ghost use Rattle.project.specs.Refused.{answer_data};
-ghost use Rattle.target_edges.specs.Edges.{target_edges as target_edges_of, edges_of};
-ghost use Rattle.target_edges.specs.PartsView.{parts_edges};
+ghost use Rattle.targets.specs.target_edges.Edges.{target_edges as target_edges_of, edges_of};
+ghost use Rattle.targets.specs.target_edges.PartsView.{parts_edges};
 
 use crate::claims::claim;
 use crate::fitting::{
@@ -32,11 +32,11 @@ use crate::notes::{Answer, Install, Test};
 use crate::refusal::{Refusal, Refused, refuse};
 use crate::unheld::{unheld, unheld_word};
 use basics::tables::{SipSet, new_set};
-use edge::{can_hold_path, can_hold_values, copies, strings};
 use paths::{is_file_name, path_in};
 use std::alloc::{AllocError, Global};
 use std::marker::Model;
-use target_edges::{Claims, Context, TargetParts, claims_of, no_parts, target_parts};
+use targets::edge::{can_hold_path, can_hold_values, copies, strings};
+use targets::target_edges::{Claims, Context, TargetParts, claims_of, no_parts, target_parts};
 use targets::{Facts, Linked, Surroundings, Target, linked_libraries};
 
 // What was looked at, and what was noted.
@@ -93,7 +93,7 @@ impl Model for Project {
     ghost Value = { WorldData };
 
     ghost use Rattle.std.specs.Prelude.{map};
-    ghost use Rattle.edge.specs.Texts.{texts};
+    ghost use Rattle.targets.specs.edge.Texts.{texts};
     ghost use Rattle.targets.specs.LinkedViews.{linked_views};
     ghost use Rattle.targets.specs.View.{surroundings_view};
     ghost use Rattle.project.specs.View.{world_of};

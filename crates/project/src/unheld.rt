@@ -1,13 +1,13 @@
 //! Which text of a target `build.ninja` can't hold: it is looked for only where a call is refused.
 ghost use Rattle.std.specs.Prelude.{◌≡◌, map, option_map, string_bytes};
-ghost use Rattle.edge.specs.Texts.{texts};
+ghost use Rattle.targets.specs.edge.Texts.{texts};
 ghost use Rattle.targets.specs.View.{build_view, custom_view, lists_view, source_view, target_view};
 ghost use Rattle.project.specs.Unheld.{unheld, unheld_brought, unheld_lists, unheld_of_build, unheld_of_custom, unheld_path};
 ghost use Rattle.project.specs.Unheld.{unheld_path_if, unheld_paths, unheld_source, unheld_sources, unheld_word, unheld_word_if};
 ghost use Rattle.project.specs.Unheld.{unheld_words};
 
-use edge::{can_hold_path, can_hold_value};
 use std::rc::Rc;
+use targets::edge::{can_hold_path, can_hold_value};
 use targets::{BuildTarget, CustomTarget, Lists, Source, Target};
 
 // ---- the first that it can't hold

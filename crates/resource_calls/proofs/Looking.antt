@@ -1,5 +1,6 @@
 -- Names that are looked up, one after another.
-use Rattle.std.proofs.Common.{◌≡◌, ◌==◌, ℕ, suc, ◌+◌, ◌<◌, ◌≤◌, Bor, true, false, List, [], ◌∷◌, None, refl, map, length, drop, get_or, sym, ap, eqb-true, arith}
+use Rattle.std.proofs.Common.{◌≡◌, ◌==◌, ℕ, suc, ◌+◌, ◌<◌, ◌≤◌, Bor, true, false, List, [], ◌∷◌, None, refl, map, length, drop, get_or, sym}
+use Rattle.std.proofs.Common.{ap, eqb-true, arith}
 use Rattle.std.proofs.lemmas.Bool.{false≢true}
 use Rattle.std.proofs.lemmas.List.{drop_all, drop_more}
 use Rattle.world.specs.Deed.{give, then}

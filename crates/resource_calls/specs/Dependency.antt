@@ -10,11 +10,11 @@ use Rattle.data.specs.declared.object.Dependency.{Dependency}
 use Rattle.data.specs.declared.object.Object.TheVariants as objects
 use Rattle.data.specs.declared.refusal.Refusal.{Refusal}
 use Rattle.basics.specs.declared.faults.refusal.Refusal.TheVariants as refusals
-use Rattle.machine_file.specs.Questions.{dependency_topic}
+use Rattle.machine.specs.machine_file.Questions.{dependency_topic}
 use Rattle.project.specs.World.{AnswerData}
-use Rattle.resources.specs.Beside.{call_question}
-use Rattle.resources.specs.Fitting.{dependency_that_fits}
-use Rattle.resources.specs.Found.{missing}
+use Rattle.named_sources.specs.resources.Beside.{call_question}
+use Rattle.named_sources.specs.resources.Fitting.{dependency_that_fits}
+use Rattle.named_sources.specs.resources.Found.{missing}
 use Rattle.resource_calls.specs.Required.{missing_object, required_by}
 use Rattle.world.specs.Declaring.{add_dependency}
 use Rattle.world.specs.Deed.{Deed, give, refuse, consult, ◌>>=◌, answered}

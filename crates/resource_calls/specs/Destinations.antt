@@ -6,11 +6,11 @@ use Rattle.arguments.specs.Each.{each_said}
 use Rattle.arguments.specs.Leaves.{leaves_from}
 use Rattle.arguments.specs.Said.{Said, ◌>>=◌, found}
 use Rattle.arguments.specs.declared.rule.Rule.TheVariants as rules
-use Rattle.edge.specs.Texts.{Path, Text}
+use Rattle.targets.specs.edge.Texts.{Path, Text}
 use Rattle.paths.specs.Below.{path_below}
 use Rattle.project.specs.World.{InstallData}
 use Rattle.paths.specs.Names.{plain_name}
-use Rattle.resources.specs.Installs.{destination, headers_folder, man_folder}
+use Rattle.named_sources.specs.resources.Installs.{destination, headers_folder, man_folder}
 use Rattle.named_sources.specs.Sources.{NamedData, tree, built, sources_of}
 use Rattle.world.specs.Here.{HereData, here_of}
 use Rattle.world.specs.Options.{option_text}

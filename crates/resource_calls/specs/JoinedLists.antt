@@ -9,9 +9,9 @@ use Rattle.data.specs.declared.object.Dependency.{Dependency}
 use Rattle.data.specs.declared.object.Source.{Source}
 use Rattle.data.specs.declared.object.Source.TheVariants as source
 use Rattle.data.specs.declared.refusal.Refusal.{Refusal}
-use Rattle.edge.specs.Texts.{Path, Text}
-use Rattle.resources.specs.Found.{◌>>=◌, found, within_texts}
-use Rattle.resources.specs.Joined.{dependencies_in, joined}
+use Rattle.targets.specs.edge.Texts.{Path, Text}
+use Rattle.named_sources.specs.resources.Found.{◌>>=◌, found, within_texts}
+use Rattle.named_sources.specs.resources.Joined.{dependencies_in, joined}
 use Rattle.named_sources.specs.Outputs.{outputs_at}
 use Rattle.named_sources.specs.Sources.{NamedData, tree, built, outputs, output}
 use Rattle.targets.specs.Libraries.{LinkedData}

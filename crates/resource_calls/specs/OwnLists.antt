@@ -6,7 +6,7 @@ use Rattle.arguments.specs.Leaves.{leaves_named}
 use Rattle.arguments.specs.Said.{Said, ◌>>=◌, found}
 use Rattle.arguments.specs.declared.rule.Rule.TheVariants as rules
 use Rattle.data.specs.Data.{Data}
-use Rattle.edge.specs.Texts.{Path}
+use Rattle.targets.specs.edge.Texts.{Path}
 use Rattle.named_sources.specs.Folders.{folders_of}
 use Rattle.named_sources.specs.Libraries.{numbers_of}
 use Rattle.named_sources.specs.Sources.{NamedData, sources_of}

@@ -12,12 +12,12 @@ use Rattle.data.specs.declared.object.Object.TheVariants as objects
 use Rattle.data.specs.declared.object.Program.{Program}
 use Rattle.data.specs.declared.object.Program.TheVariants as programs
 use Rattle.data.specs.declared.refusal.Refusal.{Refusal}
-use Rattle.edge.specs.Texts.{Path, Text}
+use Rattle.targets.specs.edge.Texts.{Path, Text}
 use Rattle.basics.specs.declared.faults.refusal.Refusal.TheVariants as refusals
 use Rattle.paths.specs.Paths.{tree_path}
-use Rattle.machine_file.specs.Questions.{Key, plain}
-use Rattle.resources.specs.Fitting.{program_words}
-use Rattle.resources.specs.Found.{within_texts}
+use Rattle.machine.specs.machine_file.Questions.{Key, plain}
+use Rattle.named_sources.specs.resources.Fitting.{program_words}
+use Rattle.named_sources.specs.resources.Found.{within_texts}
 use Rattle.world.specs.Deed.{Deed, give, refuse, read, consult, ◌>>=◌, answered, there}
 use Rattle.world.specs.Ruled.{ruled}
 use Rattle.resource_calls.specs.Required.{missing_object, required_by}

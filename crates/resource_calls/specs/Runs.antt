@@ -8,8 +8,8 @@ use Rattle.arguments.specs.declared.rule.Rule.TheVariants as rules
 use Rattle.data.specs.Data.{Data, object}
 use Rattle.data.specs.declared.object.Object.{Object}
 use Rattle.data.specs.declared.object.Object.TheVariants as objects
-use Rattle.edge.specs.Texts.{Text}
-use Rattle.resources.specs.Testing.{environment}
+use Rattle.targets.specs.edge.Texts.{Text}
+use Rattle.named_sources.specs.resources.Testing.{environment}
 use Rattle.resource_calls.specs.TestCommands.{command_given}
 use Rattle.world.specs.Here.{HereData}
 

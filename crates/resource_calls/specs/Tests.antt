@@ -5,7 +5,7 @@ use Rattle.arguments.specs.Given.{flag, integer_of, text_at, texts}
 use Rattle.data.specs.Data.{Data}
 use Rattle.data.specs.declared.refusal.Refusal.{Refusal}
 use Rattle.project.specs.World.{TestData}
-use Rattle.resources.specs.Testing.{seconds_of}
+use Rattle.named_sources.specs.resources.Testing.{seconds_of}
 use Rattle.world.specs.Declaring.{add_test}
 use Rattle.world.specs.Deed.{Deed, give, read, ◌>>=◌, answered}
 use Rattle.world.specs.Fit.{passed}

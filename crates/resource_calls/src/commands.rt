@@ -1,6 +1,6 @@
 //! The command of a test. Files and targets are absolute paths.
 ghost use Rattle.std.specs.Prelude.{◌≡◌, IfOk, map, option_map, string_bytes};
-ghost use Rattle.edge.specs.Texts.{texts};
+ghost use Rattle.targets.specs.edge.Texts.{texts};
 ghost use Rattle.arguments.specs.Each.{all_behind};
 ghost use Rattle.named_sources.specs.ThingsView.{thing_view};
 ghost use Rattle.paths.specs.Below.{path_below};

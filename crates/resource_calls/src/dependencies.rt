@@ -1,9 +1,9 @@
 //! `dependency`: <https://mesonbuild.com/Reference-manual_functions.html#dependency>.
 ghost use Rattle.std.specs.Prelude.{◌≡◌, IfOk, map, option_map};
 ghost use Rattle.data.specs.Flat.{flat_all};
-ghost use Rattle.machine_file.specs.Questions.{answer_to, dependency_topic};
+ghost use Rattle.machine.specs.machine_file.Questions.{answer_to, dependency_topic};
 ghost use Rattle.project.specs.View.{answer_view};
-ghost use Rattle.resources.specs.Beside.{call_question};
+ghost use Rattle.named_sources.specs.resources.Beside.{call_question};
 ghost use Rattle.world.specs.Prelude.{Does, MayFail, arguments_data, data_of};
 ghost use Rattle.world.specs.Declaring.{add_dependency};
 ghost use Rattle.world.specs.Deed.{consult};
@@ -15,10 +15,10 @@ use crate::required::{missing_object, required_by};
 use arguments::{Arguments, Requirement};
 use basics::faults::Refusal;
 use data::{Dependency, Object, Value};
-use machine_file::Topic;
+use machine::machine_file::Topic;
+use named_sources::resources::{call_question, dependency_that_fits, missing_dependency};
 use ports::{Outputs, Tree};
 use project::Answer;
-use resources::{call_question, dependency_that_fits, missing_dependency};
 use std::alloc::{AllocError, Global};
 use world::{Caller, Stop};
 

@@ -11,11 +11,11 @@ ghost use Rattle.resource_calls.specs.Destinations.{said_of, usual_folder};
 ghost use Rattle.resource_calls.specs.DestinationsView.{folders_view, said_view};
 
 use arguments::{Arguments, Refused, Rule};
+use named_sources::resources::{destination, headers_folder, man_folder};
 use named_sources::{NamedSource, sources_of};
 use paths::{path_below, plain_name};
 use ports::{Outputs, Tree};
 use project::Install;
-use resources::{destination, headers_folder, man_folder};
 use std::alloc::{AllocError, Global};
 use world::{Caller, Here};
 

@@ -11,9 +11,9 @@ use crate::required::{missing_object, required_by};
 use arguments::{Arguments, Requirement, Rule};
 use basics::faults::Refusal;
 use data::{Object, Program, Text, Texts, Value};
+use named_sources::resources::program_words;
 use paths::tree_path;
 use ports::{Outputs, Tree};
-use resources::program_words;
 use world::{Caller, Stop};
 
 // ---- the program of a name

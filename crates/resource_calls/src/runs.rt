@@ -8,7 +8,7 @@ ghost use Rattle.resource_calls.specs.RunsView.{run_view};
 use crate::commands::command_given;
 use arguments::{Arguments, Refused, Rule};
 use data::{Object, Value};
-use resources::environment;
+use named_sources::resources::environment;
 use std::alloc::{AllocError, Global};
 use world::Here;
 

@@ -9,9 +9,9 @@ ghost use Rattle.resource_calls.specs.Tests.{said_run, seconds_given, test, test
 use crate::runs::{Run, run_of};
 use arguments::Arguments;
 use data::Value;
+use named_sources::resources::seconds_of;
 use ports::{Outputs, Tree};
 use project::Test;
-use resources::seconds_of;
 use std::alloc::{AllocError, Global};
 use world::{Caller, Stop};
 

@@ -1,5 +1,6 @@
 -- Outputs that are noted, one after another.
-use Rattle.std.proofs.Common.{◌≡◌, ℕ, suc, ◌+◌, ◌<◌, List, map, drop, length, get_or, String, Global, string_bytes, ap, sym, refl, ◌∙◌, add-one}
+use Rattle.std.proofs.Common.{◌≡◌, ℕ, suc, ◌+◌, ◌<◌, List, map, drop, length, get_or, String, Global, string_bytes, ap, sym, refl, ◌∙◌}
+use Rattle.std.proofs.Common.{add-one}
 use Rattle.std.proofs.Math.Seq.{drop-cons}
 use Rattle.world.specs.Declaring.{add_install}
 use Rattle.world.specs.Deed.{then}

@@ -7,7 +7,7 @@ use Rattle.arguments.specs.Leaves.{leaves_from, leaves_named}
 use Rattle.arguments.specs.Said.{Said, ◌>>=◌, found, kept}
 use Rattle.arguments.specs.declared.rule.Rule.TheVariants as rules
 use Rattle.data.specs.Data.{Data, integer, text}
-use Rattle.edge.specs.Texts.{Path, Text}
+use Rattle.targets.specs.edge.Texts.{Path, Text}
 use Rattle.targets.specs.Data.{Build, BuildData, ListsData, SourceData, TargetData}
 use Rattle.targets.specs.declared.target.Kind.{Kind}
 use Rattle.named_sources.specs.Folders.{folders_of}

@@ -5,8 +5,8 @@ use Rattle.data.specs.Data.{Data, text, object}
 use Rattle.data.specs.declared.object.Object.{Object}
 use Rattle.data.specs.declared.object.Program.{Program}
 use Rattle.data.specs.declared.object.Program.TheVariants as programs
-use Rattle.edge.specs.Paths.{source_path}
-use Rattle.edge.specs.Texts.{Path, Text}
+use Rattle.targets.specs.edge.Paths.{source_path}
+use Rattle.targets.specs.edge.Texts.{Path, Text}
 use Rattle.named_sources.specs.Holes.{PlaceData, words_of}
 use Rattle.named_sources.specs.Things.{ThingData, a_file, a_program, a_target, all_outputs, an_output, thing_of}
 use Rattle.paths.specs.Names.{has_slash}

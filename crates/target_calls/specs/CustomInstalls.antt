@@ -2,7 +2,7 @@
 use Rattle.std.specs.Prelude.{ℕ, List, [], ◌∷◌, codes, if◌then◌else◌}
 use Rattle.arguments.specs.Arguments.{ArgumentsData}
 use Rattle.arguments.specs.Given.{text_of}
-use Rattle.edge.specs.Texts.{Path, Text}
+use Rattle.targets.specs.edge.Texts.{Path, Text}
 use Rattle.paths.specs.Below.{path_below}
 use Rattle.paths.specs.Paths.{path_in}
 use Rattle.project.specs.World.{InstallData}

@@ -4,9 +4,9 @@ use Rattle.arguments.specs.Arguments.{ArgumentsData}
 use Rattle.arguments.specs.Each.{each_or_none}
 use Rattle.arguments.specs.Given.{texts}
 use Rattle.arguments.specs.Maybe.{◌>>=◌}
-use Rattle.edge.specs.Folders.{build_folder, source_folder}
-use Rattle.edge.specs.Paths.{source_root}
-use Rattle.edge.specs.Texts.{Path, Text}
+use Rattle.targets.specs.edge.Folders.{build_folder, source_folder}
+use Rattle.targets.specs.edge.Paths.{source_root}
+use Rattle.targets.specs.edge.Texts.{Path, Text}
 use Rattle.named_sources.specs.Holes.{PlaceData, filled, first_of}
 use Rattle.named_sources.specs.declared.holes.Scope.TheVariants.{FileName}
 use Rattle.paths.specs.Paths.{path_in}

@@ -8,7 +8,7 @@ use Rattle.arguments.specs.Said.{Said, ◌>>=◌, found, unbroken}
 use Rattle.arguments.specs.declared.rule.Rule.{Rule}
 use Rattle.arguments.specs.declared.rule.Rule.TheVariants as rules
 use Rattle.data.specs.Data.{Data}
-use Rattle.edge.specs.Texts.{Path, Text}
+use Rattle.targets.specs.edge.Texts.{Path, Text}
 use Rattle.named_sources.specs.Holes.{PlaceData}
 use Rattle.targets.specs.Data.{Custom, CustomData, SourceData}
 use Rattle.targets.specs.Sources.{source_paths}

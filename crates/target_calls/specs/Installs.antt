@@ -2,7 +2,7 @@
 use Rattle.std.specs.Prelude.{Option, Some, None, codes, unwrap_or, if◌then◌else◌}
 use Rattle.arguments.specs.Arguments.{ArgumentsData}
 use Rattle.arguments.specs.Given.{text_given}
-use Rattle.edge.specs.Texts.{Path}
+use Rattle.targets.specs.edge.Texts.{Path}
 use Rattle.paths.specs.Below.{path_below}
 use Rattle.project.specs.World.{InstallData}
 use Rattle.targets.specs.Data.{Build, BuildData, Custom, TargetData}

@@ -5,7 +5,7 @@ use Rattle.arguments.specs.Arguments.{ArgumentsData}
 use Rattle.data.specs.Flat.{flat_all}
 use Rattle.arguments.specs.Given.{texts}
 use Rattle.data.specs.Data.{Data}
-use Rattle.edge.specs.Texts.{Text}
+use Rattle.targets.specs.edge.Texts.{Text}
 use Rattle.arguments.specs.declared.rule.Rule.TheVariants as rules
 use Rattle.world.specs.Declaring.{add_arguments, add_link_arguments}
 use Rattle.world.specs.Deed.{Deed, give, ◌>>=◌}

@@ -1,6 +1,6 @@
 -- The sources of a target: files, and the outputs of earlier targets.
 use Rattle.std.specs.Prelude.{List, [], ◌∷◌, Option, Some, option_map}
-use Rattle.edge.specs.Texts.{Path}
+use Rattle.targets.specs.edge.Texts.{Path}
 use Rattle.targets.specs.Data.{SourceData, Tree, Built, Made}
 use Rattle.targets.specs.Libraries.{LinkedData}
 use Rattle.arguments.specs.Each.{each_or_none}

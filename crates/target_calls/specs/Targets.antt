@@ -3,8 +3,8 @@ use Rattle.std.specs.Prelude.{ℕ, Option, Some, bytes_eq, codes, if◌then◌el
 use Rattle.arguments.specs.Arguments.{ArgumentsData}
 use Rattle.data.specs.Data.{Data, object}
 use Rattle.data.specs.declared.object.Object.TheVariants as objects
-use Rattle.option_values.specs.Values as option
-use Rattle.option_values.specs.Settings.{value_named}
+use Rattle.machine.specs.option_values.Values as option
+use Rattle.machine.specs.option_values.Settings.{value_named}
 use Rattle.project.specs.Adding.{is_fit}
 use Rattle.targets.specs.Data.{TargetData}
 use Rattle.targets.specs.declared.target.Kind.{Kind}

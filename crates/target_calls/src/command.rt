@@ -1,6 +1,6 @@
 //! The command of a custom target.
 ghost use Rattle.std.specs.Prelude.{◌≡◌, ◌∷◌, [], IfOk, None, Some, map, option_map, string_bytes, if◌then◌else◌};
-ghost use Rattle.edge.specs.Texts.{texts};
+ghost use Rattle.targets.specs.edge.Texts.{texts};
 ghost use Rattle.named_sources.specs.HolesView.{place_view};
 ghost use Rattle.named_sources.specs.ThingsView.{thing_view};
 ghost use Rattle.targets.specs.View.{build_view, source_view};
@@ -11,10 +11,10 @@ ghost use Rattle.target_calls.specs.CommandsView.{part_view};
 
 use crate::sources::{made_of, one_made_of};
 use data::{Object, Program, Value};
-use edge::{push_copies, source_path};
 use named_sources::{Place, Thing, push_words, strings, thing_of};
 use paths::has_slash;
 use std::alloc::{AllocError, Global};
+use targets::edge::{push_copies, source_path};
 use targets::{BuildTarget, Source, file_path};
 use world::Here;
 

@@ -1,6 +1,6 @@
 //! Where the outputs of a custom target go when it is installed.
 ghost use Rattle.std.specs.Prelude.{◌≡◌, IfOk};
-ghost use Rattle.edge.specs.Texts.{texts};
+ghost use Rattle.targets.specs.edge.Texts.{texts};
 ghost use Rattle.project.specs.View.{install_view};
 ghost use Rattle.targets.specs.View.{custom_view, target_view};
 ghost use Rattle.world.specs.Prelude.{Does, arguments_data};
@@ -10,11 +10,11 @@ ghost use Rattle.target_calls.specs.InstallsView.{folders_view};
 
 use crate::installs::{Folders, folders_in};
 use arguments::Arguments;
-use edge::{copies, is_some_list};
 use paths::{path_below, path_in};
 use ports::{Outputs, Tree};
 use project::Install;
 use std::alloc::{AllocError, Global};
+use targets::edge::{copies, is_some_list};
 use targets::{CustomTarget, Target};
 use world::{Caller, Stop};
 

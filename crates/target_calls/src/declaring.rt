@@ -1,6 +1,6 @@
 //! Functions that declare an executable or a library.
 ghost use Rattle.std.specs.Prelude.{◌≡◌, option_map};
-ghost use Rattle.option_values.specs.View.{value_in};
+ghost use Rattle.machine.specs.option_values.View.{value_in};
 ghost use Rattle.targets.specs.View.{target_view};
 ghost use Rattle.world.specs.Prelude.{Does, MayFail, arguments_data, data_of};
 ghost use Rattle.target_calls.specs.BuildTargetsView.{named_target_view};
@@ -12,7 +12,7 @@ use crate::installs::{install_of, note};
 use crate::tree::require_all;
 use arguments::Arguments;
 use data::{Object, Value};
-use option_values::OptionValue;
+use machine::option_values::OptionValue;
 use ports::{Outputs, Tree};
 use targets::{Kind, Target};
 use world::{Caller, Stop};

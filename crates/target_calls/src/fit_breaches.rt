@@ -1,6 +1,6 @@
 //! Which rule is broken by a target that the project can't have: it is looked for only where a call is refused.
 ghost use Rattle.std.specs.Prelude.{◌≡◌, ◌∷◌, IfOk, map, option_map, string_bytes};
-ghost use Rattle.edge.specs.Texts.{texts};
+ghost use Rattle.targets.specs.edge.Texts.{texts};
 ghost use Rattle.project.specs.Adding.{is_target_name};
 ghost use Rattle.targets.specs.Files.{file_name, link_names};
 ghost use Rattle.targets.specs.Sources.{is_header};
@@ -10,11 +10,11 @@ ghost use Rattle.target_calls.specs.FitBreaches.{bad_name, build_fit, custom_fit
 ghost use Rattle.target_calls.specs.FitBreaches.{foreign_of, foreign_path, source_breach};
 
 use arguments::Rule;
-use edge::copies;
 use paths::{has_slash, is_file_name};
 use project::Project;
 use std::alloc::{AllocError, Global};
 use std::rc::Rc;
+use targets::edge::copies;
 use targets::{
     BuildTarget, CustomTarget, Linked, Lists, Source, Target, file_name, is_c, link_names,
     links_libraries,

@@ -1,6 +1,6 @@
 //! The sources of a target.
 ghost use Rattle.std.specs.Prelude.{◌≡◌, ◌++◌, IfOk, flat_map, map, option_map, string_bytes};
-ghost use Rattle.edge.specs.Texts.{texts};
+ghost use Rattle.targets.specs.edge.Texts.{texts};
 ghost use Rattle.targets.specs.Data.{Made};
 ghost use Rattle.targets.specs.LinkedViews.{linked_views};
 ghost use Rattle.targets.specs.View.{source_view};
@@ -8,10 +8,10 @@ ghost use Rattle.named_sources.specs.Outputs.{output_at, outputs_at};
 ghost use Rattle.named_sources.specs.SourcesView.{named_view};
 ghost use Rattle.target_calls.specs.Sources.{file_in, one_made, source_in, sources_in};
 
-use edge::push_copies;
 use named_sources::{NamedSource, output_at, outputs_at};
 use std::alloc::{AllocError, Global};
 use std::rc::Rc;
+use targets::edge::push_copies;
 use targets::{Linked, Source};
 
 /// Outputs of one target.

@@ -1,6 +1,6 @@
 -- Libraries that a person worked out, which the definitions have to give.
 use Rattle.std.proofs.Common.{◌≡◌, ℕ, true, false, List, [], ◌∷◌, Some, None, map, codes, refl}
-use Rattle.edge.specs.Texts.{Text}
+use Rattle.targets.specs.edge.Texts.{Text}
 use Rattle.targets.specs.Data.{TargetData, Build, Tree, BuildData}
 use Rattle.targets.specs.Files.{file_name, so_name}
 use Rattle.targets.specs.Libraries.{linked_of}

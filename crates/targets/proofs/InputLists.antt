@@ -1,13 +1,14 @@
 -- Of inputs with equal paths the first is kept.
-use Rattle.std.proofs.Common.{◌≡◌, ◌<◌, Bool, true, false, List, [], ◌∷◌, ◌++◌, length, map, string_bytes, String, refl, sym, ap, ◌∙◌, arith}
+use Rattle.std.proofs.Common.{◌≡◌, ◌<◌, Bool, true, false, List, [], ◌∷◌, ◌++◌, length, map, string_bytes, String, refl, sym, ap, ◌∙◌}
+use Rattle.std.proofs.Common.{arith}
 use Rattle.std.specs.Prelude.{not, if◌then◌else◌, string_eq}
 use Rattle.std.specs.List.{list_any}
 use Rattle.std.specs.Global.{Global}
 use Rattle.std.proofs.lemmas.List.{map-append}
 use Rattle.std.proofs.lemmas.Bool.{not-true, not-false}
 use Rattle.indexmap.specs.IndexSet.{insert_key}
-use Rattle.edge.specs.Texts.{Path, texts, holds}
-use Rattle.edge.proofs.TextLists.{holds-texts, texts-insert_key}
+use Rattle.targets.specs.edge.Texts.{Path, texts, holds}
+use Rattle.targets.proofs.TextLists.{holds-texts, texts-insert_key}
 use Rattle.targets.specs.Sources.{InputData, put_input, put_inputs}
 use Rattle.targets.specs.Inputs.{input_view}
 use Rattle.targets.specs.declared.sources.Input.{Input}

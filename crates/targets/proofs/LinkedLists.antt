@@ -1,5 +1,6 @@
 -- What stands at a number of linked targets.
-use Rattle.std.proofs.Common.{◌≡◌, ℕ, zero, suc, ◌+◌, ◌<◌, Bool, true, false, List, [], ◌∷◌, ◌++◌, length, map, take, get_or, ◌≤◌, refl, sym, ap, ◌∙◌, append-nil, append_assoc, arith, option_map, length-append}
+use Rattle.std.proofs.Common.{◌≡◌, ℕ, zero, suc, ◌+◌, ◌<◌, Bool, true, false, List, [], ◌∷◌, ◌++◌, length, map, take, get_or, ◌≤◌, refl}
+use Rattle.std.proofs.Common.{sym, ap, ◌∙◌, append-nil, append_assoc, arith, option_map, length-append}
 use Rattle.std.specs.Prelude.{nat_lt, slice_get, Option, Some, None, unwrap_or, flat_map, if◌then◌else◌}
 use Rattle.std.specs.List.{list_all}
 use Rattle.std.proofs.Math.Seq.{take-append_seam}
@@ -7,11 +8,12 @@ use Rattle.std.proofs.lemmas.Bool.{ltb-true, and_parts}
 use Rattle.std.proofs.lemmas.Bool.Decides.{nat_tests}
 use Rattle.std.proofs.lemmas.List.{length-take, map-append, take_all}
 use Rattle.std.proofs.lemmas.Option.{slice_get-map, slice_get-get_or, slice_get_within, slice_get_past}
-use Rattle.edge.specs.Texts.{texts}
+use Rattle.targets.specs.edge.Texts.{texts}
 use Rattle.targets.specs.Data.{TargetData, Build, Custom, BuildData}
 use Rattle.targets.specs.Sources.{listed}
 use Rattle.targets.specs.Files.{is_static, default_paths}
-use Rattle.targets.specs.Libraries.{LinkedData, linked, linked_after, linked_of, last_kept, with_its_own, libraries_if_static, libraries_in, is_static_target, build_of, build_in, LinkBack}
+use Rattle.targets.specs.Libraries.{LinkedData, linked, linked_after, linked_of, last_kept, with_its_own, libraries_if_static, libraries_in}
+use Rattle.targets.specs.Libraries.{is_static_target, build_of, build_in, LinkBack}
 use Rattle.targets.specs.LinkedViews.{linked_views}
 use Rattle.targets.specs.View.{target_view}
 use Rattle.targets.specs.Walk.{if_static, static_at}

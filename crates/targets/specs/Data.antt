@@ -1,6 +1,6 @@
 -- A project's facts and targets: plain data, without where it lies in memory.
 use Rattle.std.specs.Prelude.{ℕ, ℤ, Bool, List, Option}
-use Rattle.edge.specs.Texts.{Path, Text}
+use Rattle.targets.specs.edge.Texts.{Path, Text}
 use Rattle.targets.specs.declared.facts.OptionType.{OptionType}
 use Rattle.targets.specs.declared.target.Kind.{Kind}
 

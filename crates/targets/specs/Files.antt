@@ -1,8 +1,8 @@
 -- The files that a target makes.
 use Rattle.std.specs.Prelude.{ℕ, Bool, true, false, ◌==◌, List, [], ◌∷◌, ◌++◌, map, bytes_eq, codes, Option, Some, None, option_map}
 use Rattle.std.specs.Prelude.{if◌then◌else◌}
-use Rattle.edge.specs.Texts.{Path, Text}
-use Rattle.edge.specs.Paths.{object_path}
+use Rattle.targets.specs.edge.Texts.{Path, Text}
+use Rattle.targets.specs.edge.Paths.{object_path}
 use Rattle.paths.specs.Paths.{path_in}
 use Rattle.targets.specs.Data.{BuildData, CustomData, TargetData, Build, Custom}
 use Rattle.targets.specs.Sources.{compiled}

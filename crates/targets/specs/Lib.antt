@@ -7,3 +7,5 @@ pub mod Libraries
 pub mod Marks
 pub mod LinkedViews
 pub mod Walk
+pub mod edge
+pub mod target_edges

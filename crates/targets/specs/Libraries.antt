@@ -2,7 +2,7 @@
 use Rattle.std.specs.Prelude.{◌≡◌, ℕ, Bool, true, false, ◌&&◌, if◌then◌else◌, Option, Some, None, List, [], ◌∷◌, ◌++◌, flat_map}
 use Rattle.std.specs.Prelude.{slice_get, nat_eq, nat_lt}
 use Rattle.std.specs.List.{list_any, list_all}
-use Rattle.edge.specs.Texts.{Path}
+use Rattle.targets.specs.edge.Texts.{Path}
 use Rattle.targets.specs.Data.{TargetData, Build, Custom, BuildData, ListsData}
 use Rattle.targets.specs.Sources.{listed}
 use Rattle.targets.specs.Files.{is_static, is_library, default_paths}

@@ -1,8 +1,8 @@
 -- The sources of a target, and which of them are compiled.
 use Rattle.std.specs.Prelude.{ℕ, Bool, false, ◌||◌, not, List, [], ◌∷◌, ◌++◌, map, flat_map, nat_eq, codes, if◌then◌else◌}
 use Rattle.std.specs.List.{list_any, ends_with}
-use Rattle.edge.specs.Texts.{Path, holds, first_kept}
-use Rattle.edge.specs.Paths.{source_path}
+use Rattle.targets.specs.edge.Texts.{Path, holds, first_kept}
+use Rattle.targets.specs.edge.Paths.{source_path}
 use Rattle.targets.specs.Data.{SourceData, Tree, Built, Made, ListsData, BuildData}
 
 -- what the target's dependencies bring of a list

@@ -1,6 +1,6 @@
 -- Facts and targets without where they lie in memory.
 use Rattle.std.specs.Prelude.{map, string_bytes, option_map}
-use Rattle.edge.specs.Texts.{texts}
+use Rattle.targets.specs.edge.Texts.{texts}
 use Rattle.targets.specs.Data as plain
 use Rattle.targets.specs.declared.facts.Flags.{Flags}
 use Rattle.targets.specs.declared.facts.Facts.{Facts}

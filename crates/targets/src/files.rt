@@ -1,16 +1,16 @@
 //! The files that a target makes.
 ghost use Rattle.std.specs.Prelude.{◌≡◌, ◌++◌, map, IfOk, string_bytes, option_map};
-ghost use Rattle.edge.specs.Texts.{texts};
-ghost use Rattle.edge.specs.Paths.{object_path};
+ghost use Rattle.targets.specs.edge.Texts.{texts};
+ghost use Rattle.targets.specs.edge.Paths.{object_path};
 ghost use Rattle.paths.specs.Paths.{path_in};
 ghost use Rattle.targets.specs.Files.{first_number, so_number, file_number, numbered_so, so_name, file_name, file_path};
 ghost use Rattle.targets.specs.Files.{numbered_names, link_names, link_paths, output_paths, depfile_path};
 ghost use Rattle.targets.specs.Inputs.{input_view};
 ghost use Rattle.targets.specs.View.{build_view, custom_view};
 
+use crate::edge::object_path;
 use crate::sources::Input;
 use crate::target::{BuildTarget, CustomTarget, Kind};
-use edge::object_path;
 use paths::path_in;
 use std::alloc::{AllocError, Global};
 

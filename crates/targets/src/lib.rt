@@ -1,12 +1,14 @@
-//! A project's targets as they are declared, the files that they make, and the libraries that they link.
+//! A project's targets as they are declared, the files that they make, the libraries that they link, and the edges that make them.
 #![tactic(auto)]
 
+pub mod edge;
 mod facts;
 mod files;
 mod linked_target;
 mod linking;
 mod sources;
 mod target;
+pub mod target_edges;
 mod walk;
 
 pub use facts::{Facts, Flags, OptionEntry, OptionType, OptionValue, Surroundings};

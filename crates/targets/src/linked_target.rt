@@ -1,6 +1,6 @@
 //! A target as a project keeps it.
 ghost use Rattle.std.specs.Prelude.{◌≡◌};
-ghost use Rattle.edge.specs.Texts.{texts};
+ghost use Rattle.targets.specs.edge.Texts.{texts};
 ghost use Rattle.targets.specs.Files.{default_paths};
 ghost use Rattle.targets.specs.View.{target_view};
 

@@ -1,15 +1,15 @@
 //! The sources of a target, and which of them are compiled.
 ghost use Rattle.std.specs.Prelude.{◌≡◌, ◌++◌, [], map, flat_map, IfOk, string_bytes};
 ghost use Rattle.std.specs.List.{list_any};
-ghost use Rattle.edge.specs.Texts.{texts};
+ghost use Rattle.targets.specs.edge.Texts.{texts};
 ghost use Rattle.targets.specs.Sources.{is_c, is_header, c_input, own_input, c_inputs_in, put_inputs, compiled, if_not_c, generated_in};
 ghost use Rattle.targets.specs.Sources.{generated, is_foreign, has_foreign_in, has_foreign, source_paths};
 ghost use Rattle.targets.specs.View.{source_view, lists_view, build_view};
 ghost use Rattle.targets.specs.Inputs.{input_view};
 
+use crate::edge::{first_kept, push_copies, source_path};
 use crate::target::{BuildTarget, Lists, Source};
 use basics::tables::{Held, new_set};
-use edge::{first_kept, push_copies, source_path};
 use std::alloc::{AllocError, Global};
 
 /// A source that is compiled.

@@ -9,7 +9,9 @@ use Rattle.ports.specs.Outputs.{OutputState, puts, Writes}
 use Rattle.ports.proofs.Sending.{writes_nothing, writes_then, writes_stop}
 use Rattle.template.specs.Config.{Entries, value_of}
 use Rattle.template.specs.Template.{first_fault}
-use Rattle.template.specs.Line.{Refusal, BadDefine, LongLine, Reading, Plain, Defines, Malformed, TooLong, is_name_byte, body_length, defined_in, definition_or_comment, line_fault, line_steps, reading, reading_of, refusal, replaced, steps_of, words}
+use Rattle.template.specs.Line.{Refusal, BadDefine, LongLine, Reading, Plain, Defines, Malformed, TooLong, is_name_byte, body_length}
+use Rattle.template.specs.Line.{defined_in, definition_or_comment, line_fault, line_steps, reading, reading_of, refusal, replaced, steps_of}
+use Rattle.template.specs.Line.{words}
 use Rattle.template.specs.Scan.{IsFirstWord}
 use Rattle.template.proofs.Words.{reading_defines, reading_plain}
 

@@ -4,7 +4,9 @@ use Rattle.std.specs.Fmt.{digits}
 use Rattle.ports.specs.Outputs.{Step, puts, logs}
 use Rattle.template.specs.Config.{Entries, Flag, Number, Bytes, printed, value_of}
 use Rattle.template.specs.Header.{entry_lines, header_steps}
-use Rattle.template.specs.Line.{BadDefine, body_length, defined_in, definition, definition_or_comment, ended, in_place, is_name, line_fault, line_steps, name_length, no_value, reading, reading_of, refusal, replaced, steps_of, value_or_warning, warning, words_after}
+use Rattle.template.specs.Line.{BadDefine, body_length, defined_in, definition, definition_or_comment, ended, in_place, is_name, line_fault}
+use Rattle.template.specs.Line.{line_steps, name_length, no_value, reading, reading_of, refusal, replaced, steps_of, value_or_warning}
+use Rattle.template.specs.Line.{warning, words_after}
 use Rattle.template.specs.Template.{fault_from, first_fault, lines_of, onto, steps_from, template_fault, template_steps}
 
 -- what is set

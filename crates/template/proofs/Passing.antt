@@ -1,8 +1,11 @@
 -- How a template is passed line by line.
-use Rattle.std.proofs.Common.{◌≡◌, ℕ, suc, ◌+◌, ◌-◌, ◌<◌, ◌≤◌, Bool, true, false, ◌==◌, List, [], ◌∷◌, ◌++◌, length, take, drop, get_or, Option, Some, None, Result, Ok, Err, IsErr, IfOk, refl, sym, ap, ◌∙◌, append_assoc, arith, subst, ⊎_elim, eqb-true, unwrap_or}
+use Rattle.std.proofs.Common.{◌≡◌, ℕ, suc, ◌+◌, ◌-◌, ◌<◌, ◌≤◌, Bool, true, false, ◌==◌, List, [], ◌∷◌, ◌++◌, length, take, drop, get_or}
+use Rattle.std.proofs.Common.{Option, Some, None, Result, Ok, Err, IsErr, IfOk, refl, sym, ap, ◌∙◌, append_assoc, arith, subst, ⊎_elim}
+use Rattle.std.proofs.Common.{eqb-true, unwrap_or}
 use Rattle.std.specs.Prelude.{nat_lt}
 use Rattle.std.proofs.lemmas.Bool.{false≢true, cases_Bool, cases_lt, lt-ltb}
-use Rattle.std.proofs.lemmas.List.{append-nil, length-drop, length-take-le, get_or-take, take_more, drop-drop, take-take, take-append-drop, take-append-le, drop_all}
+use Rattle.std.proofs.lemmas.List.{append-nil, length-drop, length-take-le, get_or-take, take_more, drop-drop, take-take, take-append-drop}
+use Rattle.std.proofs.lemmas.List.{take-append-le, drop_all}
 use Rattle.std.specs.Result.{IsErrAnd}
 use Rattle.std.proofs.Math.Seq.{take-append-add, take-add, take-length}
 use Rattle.std.proofs.lemmas.Bool.Decides.{nat_tests}

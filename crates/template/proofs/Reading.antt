@@ -1,5 +1,6 @@
 -- A template of any tree, by the bytes that the tree gave so far.
-use Rattle.std.proofs.Common.{◌≡◌, ℕ, ◌+◌, ◌-◌, ◌<◌, ◌≤◌, true, List, [], ◌∷◌, ◌++◌, length, take, drop, Option, Some, None, Result, Ok, Err, IsErr, IfOk, refl, sym, ap, subst, ◌∙◌, append_assoc, arith, ⊎_elim, unwrap_or, length-append}
+use Rattle.std.proofs.Common.{◌≡◌, ℕ, ◌+◌, ◌-◌, ◌<◌, ◌≤◌, true, List, [], ◌∷◌, ◌++◌, length, take, drop, Option, Some, None, Result, Ok}
+use Rattle.std.proofs.Common.{Err, IsErr, IfOk, refl, sym, ap, subst, ◌∙◌, append_assoc, arith, ⊎_elim, unwrap_or, length-append}
 use Rattle.std.specs.Prelude.{nat_lt, Bool, false, OnOk}
 use Rattle.ports.specs.declared.fault.DeviceFault.{DeviceFault}
 use borrow.Rule.Slice.PartMut.{put_mid, post_of}
@@ -17,7 +18,8 @@ use Rattle.template.specs.declared.stop.PassStop.TheVariants.{Template, Limit, D
 use Rattle.template.specs.Given.{Gave, Passed, UnlessFailed, called, past}
 use Rattle.template.specs.Line.{line_fault, line_steps}
 use Rattle.template.specs.Template.{Agrees, Lacks, ending_of, fault_from, first_fault, lines_of, steps_from}
-use Rattle.template.proofs.Passing.{IsPassing, Passes, cut_at, passing_as, passing_last, passing_line, passing_long, passing_start, passing_stop}
+use Rattle.template.proofs.Passing.{IsPassing, Passes, cut_at, passing_as, passing_last, passing_line, passing_long, passing_start}
+use Rattle.template.proofs.Passing.{passing_stop}
 
 module _ {T : Type 0} (gives : T → List ℕ → ℕ → ℕ → List ℕ → T → Type 0) (path : List ℕ) (size : ℕ) (start : T) where
   -- one call more, or none

@@ -1,5 +1,6 @@
 -- How the ordered map of configuration data follows the entries that it is seen as.
-use Rattle.std.proofs.Common.{◌≡◌, ℕ, suc, ◌<◌, ◌==◌, Bool, true, false, cond, List, [], ◌∷◌, ◌++◌, length, get_or, Option, Some, None, is_some, String, string_bytes, Bor, refl, sym, ap, ◌∙◌, append_assoc, arith, ⊎_elim, eqb-true}
+use Rattle.std.proofs.Common.{◌≡◌, ℕ, suc, ◌<◌, ◌==◌, Bool, true, false, cond, List, [], ◌∷◌, ◌++◌, length, get_or, Option, Some, None}
+use Rattle.std.proofs.Common.{is_some, String, string_bytes, Bor, refl, sym, ap, ◌∙◌, append_assoc, arith, ⊎_elim, eqb-true}
 use Rattle.std.specs.Prelude.{encode_utf8}
 use Rattle.std.specs.Option.{option_map, option_copied, option_or}
 use Rattle.std.proofs.lemmas.Slice.Eq.{bytes_eq-Decides}

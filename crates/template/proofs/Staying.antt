@@ -6,7 +6,8 @@ use Rattle.ports.proofs.Recorded.{name_after-puts, name_after-logs}
 use Rattle.ports.proofs.Sending.{name_after-append}
 use Rattle.template.specs.Config.{Content, Flag, Number, Bytes, Entries, printed, value_of}
 use Rattle.template.specs.Header.{entry_lines, header_steps}
-use Rattle.template.specs.Line.{Reading, Plain, Defines, Malformed, TooLong, body_length, definition, definition_or_comment, in_place, line_fault, line_steps, name_length, no_value, reading, replaced, steps_of, value_or_warning, warning}
+use Rattle.template.specs.Line.{Reading, Plain, Defines, Malformed, TooLong, body_length, definition, definition_or_comment, in_place}
+use Rattle.template.specs.Line.{line_fault, line_steps, name_length, no_value, reading, replaced, steps_of, value_or_warning, warning}
 use Rattle.template.specs.Template.{lines_of, steps_from, template_steps}
 
 -- whichever output is open before these steps is open after them

@@ -1,5 +1,6 @@
 -- How changes are taken back.
-use Rattle.std.proofs.Common.{◌≡◌, ℕ, Bool, true, false, Result, Ok, Err, IsErr, is_err, OnOk, OnErr, cond, List, [], ◌∷◌, ◌++◌, length, arith, Option, Some, None, String, string_bytes, refl, sym, ap, ◌∙◌, subst}
+use Rattle.std.proofs.Common.{◌≡◌, ℕ, Bool, true, false, Result, Ok, Err, IsErr, is_err, OnOk, OnErr, cond, List, [], ◌∷◌, ◌++◌, length}
+use Rattle.std.proofs.Common.{arith, Option, Some, None, String, string_bytes, refl, sym, ap, ◌∙◌, subst}
 use Rattle.std.specs.declared.alloc.Global.{Global}
 use Rattle.std.specs.declared.alloc.AllocError.{AllocError}
 use Rattle.std.specs.List.Sorted.{IsStrictlySortedBy}

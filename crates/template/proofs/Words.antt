@@ -1,12 +1,14 @@
 -- How cutting off one word after the other follows the words of a line.
-use Rattle.std.proofs.Common.{◌≡◌, ℕ, suc, ◌+◌, ◌≤◌, Bool, true, false, ◌&&◌, List, [], ◌∷◌, ◌++◌, length, take, drop, refl, sym, ap, ◌∙◌, append_assoc, arith, ⊎_elim}
+use Rattle.std.proofs.Common.{◌≡◌, ℕ, suc, ◌+◌, ◌≤◌, Bool, true, false, ◌&&◌, List, [], ◌∷◌, ◌++◌, length, take, drop, refl, sym, ap, ◌∙◌}
+use Rattle.std.proofs.Common.{append_assoc, arith, ⊎_elim}
 use Rattle.std.specs.Prelude.{nat_eq, nat_lt, codes}
 use Rattle.std.specs.List.{starts_with, prefix_len, list_all, AllPass}
 use Rattle.std.specs.Str.{bytes_eq}
 use Rattle.std.proofs.lemmas.Bool.{false≢true, cases_Bool, and_parts}
 use Rattle.std.proofs.lemmas.List.Sums.{AllPass-from_list_all}
 use Rattle.std.proofs.lemmas.List.{append-nil, length-take-le}
-use Rattle.template.specs.Line.{Plain, Defines, Malformed, is_blank, is_name, is_name_byte, ended, words, words_after, defined_in, reading_of}
+use Rattle.template.specs.Line.{Plain, Defines, Malformed, is_blank, is_name, is_name_byte, ended, words, words_after, defined_in}
+use Rattle.template.specs.Line.{reading_of}
 use Rattle.template.specs.Scan.{is_word_byte, IsFirstWord}
 
 prefix_one : (p : ℕ → Bool) (b : ℕ) (bytes : List ℕ) → p b ≡ true → prefix_len p (b ∷ bytes) ≡ 1 + prefix_len p bytes

@@ -1,7 +1,7 @@
 -- Acts one after another, against the answers of code.
 use Rattle.std.proofs.Common.{◌≡◌, ℕ, ◌+◌, List, Result, Ok, Err, IsErrAnd, refl, sym, subst, ◌∙◌, arith}
 use Rattle.code.specs.Draft.{IsFront}
-use Rattle.edge.specs.Texts.{Path, Text}
+use Rattle.targets.specs.edge.Texts.{Path, Text}
 use Rattle.ports.specs.Outputs.{OutputState}
 use Rattle.ports.specs.Tree.{TreeState}
 use Rattle.project.specs.Adding.{output_answer}

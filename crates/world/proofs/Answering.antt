@@ -1,5 +1,6 @@
 -- Calls one after another, against their deeds.
-use Rattle.std.proofs.Common.{◌≡◌, ℕ, ◌+◌, Option, Some, None, option_map, is_some, IsTrue, length, Bool, true, false, List, [], Result, Ok, Err, IsErrAnd, refl, sym, ap, subst, ◌∙◌, arith}
+use Rattle.std.proofs.Common.{◌≡◌, ℕ, ◌+◌, Option, Some, None, option_map, is_some, IsTrue, length, Bool, true, false, List, [], Result, Ok}
+use Rattle.std.proofs.Common.{Err, IsErrAnd, refl, sym, ap, subst, ◌∙◌, arith}
 use Rattle.code.specs.Draft.{IsFront}
 use Rattle.ports.specs.Outputs.{OutputState, logs, Sends}
 use Rattle.ports.specs.Tree.{TreeState, Stays, file_at}
@@ -11,16 +12,18 @@ use Rattle.data.specs.declared.value.Value.{Value}
 use Rattle.targets.specs.Data.{FactsData}
 use Rattle.basics.specs.Faults.{FaultData}
 use Rattle.world.specs.Trace.{Seen, seen}
-use Rattle.machine_file.specs.Questions.{Answer, Question, answer_to}
+use Rattle.machine.specs.machine_file.Questions.{Answer, Question, answer_to}
 use Rattle.world.specs.World.{World, Facts, LeavesPaths, asking, begun as begun_facts, looking, fault_here}
 use Rattle.world.specs.Store.{changing}
 use Rattle.world.specs.Run.{ran, Done}
 use Rattle.world.specs.Gives.{Gives, Ends, failures_after}
-use Rattle.world.specs.Deed.{Files, Deed, give, refuse, tell, say, begin_project, consult, read, change, then, perform, answered, fitting, need, there}
+use Rattle.world.specs.Deed.{Files, Deed, give, refuse, tell, say, begin_project, consult, read, change, then, perform, answered, fitting}
+use Rattle.world.specs.Deed.{need, there}
 use Rattle.world.specs.Answering.{State, seen_at, HasRoom, Fails, Carries, Refuses, IsAnswered, IsAnsweredBy, IsFitting, Views}
 use Rattle.world.specs.Ruled.{answered_by}
 use Rattle.arguments.specs.declared.rule.Rule.{Rule}
-use Rattle.world.proofs.Follow.{stopped_later, failed_later, ended_later, refused_later, gives_later, begun, done, device_stops, failures_after-refusal, wanted_grown}
+use Rattle.world.proofs.Follow.{stopped_later, failed_later, ended_later, refused_later, gives_later, begun, done, device_stops}
+use Rattle.world.proofs.Follow.{failures_after-refusal, wanted_grown}
 use Rattle.world.proofs.Holding.{holds_later, stays_here, stays_on}
 use Rattle.world.proofs.Marks.{none_added, same_front, grown_added}
 use Rattle.world.proofs.Tells.{ends_told, begins_logs}

@@ -1,10 +1,11 @@
 -- Each output of `configure_file` is closed, after a run that is done.
-use Rattle.std.proofs.Common.{◌≡◌, Bool, true, false, List, [], ◌∷◌, ◌++◌, map, Option, Some, None, Result, Ok, Err, refl, sym, ap, subst, ◌∙◌, append-nil, append_assoc}
+use Rattle.std.proofs.Common.{◌≡◌, Bool, true, false, List, [], ◌∷◌, ◌++◌, map, Option, Some, None, Result, Ok, Err, refl, sym, ap, subst}
+use Rattle.std.proofs.Common.{◌∙◌, append-nil, append_assoc}
 use Rattle.std.specs.Prelude.{◌&&◌, bytes_eq}
 use Rattle.std.proofs.lemmas.Bool.{false≢true}
 use Rattle.std.proofs.lemmas.Slice.Eq.{bytes_eq-Decides}
 use Rattle.basics.specs.Faults.{FaultData}
-use Rattle.edge.specs.Texts.{Path, holds}
+use Rattle.targets.specs.edge.Texts.{Path, holds}
 use Rattle.paths.specs.Paths.{path_in}
 use Rattle.ports.specs.Outputs.{Step, Opens, Puts, Closes, Logs, Faults, closing, name_after, name_or_empty, opening, told}
 use Rattle.project.specs.Adding.{after_answer, output_answer, with_output}

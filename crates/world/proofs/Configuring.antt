@@ -1,5 +1,6 @@
 -- Changes of configuration data, against their deeds.
-use Rattle.std.proofs.Common.{◌≡◌, ◌↔◌, ℕ, Bool, true, false, not, List, [], Result, Ok, Err, IsErrOf, IsTrue, OnOk, OnErr, IsErrAnd, Some, None, unwrap_or, sym, subst, ap, ◌∙◌, refl}
+use Rattle.std.proofs.Common.{◌≡◌, ◌↔◌, ℕ, Bool, true, false, not, List, [], Result, Ok, Err, IsErrOf, IsTrue, OnOk, OnErr, IsErrAnd, Some}
+use Rattle.std.proofs.Common.{None, unwrap_or, sym, subst, ap, ◌∙◌, refl}
 use Rattle.std.specs.Prelude.{slice_get}
 use Rattle.std.proofs.lemmas.Option.{get_or_from_slice_get, unwrap_or-slice_get}
 use Rattle.basics.specs.declared.faults.refusal.Refusal.TheVariants as refusals

@@ -1,5 +1,6 @@
 -- A variable that takes a value in the slot of its name's number.
-use Rattle.std.proofs.Common.{◌≡◌, ℕ, suc, ◌+◌, ◌<◌, ◌≤◌, ◌≢◌, Bool, true, false, cond, List, [], ◌∷◌, ◌++◌, length, length-append, get_or, get_or-set_same, get_or-set_other, set, Option, Some, None, option_map, bytes_eq, refl, sym, ap, ◌∙◌, arith}
+use Rattle.std.proofs.Common.{◌≡◌, ℕ, suc, ◌+◌, ◌<◌, ◌≤◌, ◌≢◌, Bool, true, false, cond, List, [], ◌∷◌, ◌++◌, length, length-append, get_or}
+use Rattle.std.proofs.Common.{get_or-set_same, get_or-set_other, set, Option, Some, None, option_map, bytes_eq, refl, sym, ap, ◌∙◌, arith}
 use Rattle.std.specs.Prelude.{nat_lt, nat_eq, not, ◌||◌, is_some, if◌then◌else◌, option_and_then}
 use Rattle.std.specs.List.{list_any, position_or_len}
 use Rattle.std.proofs.lemmas.Bool.{false≢true}
@@ -20,7 +21,7 @@ use Rattle.std.proofs.Common.{append_assoc, append-nil, length-set, subst, max}
 use Rattle.std.proofs.lemmas.Grind.{common_steps}
 use Rattle.world.proofs.Numbers.{number_at}
 use Rattle.std.specs.Prelude.{codes, Result, Ok, Err, OnOk}
-use Rattle.machine_file.specs.Files.{Section}
+use Rattle.machine.specs.machine_file.Files.{Section}
 use Rattle.project.specs.World.{WorldData, new_world}
 use Rattle.world.specs.World.{declaring}
 use Rattle.world.specs.Settings.{SettingsData}

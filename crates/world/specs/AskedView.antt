@@ -1,6 +1,6 @@
 -- What a question that the code asked stands for.
 use Rattle.std.specs.Prelude.{List, map, string_bytes}
-use Rattle.machine_file.specs.QuestionsView.{question_in}
+use Rattle.machine.specs.machine_file.QuestionsView.{question_in}
 use Rattle.world.specs.World as plain
 use Rattle.world.specs.declared.asked.Asked.{Asked}
 

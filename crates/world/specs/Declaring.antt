@@ -1,6 +1,6 @@
 -- Deeds that declare what a project has.
 use Rattle.std.specs.Prelude.{◌≡◌, ℕ, List, Result, Ok, Err, refl}
-use Rattle.edge.specs.Texts.{Text}
+use Rattle.targets.specs.edge.Texts.{Text}
 use Rattle.project.specs.Adding.{after_answer, after_target, arguments_answer, target_answer, with_arguments, with_dependency}
 use Rattle.project.specs.Adding.{with_install, with_link_arguments, with_target, with_test}
 use Rattle.project.specs.World.{WorldData, AnswerData, InstallData, TestData}

@@ -1,11 +1,11 @@
 -- Deeds: what a function does with its evaluated arguments. A deed ends no rule and enters no folder. It asks the tree of files by `ask`
 -- alone, and the machine file by `consult` alone; and by `make` alone an output of `configure_file` is made.
 use Rattle.std.specs.Prelude.{ℕ, Bool, true, false, List, [], Option, Result, Ok, Err, is_some}
-use Rattle.edge.specs.Texts.{Path, Text}
+use Rattle.targets.specs.edge.Texts.{Path, Text}
 use Rattle.ports.specs.Outputs.{Step, logs}
 use Rattle.ports.specs.Tree.{file_at}
 use Rattle.data.specs.declared.refusal.Refusal.{Refusal as OperationRefusal}
-use Rattle.machine_file.specs.Questions.{Answer, Question, answer_to}
+use Rattle.machine.specs.machine_file.Questions.{Answer, Question, answer_to}
 use Rattle.targets.specs.Data.{FactsData}
 use Rattle.paths.specs.Paths.{path_in}
 use Rattle.world.specs.Making.{Filling, taken, telling, written}

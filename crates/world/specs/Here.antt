@@ -1,6 +1,6 @@
 -- Where a call stands: below which roots, in which folder of the tree, and behind which targets.
 use Rattle.std.specs.Prelude.{ℕ, List}
-use Rattle.edge.specs.Texts.{Path}
+use Rattle.targets.specs.edge.Texts.{Path}
 use Rattle.targets.specs.Libraries.{LinkedData, linked_of}
 use Rattle.world.specs.World.{Facts}
 

@@ -1,8 +1,8 @@
 -- What a run depends on.
 use Rattle.std.specs.Prelude.{◌≡◌, ℕ, List, [], ◌∷◌, ◌++◌}
 use Rattle.ports.specs.Tree.{file_at}
-use Rattle.machine_file.specs.Files.{Section}
-use Rattle.machine_file.specs.Questions.{answer_to}
+use Rattle.machine.specs.machine_file.Files.{Section}
+use Rattle.machine.specs.machine_file.Questions.{answer_to}
 use Rattle.world.specs.World.{Asked, World}
 use Rattle.world.specs.Run.{Run, ran, Act, world_after}
 use Rattle.world.specs.Deed.{Files}

@@ -1,6 +1,6 @@
 -- What becomes of the outputs of `configure_file`.
 use Rattle.std.specs.Prelude.{◌≡◌, ℕ, true, List, [], ◌∷◌, Option}
-use Rattle.edge.specs.Texts.{Path}
+use Rattle.targets.specs.edge.Texts.{Path}
 use Rattle.ports.specs.Outputs.{Step, told}
 use Rattle.ports.specs.declared.event.Event.{Event}
 use Rattle.ports.specs.declared.event.Event.TheVariants.{Open, Byte, Close, Log, Fault}

@@ -1,6 +1,6 @@
 -- How an output of `configure_file` is made: its path is taken, and later it is opened, filled and closed.
 use Rattle.std.specs.Prelude.{◌≡◌, List, map, Option, Some, None, Result, Ok, Err}
-use Rattle.edge.specs.Texts.{Path, Text}
+use Rattle.targets.specs.edge.Texts.{Path, Text}
 use Rattle.basics.specs.Faults.{FaultData}
 use Rattle.ports.specs.Outputs.{Step, closing, name_after, opening}
 use Rattle.project.specs.Adding.{after_answer, output_answer, with_output}

@@ -1,7 +1,7 @@
 -- What options say.
 use Rattle.std.specs.Prelude.{ℕ, List, [], Option, Some}
-use Rattle.option_values.specs.Values as option
-use Rattle.option_values.specs.Settings.{value_named, Setting}
+use Rattle.machine.specs.option_values.Values as option
+use Rattle.machine.specs.option_values.Settings.{value_named, Setting}
 
 abbrev pub text_of : Option option.Value → List ℕ
 text_of (Some (option.Text text)) = text

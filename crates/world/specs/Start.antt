@@ -1,6 +1,6 @@
 -- The world in which a run begins.
 use Rattle.std.specs.Prelude.{List, [], None, false, codes}
-use Rattle.machine_file.specs.Files.{Section}
+use Rattle.machine.specs.machine_file.Files.{Section}
 use Rattle.project.specs.World.{new_world}
 use Rattle.targets.specs.Data.{FactsData, FlagsData}
 use Rattle.world.specs.Settings.{SettingsData}

@@ -4,10 +4,10 @@ use Rattle.code.specs.Names.{number_in}
 use Rattle.data.specs.Data.{Data}
 use Rattle.data.specs.View.{data_of}
 use Rattle.data.specs.declared.value.Value.{Value}
-use Rattle.machine_file.specs.Files.{Section}
-use Rattle.option_values.specs.Settings.{Setting}
-use Rattle.option_values.specs.SettingsView.{options_in}
-use Rattle.option_values.specs.declared.settings.Options.{Options}
+use Rattle.machine.specs.machine_file.Files.{Section}
+use Rattle.machine.specs.option_values.Settings.{Setting}
+use Rattle.machine.specs.option_values.SettingsView.{options_in}
+use Rattle.machine.specs.declared.option_values.settings.Options.{Options}
 use Rattle.project.specs.World.{WorldData}
 use Rattle.template.specs.Config.{Configuration}
 use Rattle.world.specs.Settings.{SettingsData}

@@ -2,12 +2,12 @@
 use Rattle.std.specs.Prelude.{◌≡◌, ℕ, Bool, true, false, List, [], ◌∷◌, ◌++◌, Option, if◌then◌else◌}
 use Rattle.std.specs.Str.{bytes_eq}
 use Rattle.data.specs.Data.{Data}
-use Rattle.edge.specs.Texts.{first_kept}
+use Rattle.targets.specs.edge.Texts.{first_kept}
 use Rattle.basics.specs.Faults.{FaultData}
 use Rattle.basics.specs.declared.faults.refusal.Refusal.{Refusal}
-use Rattle.machine_file.specs.Files.{Section}
-use Rattle.machine_file.specs.Questions.{Question}
-use Rattle.option_values.specs.Settings.{Setting}
+use Rattle.machine.specs.machine_file.Files.{Section}
+use Rattle.machine.specs.machine_file.Questions.{Question}
+use Rattle.machine.specs.option_values.Settings.{Setting}
 use Rattle.project.specs.Adding.{with_absent, with_present}
 use Rattle.project.specs.World.{WorldData, new_world}
 use Rattle.targets.specs.Data.{FactsData}

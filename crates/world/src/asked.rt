@@ -1,6 +1,6 @@
 //! What was asked of the machine file.
 
-use machine_file::Question;
+use machine::machine_file::Question;
 
 /// A question that was asked of the machine file, and the place of the call that asked it.
 #[derive(Drop)]

@@ -1,8 +1,8 @@
 //! What the code of a function works on: the world of a run and its devices.
 ghost use Rattle.std.specs.Prelude.{◌≡◌, IfOk, string_bytes};
 ghost use Rattle.world.specs.Answering.{IsAnswered, IsFitting, Refuses};
-ghost use Rattle.machine_file.specs.Questions.{Key, answer_to, plain};
-ghost use Rattle.machine_file.specs.QuestionsView.{question_in};
+ghost use Rattle.machine.specs.machine_file.Questions.{Key, answer_to, plain};
+ghost use Rattle.machine.specs.machine_file.QuestionsView.{question_in};
 ghost use Rattle.world.specs.Deed.{consult, need, required, say, there};
 ghost use Rattle.basics.specs.View.{fault_view};
 ghost use Rattle.world.specs.Store.{world_of};
@@ -19,7 +19,7 @@ use crate::stop::Stop;
 use crate::store::Store;
 use basics::faults::{Fault, Refusal};
 pub use here::Here;
-use machine_file::{Question, Topic};
+use machine::machine_file::{Question, Topic};
 use ports::{Outputs, Tree, log_all};
 use std::alloc::{AllocError, Global};
 

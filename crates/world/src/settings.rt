@@ -2,8 +2,8 @@
 ghost use Rattle.std.specs.Prelude.{◌≡◌, IfOk};
 ghost use Rattle.world.specs.SettingsView.{settings_view};
 
-use edge::copies;
 use std::alloc::{AllocError, Global};
+use targets::edge::copies;
 
 /// What a user sets for a run.
 #[derive(Drop)]

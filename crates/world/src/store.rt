@@ -6,11 +6,11 @@ ghost use Rattle.code.specs.Code.{code_tree};
 ghost use Rattle.code.specs.Draft.{IsFront};
 ghost use Rattle.data.specs.View.{data_of};
 ghost use Rattle.grammar.specs.Tree.{file_of};
-ghost use Rattle.machine_file.specs.QuestionsView.{question_in};
-ghost use Rattle.machine_file.specs.View.{machine_in};
-ghost use Rattle.option_values.specs.View.{value_in};
-ghost use Rattle.option_values.specs.Settings.{value_named};
-ghost use Rattle.option_values.specs.SettingsView.{options_in};
+ghost use Rattle.machine.specs.machine_file.QuestionsView.{question_in};
+ghost use Rattle.machine.specs.machine_file.View.{machine_in};
+ghost use Rattle.machine.specs.option_values.View.{value_in};
+ghost use Rattle.machine.specs.option_values.Settings.{value_named};
+ghost use Rattle.machine.specs.option_values.SettingsView.{options_in};
 ghost use Rattle.targets.specs.View.{facts_view, flags_view};
 ghost use Rattle.world.specs.AskedView.{all_asked_in};
 ghost use Rattle.world.specs.SettingsView.{settings_view};
@@ -28,8 +28,8 @@ use crate::trail::Trail;
 use code::{Code, Names, flatten};
 use data::Value;
 use grammar::tree::File;
-use machine_file::{Machine, Question};
-use option_values::{OptionValue, Options};
+use machine::machine_file::{Machine, Question};
+use machine::option_values::{OptionValue, Options};
 use project::Project;
 use std::alloc::{AllocError, Global};
 use std::marker::Model;
@@ -87,7 +87,7 @@ impl Drop for Store {
 impl Model for Store {
     ghost use Rattle.std.specs.Prelude.{◌≤◌, length, string_bytes};
     ghost use Rattle.world.specs.SettingsView.{settings_view};
-    ghost use Rattle.machine_file.specs.View.{machine_in};
+    ghost use Rattle.machine.specs.machine_file.View.{machine_in};
     ghost use Rattle.world.specs.AskedView.{all_asked_in};
     ghost use Rattle.world.specs.Store.{Kept, options_of};
 

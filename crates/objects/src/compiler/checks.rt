@@ -2,8 +2,8 @@
 ghost use Rattle.std.specs.Prelude.{◌≡◌, IfOk, Some, map, option_and_then, option_map, string_bytes};
 ghost use Rattle.arguments.specs.Given.{argument};
 ghost use Rattle.data.specs.Data.{text_in};
-ghost use Rattle.machine_file.specs.Questions.{answer_to, check_topic};
-ghost use Rattle.resources.specs.Beside.{call_question};
+ghost use Rattle.machine.specs.machine_file.Questions.{answer_to, check_topic};
+ghost use Rattle.named_sources.specs.resources.Beside.{call_question};
 ghost use Rattle.world.specs.Prelude.{Answers, Does, arguments_data, data_of};
 ghost use Rattle.world.specs.Deed.{consult};
 ghost use Rattle.objects.specs.CompilerChecks.{check, checked_for, dependency_data, find_library, is_checked, library};
@@ -12,9 +12,9 @@ ghost use Rattle.objects.specs.CompilerChecks.{library_argument, library_named, 
 use crate::compiler::said::is_true;
 use arguments::{Arguments, Requirement};
 use data::{Dependency, Object, Refusal, Text, Value};
-use machine_file::Topic;
+use machine::machine_file::Topic;
+use named_sources::resources::{call_question, found_dependency, missing_dependency};
 use ports::{Outputs, Tree};
-use resources::{call_question, found_dependency, missing_dependency};
 use std::alloc::{AllocError, Global};
 use world::{Caller, Stop};
 

@@ -4,7 +4,7 @@ ghost use Rattle.objects.specs.CompilerMethods.{has_method};
 ghost use Rattle.objects.specs.CompilerNames.{is_left_out};
 
 use basics::text_lists::is_among;
-use language_names::MethodName;
+use data::language_names::MethodName;
 
 /// Those that ask the machine.
 const LEFT_OUT: [&str; 6] = [

@@ -1,10 +1,10 @@
 //! What the machine file says in place of a compiler that is asked.
 ghost use Rattle.std.specs.Prelude.{◌≡◌, IfOk, map};
-ghost use Rattle.machine_file.specs.Questions.{answer_to, check_topic};
-ghost use Rattle.machine_file.specs.View.{machine_in};
+ghost use Rattle.machine.specs.machine_file.Questions.{answer_to, check_topic};
+ghost use Rattle.machine.specs.machine_file.View.{machine_in};
 ghost use Rattle.objects.specs.CompilerSaid.{id_of, id_topic, is_true, number_of, version_of, version_topic};
 
-use machine_file::Machine;
+use machine::machine_file::Machine;
 use std::alloc::{AllocError, Global};
 
 /// Which compiler it is, as `gcc`.

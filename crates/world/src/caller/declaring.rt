@@ -1,6 +1,6 @@
 //! What a function declares of the project.
 ghost use Rattle.std.specs.Prelude.{◌≡◌, Result};
-ghost use Rattle.edge.specs.Texts.{texts};
+ghost use Rattle.targets.specs.edge.Texts.{texts};
 ghost use Rattle.project.specs.View.{answer_view, install_view, test_view};
 ghost use Rattle.targets.specs.View.{facts_view, target_view};
 ghost use Rattle.world.specs.Answering.{Acts, IsAllowed};

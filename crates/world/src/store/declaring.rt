@@ -1,6 +1,6 @@
 //! The project of a run.
 ghost use Rattle.std.specs.Prelude.{◌≡◌, IfOk, OnOk, string_bytes};
-ghost use Rattle.edge.specs.Texts.{put_all_new, texts};
+ghost use Rattle.targets.specs.edge.Texts.{put_all_new, texts};
 ghost use Rattle.project.specs.Adding.{after_target, arguments_answer, output_answer, target_answer, with_dependency, with_install};
 ghost use Rattle.project.specs.Adding.{with_test};
 ghost use Rattle.project.specs.Refused.{answer_data};

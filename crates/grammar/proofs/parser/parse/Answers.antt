@@ -10,7 +10,8 @@ use Rattle.grammar.specs.Parsed.{located, parsed}
 use Rattle.grammar.specs.Reading.{all_of, tokens_left}
 use Rattle.grammar.specs.ReadingStatements.{file_at}
 use Rattle.grammar.specs.Tree.{file_of}
-use Rattle.grammar.proofs.Parses.{complete_all, faulty_all, fronts_shorter, no_tokens, only_all, read_all, refused_all, spelled_all, stop_is, stop_within, stopped}
+use Rattle.grammar.proofs.Parses.{complete_all, faulty_all, fronts_shorter, no_tokens, only_all, read_all, refused_all, spelled_all}
+use Rattle.grammar.proofs.Parses.{stop_is, stop_within, stopped}
 use Rattle.grammar.proofs.parser.parse.Goals as goal
 use Rattle.grammar.proofs.parser.parse.Goals.{After-from_residual, After-drop-tokens, After-drop-tokens-2}
 

@@ -1,6 +1,6 @@
 use Rattle.std.specs.Global.{Global}
 use Rattle.std.specs.Rc.{rc_value}
-use Rattle.machine_file.specs.View.{machine_in}
+use Rattle.machine.specs.machine_file.View.{machine_in}
 use Rattle.world.specs.SettingsView.{settings_view}
 use Rattle.hawkottoman.proofs.Asked.{asks_read, asks_unread, fails_unread}
 use Rattle.hawkottoman.proofs.asking.ask.Goals as goal

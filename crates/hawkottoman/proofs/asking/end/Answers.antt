@@ -1,7 +1,7 @@
 use Rattle.std.proofs.Common.{subst, sym}
 use Rattle.std.specs.Prelude.{option_map}
 use Rattle.basics.specs.View.{fault_view}
-use Rattle.build_file.specs.declared.concluding.Status.TheVariants as statuses
+use Rattle.outputs.specs.declared.build_file.concluding.Status.TheVariants as statuses
 use Rattle.hawkottoman.specs.Questions.{ending_with}
 use Rattle.hawkottoman.specs.Setup.{Concludes}
 use Rattle.hawkottoman.proofs.Tellings.{ends_none}

@@ -1,7 +1,7 @@
 use Rattle.std.proofs.Common.{subst, sym}
 use Rattle.ports.specs.Endings.{HasRoom}
-use Rattle.build_file.specs.Means.{Means}
-use Rattle.build_file.specs.Concluding.{Agrees, done_with}
+use Rattle.outputs.specs.build_file.Means.{Means}
+use Rattle.outputs.specs.build_file.Concluding.{Agrees, done_with}
 use Rattle.hawkottoman.specs.Setup.{OnEnd, OnProject, Settles}
 use Rattle.hawkottoman.proofs.running.settle.Goals as goal
 

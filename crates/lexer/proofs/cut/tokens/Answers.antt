@@ -1,4 +1,5 @@
-use Rattle.std.proofs.Common.{◌≡◌, ◌∙◌, ◌+◌, sym, ap, subst, arith, is_ok, length, length-drop, length-take, take, Some, Ok, Err, eqb-true, false-eqb}
+use Rattle.std.proofs.Common.{◌≡◌, ◌∙◌, ◌+◌, sym, ap, subst, arith, is_ok, length, length-drop, length-take, take, Some, Ok, Err, eqb-true}
+use Rattle.std.proofs.Common.{false-eqb}
 use Rattle.std.proofs.ResultArms.{chosen}
 use Rattle.std.specs.Str.{IsUtf8}
 use Rattle.std.proofs.lemmas.Str.{IsUtf8-drop}
@@ -8,7 +9,8 @@ use Rattle.lexer.specs.Lexing.{fault_at, gap, lexed, token_at}
 use Rattle.lexer.specs.declared.token.Token.{Token}
 use Rattle.std.specs.Prelude.{List}
 use Rattle.lexer.proofs.Boundaries.{after_gap, gap_boundary, token_boundary}
-use Rattle.lexer.proofs.Cutting.{place, still_first, still_end, still_fault, still_more, only_ok, only_err, refused_is, newlines_le, depth_after_le, lexemes_push_at, token_size}
+use Rattle.lexer.proofs.Cutting.{place, still_first, still_end, still_fault, still_more, only_ok, only_err, refused_is, newlines_le}
+use Rattle.lexer.proofs.Cutting.{depth_after_le, lexemes_push_at, token_size}
 use Rattle.lexer.proofs.Cuts.{StillLexes}
 use Rattle.lexer.proofs.Spans.{lexed_sound, lexed_fault}
 use Rattle.lexer.proofs.cut.tokens.Goals as goal

@@ -1,6 +1,6 @@
 use Rattle.std.proofs.Common.{ap, ◌∙◌}
 use Rattle.std.specs.Prelude.{Some}
-use Rattle.edge.specs.Texts.{texts}
+use Rattle.targets.specs.edge.Texts.{texts}
 use Rattle.targets.proofs.LinkedLists.{paths_got, paths_missed}
 use Rattle.named_sources.proofs.outputs.outputs_at.Goals as goal
 

@@ -1,7 +1,7 @@
 use Rattle.std.proofs.Common.{ap, ◌∙◌}
 use Rattle.std.specs.Prelude.{codes}
-use Rattle.machine_file.specs.Lookups.{text_or}
-use Rattle.machine_file.specs.View.{machine_in}
+use Rattle.machine.specs.machine_file.Lookups.{text_or}
+use Rattle.machine.specs.machine_file.View.{machine_in}
 use Rattle.objects.specs.Machines.{key_of}
 use Rattle.objects.proofs.machines.text_of.Goals as goal
 

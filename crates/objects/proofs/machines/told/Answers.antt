@@ -3,7 +3,7 @@ use Rattle.std.specs.Prelude.{codes}
 use Rattle.objects.specs.CompilerSaid.{said_or}
 use Rattle.data.specs.Data.{text}
 use Rattle.data.specs.Limits.{within}
-use Rattle.machine_file.specs.Questions.{answer_to}
+use Rattle.machine.specs.machine_file.Questions.{answer_to}
 use Rattle.objects.proofs.Keys.{asked_by}
 use Rattle.objects.specs.Machines.{default_of, told, topic_of}
 use Rattle.world.specs.Deed.{answered}

@@ -1,7 +1,7 @@
 use Rattle.std.proofs.Common.{◌∙◌, ap, false}
-use Rattle.option_values.specs.Values.{Value}
-use Rattle.option_values.specs.Settings.{put}
-use Rattle.option_values.specs.SettingsView.{settings_in}
+use Rattle.machine.specs.option_values.Values.{Value}
+use Rattle.machine.specs.option_values.Settings.{put}
+use Rattle.machine.specs.option_values.SettingsView.{settings_in}
 use Rattle.options.proofs.built_in.put_value_of.Goals as goal
 
 pub returns : goal.returns

@@ -1,8 +1,8 @@
 use Rattle.std.proofs.Common.{◌≡◌, length, arith, ◌∙◌, sym, ap, ℕ, add-one}
 use Rattle.std.proofs.lemmas.List.{length-map}
 use Rattle.options.specs.FillIns.{decided}
-use Rattle.option_values.specs.Settings.{change_at}
-use Rattle.option_values.specs.SettingsView.{entry_in, settings_in}
+use Rattle.machine.specs.option_values.Settings.{change_at}
+use Rattle.machine.specs.option_values.SettingsView.{entry_in, settings_in}
 use Rattle.options.proofs.Fills.{map_first, none_first, all_first, one_more_first}
 use Rattle.options.proofs.fill_in.decide_all.Goals as goal
 

@@ -1,6 +1,6 @@
 use Rattle.std.proofs.Common.{◌≡◌}
 use Rattle.options.specs.FillIns.{decided}
-use Rattle.option_values.specs.SettingsView.{settings_in}
+use Rattle.machine.specs.option_values.SettingsView.{settings_in}
 use Rattle.options.proofs.Fills.{map_first}
 use Rattle.options.proofs.fill_in.decide_all.Given as goal
 

@@ -1,4 +1,4 @@
-use Rattle.option_file.specs.View.{options_in}
+use Rattle.options.specs.option_file.View.{options_in}
 use Rattle.options.proofs.LastPlaces.{final_value}
 use Rattle.options.proofs.laws.last_place_decides.Goals as goal
 

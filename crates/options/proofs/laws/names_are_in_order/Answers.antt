@@ -1,4 +1,4 @@
-use Rattle.option_file.specs.View.{options_in}
+use Rattle.options.specs.option_file.View.{options_in}
 use Rattle.options.proofs.FinalValues.{final_names}
 use Rattle.options.proofs.laws.names_are_in_order.Goals as goal
 

@@ -1,4 +1,4 @@
-use Rattle.option_file.specs.View.{options_in}
+use Rattle.options.specs.option_file.View.{options_in}
 use Rattle.options.proofs.FinalValues.{final_fit}
 use Rattle.options.proofs.laws.values_fit.Goals as goal
 

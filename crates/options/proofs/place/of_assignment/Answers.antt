@@ -1,6 +1,6 @@
 use Rattle.std.proofs.Common.{◌∙◌, ap}
-use Rattle.machine_file.specs.Values as written
-use Rattle.option_file.specs.View.{options_in}
+use Rattle.machine.specs.machine_file.Values as written
+use Rattle.options.specs.option_file.View.{options_in}
 use Rattle.options.specs.Verdicts.{of_named, of_parts, of_assignment}
 use Rattle.options.proofs.place.of_assignment.Goals as goal
 

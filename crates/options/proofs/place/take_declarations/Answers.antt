@@ -1,5 +1,5 @@
 use Rattle.std.proofs.Common.{◌∙◌, sym, ap, arith}
-use Rattle.option_file.specs.View.{options_in, option_in}
+use Rattle.options.specs.option_file.View.{options_in, option_in}
 use Rattle.options.specs.Resolves.{State, next}
 use Rattle.options.specs.Verdicts.{of_declaration}
 use Rattle.options.specs.View.{state_in}

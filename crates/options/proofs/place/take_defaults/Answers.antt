@@ -1,5 +1,5 @@
 use Rattle.std.proofs.Common.{◌∙◌, sym, ap}
-use Rattle.option_file.specs.View.{options_in}
+use Rattle.options.specs.option_file.View.{options_in}
 use Rattle.options.specs.Resolves.{next}
 use Rattle.options.specs.Verdicts.{of_project_default}
 use Rattle.options.specs.View.{default_in, state_in}

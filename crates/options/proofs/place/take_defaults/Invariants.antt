@@ -1,6 +1,6 @@
 use Rattle.std.proofs.Common.{◌≡◌, take, map}
 use Rattle.std.specs.List.{fold}
-use Rattle.option_file.specs.View.{options_in}
+use Rattle.options.specs.option_file.View.{options_in}
 use Rattle.options.specs.Resolves.{next}
 use Rattle.options.specs.Verdicts.{of_project_default}
 use Rattle.options.specs.View.{defaults_in, state_in}

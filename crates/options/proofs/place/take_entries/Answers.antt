@@ -1,6 +1,6 @@
 use Rattle.std.proofs.Common.{◌∙◌, sym, ap, arith}
-use Rattle.machine_file.specs.View.{entries_of, value_in}
-use Rattle.option_file.specs.View.{options_in}
+use Rattle.machine.specs.machine_file.View.{entries_of, value_in}
+use Rattle.options.specs.option_file.View.{options_in}
 use Rattle.options.specs.Resolves.{State, next}
 use Rattle.options.specs.declared.fault.Place.TheVariants.{MachineFile}
 use Rattle.options.specs.Verdicts.{of_named, of_entry}

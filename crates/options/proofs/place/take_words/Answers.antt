@@ -1,5 +1,5 @@
 use Rattle.std.proofs.Common.{◌∙◌, ◌+◌, sym, ap, string_bytes}
-use Rattle.option_file.specs.View.{options_in}
+use Rattle.options.specs.option_file.View.{options_in}
 use Rattle.options.specs.Resolves.{State, next}
 use Rattle.options.specs.declared.fault.Place.TheVariants.{CommandLine}
 use Rattle.options.specs.Verdicts.{of_assignment}

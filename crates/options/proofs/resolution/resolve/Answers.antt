@@ -1,10 +1,10 @@
 use Rattle.std.proofs.Common.{◌∙◌, ◌++◌, sym, ap, map, List}
 use Rattle.std.specs.List.{fold, flat_map}
-use Rattle.machine_file.specs.Questions.{options_at}
-use Rattle.machine_file.specs.View.{machine_in}
-use Rattle.option_file.specs.View.{options_in}
-use Rattle.option_values.specs.View.{strings_in}
-use Rattle.option_file.specs.declared.declaration.Declared.{Declared}
+use Rattle.machine.specs.machine_file.Questions.{options_at}
+use Rattle.machine.specs.machine_file.View.{machine_in}
+use Rattle.options.specs.option_file.View.{options_in}
+use Rattle.machine.specs.option_values.View.{strings_in}
+use Rattle.options.specs.declared.option_file.declaration.Declared.{Declared}
 use Rattle.options.specs.Resolves.{State, next, at_first, resolution_of, resolved}
 use Rattle.options.specs.Verdicts.{Verdict, of_declaration, of_project_default, of_section, of_words}
 use Rattle.options.specs.View.{defaults_in, state_in}

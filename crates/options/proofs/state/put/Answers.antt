@@ -1,6 +1,6 @@
 use Rattle.std.proofs.Common.{◌∙◌, ap, sym, List, ℕ, string_bytes}
-use Rattle.option_values.specs.Settings.{put}
-use Rattle.option_values.specs.SettingsView.{setting_in, settings_in}
+use Rattle.machine.specs.option_values.Settings.{put}
+use Rattle.machine.specs.option_values.SettingsView.{setting_in, settings_in}
 use Rattle.options.proofs.Puts.{put_seen, put_replaced}
 use Rattle.options.proofs.state.put.Goals as goal
 

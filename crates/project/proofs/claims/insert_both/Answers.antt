@@ -1,6 +1,6 @@
 use Rattle.std.proofs.Common.{◌≡◌, ◌++◌, Bor, Option, Some, None, option_map, sym, ap, ◌∙◌}
 use Rattle.std.proofs.lemmas.Result.{IfOk-weaker}
-use Rattle.edge.specs.Texts.{Path, texts}
+use Rattle.targets.specs.edge.Texts.{Path, texts}
 use Rattle.project.specs.Laws.{first_taken}
 use Rattle.project.proofs.PathLists.{taken_first, taken_then}
 use Rattle.project.proofs.Placing.{told_none, told_path}

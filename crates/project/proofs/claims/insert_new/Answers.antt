@@ -1,5 +1,5 @@
 use Rattle.std.proofs.Common.{Some, sym, ap, ◌∙◌}
-use Rattle.edge.specs.Texts.{texts}
+use Rattle.targets.specs.edge.Texts.{texts}
 use Rattle.project.proofs.PathLists.{inserted, tested_more, tested_present, added_more, begins_more}
 use Rattle.project.proofs.claims.insert_new.Goals as goal
 

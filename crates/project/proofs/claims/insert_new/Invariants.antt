@@ -1,5 +1,5 @@
 use Rattle.std.proofs.Common.{◌≡◌, ◌++◌, take, drop}
-use Rattle.edge.specs.Texts.{texts}
+use Rattle.targets.specs.edge.Texts.{texts}
 use Rattle.project.specs.Laws.{first_taken}
 use Rattle.project.specs.Whole.{IsFront}
 use Rattle.project.proofs.claims.insert_new.Given as goal

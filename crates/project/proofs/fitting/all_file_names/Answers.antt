@@ -1,5 +1,5 @@
 use Rattle.std.proofs.Common.{sym, ◌∙◌}
-use Rattle.edge.proofs.TextLists.{texts-list_all}
+use Rattle.targets.proofs.TextLists.{texts-list_all}
 use Rattle.paths.specs.Names.{is_file_name}
 use Rattle.project.proofs.fitting.all_file_names.Goals as goal
 

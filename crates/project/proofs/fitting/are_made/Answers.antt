@@ -1,6 +1,6 @@
 use Rattle.std.proofs.Common.{sym, ◌∙◌}
-use Rattle.edge.specs.Texts.{texts}
-use Rattle.edge.proofs.TextLists.{texts-list_all}
+use Rattle.targets.specs.edge.Texts.{texts}
+use Rattle.targets.proofs.TextLists.{texts-list_all}
 use Rattle.project.specs.World.{is_made_in}
 use Rattle.project.proofs.fitting.are_made.Goals as goal
 

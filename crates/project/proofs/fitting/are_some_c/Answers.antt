@@ -1,5 +1,5 @@
 use Rattle.std.proofs.Common.{string_bytes, sym, ◌∙◌}
-use Rattle.edge.proofs.TextLists.{list_any-map}
+use Rattle.targets.proofs.TextLists.{list_any-map}
 use Rattle.targets.specs.Sources.{is_c}
 use Rattle.project.proofs.fitting.are_some_c.Goals as goal
 

@@ -1,5 +1,5 @@
 use Rattle.std.proofs.Common.{sym, subst}
-use Rattle.edge.specs.Texts.{texts}
+use Rattle.targets.specs.edge.Texts.{texts}
 use Rattle.targets.specs.LinkedViews.{linked_views}
 use Rattle.targets.specs.View.{surroundings_view}
 use Rattle.project.specs.Laws.{Reaches}

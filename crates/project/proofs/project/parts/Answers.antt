@@ -1,12 +1,12 @@
 use Rattle.std.proofs.Common.{◌≡◌, List, length, take, get_or, nat_lt, sym, ap, ◌∙◌}
 use Rattle.std.proofs.lemmas.Result.{IfOk-weaker}
-use Rattle.edge.specs.Texts.{texts}
+use Rattle.targets.specs.edge.Texts.{texts}
 use Rattle.targets.specs.Libraries.{linked, linked_of}
 use Rattle.targets.specs.LinkedViews.{linked_views}
 use Rattle.targets.specs.View.{surroundings_view, target_view}
 use Rattle.targets.specs.declared.linked_target.Linked.{Linked}
-use Rattle.target_edges.specs.Edges.{edges_of}
-use Rattle.target_edges.specs.PartsView.{parts_edges}
+use Rattle.targets.specs.target_edges.Edges.{edges_of}
+use Rattle.targets.specs.target_edges.PartsView.{parts_edges}
 use Rattle.project.specs.World.{WorldData}
 use Rattle.project.specs.NotesView.{notes_view}
 use Rattle.project.specs.Adding.{edges_at}

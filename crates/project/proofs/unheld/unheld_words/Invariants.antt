@@ -1,5 +1,5 @@
 use Rattle.std.proofs.Common.{◌≡◌, drop}
-use Rattle.edge.specs.Texts.{texts}
+use Rattle.targets.specs.edge.Texts.{texts}
 use Rattle.project.specs.Unheld.{unheld_words}
 use Rattle.project.proofs.unheld.unheld_words.Given as goal
 

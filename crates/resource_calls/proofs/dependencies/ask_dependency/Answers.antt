@@ -1,7 +1,7 @@
 use Rattle.std.proofs.Common.{ap, ◌∙◌}
-use Rattle.machine_file.specs.Questions.{answer_to, dependency_topic}
-use Rattle.machine_file.specs.View.{strings_in}
-use Rattle.resources.specs.Fitting.{dependency_that_fits}
+use Rattle.machine.specs.machine_file.Questions.{answer_to, dependency_topic}
+use Rattle.machine.specs.machine_file.View.{strings_in}
+use Rattle.named_sources.specs.resources.Fitting.{dependency_that_fits}
 use Rattle.world.proofs.Answering.{carries_give, carries_none, carries_stop, carries_then}
 use Rattle.resource_calls.specs.Dependency.{ask_dependency}
 use Rattle.resource_calls.proofs.dependencies.ask_dependency.Goals as goal

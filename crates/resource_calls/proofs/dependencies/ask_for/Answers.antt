@@ -1,7 +1,7 @@
 use Rattle.std.proofs.Common.{ap, subst, ◌∙◌}
 use Rattle.arguments.specs.Arguments.{arguments_data}
-use Rattle.machine_file.specs.Questions.{Question, answer_to}
-use Rattle.resources.specs.Beside.{call_question}
+use Rattle.machine.specs.machine_file.Questions.{Question, answer_to}
+use Rattle.named_sources.specs.resources.Beside.{call_question}
 use Rattle.world.specs.Answering.{Carries}
 use Rattle.world.specs.Caller.{state_of}
 use Rattle.world.specs.Deed.{consult}

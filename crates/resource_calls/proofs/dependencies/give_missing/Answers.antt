@@ -1,6 +1,6 @@
 use Rattle.std.proofs.Common.{Some, ap, ◌∙◌}
 use Rattle.data.specs.Data.{object}
-use Rattle.resources.specs.Found.{missing}
+use Rattle.named_sources.specs.resources.Found.{missing}
 use Rattle.world.proofs.Answering.{carries_give, carries_none, carries_stop, carries_then}
 use Rattle.resource_calls.specs.Dependency.{give_missing}
 use Rattle.resource_calls.proofs.Exactly.{carries_exactly}

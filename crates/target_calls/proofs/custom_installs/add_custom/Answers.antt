@@ -1,6 +1,6 @@
 use Rattle.std.proofs.Common.{◌≡◌, ℕ, Bool, false, List, [], ◌∷◌, map, string_bytes, ap, sym, refl, ◌∙◌}
 use Rattle.arguments.specs.Arguments.{arguments_data}
-use Rattle.edge.specs.Holding.{is_some_list}
+use Rattle.targets.specs.edge.Holding.{is_some_list}
 use Rattle.targets.specs.View.{target_view}
 use Rattle.world.specs.Caller.{state_of}
 use Rattle.world.proofs.Answering.{carries_as, carries_give, carries_none, carries_read, carries_stop, carries_then}

@@ -1,6 +1,6 @@
 use Rattle.std.proofs.Common.{◌≡◌, map, take}
-use Rattle.edge.specs.Texts.{texts}
-use Rattle.edge.specs.Paths.{object_path}
+use Rattle.targets.specs.edge.Texts.{texts}
+use Rattle.targets.specs.edge.Paths.{object_path}
 use Rattle.targets.specs.Inputs.{input_view}
 use Rattle.targets.proofs.files.objects.Given as goal
 

@@ -1,5 +1,5 @@
 use Rattle.std.proofs.Common.{◌≡◌, map, take}
-use Rattle.edge.specs.Texts.{texts}
+use Rattle.targets.specs.edge.Texts.{texts}
 use Rattle.paths.specs.Paths.{path_in}
 use Rattle.targets.proofs.files.paths_in.Given as goal
 

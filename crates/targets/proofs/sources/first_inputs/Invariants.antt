@@ -1,5 +1,5 @@
 use Rattle.std.proofs.Common.{◌≡◌, [], map}
-use Rattle.edge.specs.Texts.{texts}
+use Rattle.targets.specs.edge.Texts.{texts}
 use Rattle.targets.specs.Sources.{InputData, put_inputs}
 use Rattle.targets.specs.Inputs.{input_view}
 use Rattle.targets.proofs.sources.first_inputs.Given as goal

@@ -1,6 +1,6 @@
 use Rattle.std.proofs.Common.{◌≡◌, map, ap, sym, ◌∙◌}
 use Rattle.std.proofs.lemmas.Result.{IfOk-weaker}
-use Rattle.edge.specs.Texts.{texts, first_kept}
+use Rattle.targets.specs.edge.Texts.{texts, first_kept}
 use Rattle.targets.specs.Data.{ListsData}
 use Rattle.targets.specs.Sources.{generated_in, generated}
 use Rattle.targets.specs.View.{source_view, lists_view, build_view}

@@ -1,6 +1,6 @@
 use Rattle.std.proofs.Common.{◌≡◌, ◌++◌, map, take}
 use Rattle.std.specs.Prelude.{flat_map}
-use Rattle.edge.specs.Texts.{texts}
+use Rattle.targets.specs.edge.Texts.{texts}
 use Rattle.targets.specs.Sources.{generated_in}
 use Rattle.targets.specs.View.{source_view}
 use Rattle.targets.proofs.sources.push_all_generated.Given as goal

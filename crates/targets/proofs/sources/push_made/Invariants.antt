@@ -1,6 +1,6 @@
 use Rattle.std.proofs.Common.{◌≡◌, ◌++◌, map, take}
 use Rattle.std.specs.Prelude.{flat_map}
-use Rattle.edge.specs.Texts.{texts}
+use Rattle.targets.specs.edge.Texts.{texts}
 use Rattle.targets.specs.Sources.{c_input, own_input}
 use Rattle.targets.specs.Inputs.{input_view}
 use Rattle.targets.proofs.sources.push_made.Given as goal

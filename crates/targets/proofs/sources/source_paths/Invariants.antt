@@ -1,6 +1,6 @@
 use Rattle.std.proofs.Common.{◌≡◌, map, take}
 use Rattle.std.specs.Prelude.{flat_map}
-use Rattle.edge.specs.Texts.{texts}
+use Rattle.targets.specs.edge.Texts.{texts}
 use Rattle.targets.specs.Sources.{source_paths}
 use Rattle.targets.specs.View.{source_view}
 use Rattle.targets.proofs.sources.source_paths.Given as goal

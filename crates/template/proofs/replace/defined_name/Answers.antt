@@ -2,7 +2,8 @@ use Rattle.std.proofs.Common.{sym, ◌∙◌, ap, eqb-true, eq-eqb}
 use Rattle.std.proofs.lemmas.Bool.{false≢true}
 use Rattle.std.specs.Str.{bytes_eq}
 use Rattle.template.proofs.Words.{defines_name, is_name_bytes, malformed_word, malformed_name, malformed_more}
-use Rattle.template.proofs.replace.defined_name.Goals.{else-eq-via-then-eq+then-is_name+else-is_empty, else-eq-via-then-eq+else-is_name, else-eq-via-else-eq}
+use Rattle.template.proofs.replace.defined_name.Goals.{else-eq-via-then-eq+then-is_name+else-is_empty, else-eq-via-then-eq+else-is_name}
+use Rattle.template.proofs.replace.defined_name.Goals.{else-eq-via-else-eq}
 use Rattle.template.proofs.replace.defined_name.Goals as goal
 
 pub returns-then-is_empty-clause-read : goal.returns-then-is_empty-clause-read

@@ -1,5 +1,6 @@
 use Rattle.std.proofs.Common.{◌∙◌}
-use Rattle.template.proofs.Define.{IsRead, read_defines, read_plain, bad_writes, bad_fault, define_writes, define_stop, define_fault, plain_writes, plain_fault}
+use Rattle.template.proofs.Define.{IsRead, read_defines, read_plain, bad_writes, bad_fault, define_writes, define_stop, define_fault}
+use Rattle.template.proofs.Define.{plain_writes, plain_fault}
 use Rattle.template.proofs.Passing.{exit_device}
 use Rattle.template.proofs.replace.replace_line.Goals as goal
 

@@ -2,12 +2,17 @@ use Rattle.std.proofs.Common.{sym, ap, ◌∙◌, ◌&&◌, length, map, nat_lt,
 use Rattle.std.specs.Prelude.{IsTrue}
 use Rattle.code.specs.declared.node.CallNode.{CallNode}
 use Rattle.std.specs.List.{list_all}
-use Rattle.grammar.specs.ExpressionTree.{ExpressionTree, ListTree, DictionaryTree, FunctionTree, PostfixTree, PrefixTree, ChainTree, TernaryTree, arguments, entries, expressions, links, operands, expression_of, entry_of, argument_of, operand_of, link_of}
-use Rattle.code.specs.Nodes.{tree_at, entry_at, argument_at, operand_at, link_at, entry_within, argument_within, operand_within, link_within}
+use Rattle.grammar.specs.ExpressionTree.{ExpressionTree, ListTree, DictionaryTree, FunctionTree, PostfixTree, PrefixTree, ChainTree}
+use Rattle.grammar.specs.ExpressionTree.{TernaryTree, arguments, entries, expressions, links, operands, expression_of, entry_of}
+use Rattle.grammar.specs.ExpressionTree.{argument_of, operand_of, link_of}
+use Rattle.code.specs.Nodes.{tree_at, entry_at, argument_at, operand_at, link_at, entry_within, argument_within, operand_within}
+use Rattle.code.specs.Nodes.{link_within}
 use Rattle.code.specs.Draft.{trees_in}
 use Rattle.code.proofs.Trees.{and_both}
-use Rattle.code.proofs.Parts.{grows_same, grows_trans, stands_more, parts_step, parts_end, keeps_number, keeps_entry, keeps_argument, keeps_operand, keeps_link}
-use Rattle.code.proofs.Made.{entry_is, argument_is, operand_is, stands_as, stands_so, name_made, literal_made, list_made, dictionary_made, call_made, postfix_made, prefix_made, chain_made, ternary_made}
+use Rattle.code.proofs.Parts.{grows_same, grows_trans, stands_more, parts_step, parts_end, keeps_number, keeps_entry, keeps_argument}
+use Rattle.code.proofs.Parts.{keeps_operand, keeps_link}
+use Rattle.code.proofs.Made.{entry_is, argument_is, operand_is, stands_as, stands_so, name_made, literal_made, list_made, dictionary_made}
+use Rattle.code.proofs.Made.{call_made, postfix_made, prefix_made, chain_made, ternary_made}
 use Rattle.code.proofs.draft.Draft.+flatten.Goals as goal
 
 pub list-loop-item-preserved : goal.list-loop-item-preserved

@@ -10,7 +10,8 @@ use Rattle.code.specs.Statements.{statement_at, statement_tree, branch_within}
 use Rattle.code.specs.FileDraft.{statements_in}
 use Rattle.code.proofs.Parts.{stands_more}
 use Rattle.code.proofs.Trees.{and_both}
-use Rattle.code.proofs.Placed.{extends_trans, are_step, parts_are, parts_within, branches_step, branches_more, branch_is, statement_as, if_made, assign_made, append_made, value_made, break_made, continue_made, each_made}
+use Rattle.code.proofs.Placed.{extends_trans, are_step, parts_are, parts_within, branches_step, branches_more, branch_is, statement_as}
+use Rattle.code.proofs.Placed.{if_made, assign_made, append_made, value_made, break_made, continue_made, each_made}
 use Rattle.code.proofs.file_draft.FileDraft.+flatten_statement.Goals as goal
 
 pub conditional-returns-in_err-branches-clause-extends : goal.conditional-returns-in_err-branches-clause-extends

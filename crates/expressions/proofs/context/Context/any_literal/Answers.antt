@@ -8,8 +8,8 @@ use Rattle.code.specs.declared.literal.LiteralNode.{LiteralNode}
 use Rattle.code.specs.declared.literal.Meaning.TheVariants as meanings
 use Rattle.data.specs.Data.{text}
 use Rattle.data.specs.Limits.{within}
-use Rattle.texts.specs.declared.placed.Places.TheVariants as places
-use Rattle.texts.specs.Segments.{segments}
+use Rattle.data.specs.declared.texts.placed.Places.TheVariants as places
+use Rattle.data.specs.texts.Segments.{segments}
 use Rattle.world.specs.Plan.{answered}
 use Rattle.expressions.specs.Forms.{filled, literal_value}
 use Rattle.expressions.proofs.Evaluating.{given_as, given_give, given_none, given_same}

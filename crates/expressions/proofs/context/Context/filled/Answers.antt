@@ -3,15 +3,17 @@ use Rattle.std.specs.Prelude.{true, false}
 use Rattle.code.specs.FormatStrings.{part_data}
 use Rattle.data.specs.Data.{Data}
 use Rattle.data.specs.View.{data_of}
-use Rattle.printing.specs.Printed.{is_plain, printed, shown}
-use Rattle.texts.specs.Segments.{Segment, text, place}
+use Rattle.data.specs.printing.Printed.{is_plain, printed, shown}
+use Rattle.data.specs.texts.Segments.{Segment, text, place}
 use Rattle.basics.specs.declared.faults.refusal.Refusal.TheVariants as refusals
 use Rattle.world.specs.Plan.{answered, give, next, refuse}
 use Rattle.expressions.specs.Filling.{Puts}
 use Rattle.expressions.specs.Forms.{filled, part_text, printed_plain, variable}
-use Rattle.expressions.proofs.Evaluating.{given_as, given_give, given_refused, given_stop_inside, leads_as, leads_end, leads_inside, leads_on, leads_start, next_is, no_item}
+use Rattle.expressions.proofs.Evaluating.{given_as, given_give, given_refused, given_stop_inside, leads_as, leads_end, leads_inside}
+use Rattle.expressions.proofs.Evaluating.{leads_on, leads_start, next_is, no_item}
 use Rattle.expressions.proofs.context.Context.filled.Goals as goal
-use Rattle.expressions.proofs.context.Context.filled.Goals.{in-Text+in_ok-put-in-Text, in-Place+in_ok-value-in-Place+in_ok-put_value-in-Place+else-not-branch}
+use Rattle.expressions.proofs.context.Context.filled.Goals.{in-Text+in_ok-put-in-Text}
+use Rattle.expressions.proofs.context.Context.filled.Goals.{in-Place+in_ok-value-in-Place+in_ok-put_value-in-Place+else-not-branch}
 
 -- what the parts that are left give behind a text, where a place comes first
 at_first : (line : ℕ) (made : List ℕ) (all : List Segment) (first : Segment) (rest : List Segment) (name : List ℕ)

@@ -1,7 +1,7 @@
 use Rattle.std.proofs.Common.{subst}
 use Rattle.data.specs.Tables.{Answers}
 use Rattle.data.specs.View.{data_of}
-use Rattle.operators.specs.Operations.{unary_answer}
+use Rattle.operations.specs.operators.Operations.{unary_answer}
 use Rattle.expressions.proofs.context.Context.prefixed.Goals as goal
 
 pub returns-clause-gives : goal.returns-clause-gives

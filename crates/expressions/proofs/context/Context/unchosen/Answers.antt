@@ -2,7 +2,7 @@ use Rattle.std.proofs.Common.{◌≡◌, true, refl, ap, sym, ◌∙◌}
 use Rattle.data.specs.Data.{Data, object, is_disabler}
 use Rattle.data.specs.declared.object.Object.TheVariants as TheObject
 use Rattle.data.specs.View.{data_of}
-use Rattle.operators.specs.Operations.{disabler}
+use Rattle.operations.specs.operators.Operations.{disabler}
 use Rattle.expressions.specs.Forms.{unchosen}
 use Rattle.expressions.proofs.Evaluating.{given_as, given_give, given_refuse}
 use Rattle.expressions.proofs.context.Context.unchosen.Goals as goal

@@ -5,17 +5,30 @@ use Rattle.std.specs.Option.{option_map}
 use Rattle.grammar.specs.declared.stop.Stop.{Stop}
 use Rattle.lexer.specs.Lexeme.{Lexeme, lexeme_of, lexemes}
 use Rattle.lexer.specs.declared.token.Kind.TheVariants as Kinds
-use Rattle.grammar.specs.ExpressionTree.{ArgumentTree, ChainTree, EntryTree, LinkTree, OperandTree, PostfixTree, argument_of, entry_of, expression_of, link_of, links, operand_of, operands}
+use Rattle.grammar.specs.ExpressionTree.{ArgumentTree, ChainTree, EntryTree, LinkTree, OperandTree, PostfixTree, argument_of, entry_of}
+use Rattle.grammar.specs.ExpressionTree.{expression_of, link_of, links, operand_of, operands}
 use Rattle.grammar.specs.Expressions.{is_named}
 use Rattle.grammar.specs.Form.{same_state}
 use Rattle.std.proofs.lemmas.List.{map_push}
 use Rattle.grammar.specs.Parts.{first_line, stands_for}
-use Rattle.grammar.specs.ReadingExpressions.{disjunction_at, argument_at, ternary_at, entry_at, inner_at, link_at, links_at, links_on, operand_at, operands_at, operator_of, part_at, sum_at, unary_at}
-use Rattle.grammar.proofs.AtomTails.{call_arguments_fail, call_name_fails, comparison_alone, comparison_operator_fails, comparison_reads, comparison_value_fails, dot_fails, group_close_fails, group_inner_fails, group_opening_fails, group_reads, index_close_fails, index_inner_fails, index_opening_fails, method_arguments_fail, method_name_fails}
-use Rattle.grammar.proofs.ExpressionTails.{atom_dictionary, atom_list, atom_single, chain_alone, ternary_alone, list_stops, list_unclosed, list_reads, dictionary_stops, dictionary_unclosed, dictionary_reads, arguments_stops, arguments_unclosed, arguments_reads, call_reads, chain_more, chain_others_fail, entry_colon_fails, entry_key_fails, entry_reads, entry_value_fails, index_reads, method_reads, postfix_alone, postfix_base_fails, postfix_links_fail, postfix_more, prefixed_reads, prefixed_value_fails, prefixed_word_fails, ternary_asks, ternary_colon_fails, ternary_one_fails, ternary_other_fails, ternary_question_fails, ternary_test_fails, argument_label_fails, argument_reads, argument_value_fails, operand_fails, operand_reads, taken_head, taken_other}
+use Rattle.grammar.specs.ReadingExpressions.{disjunction_at, argument_at, ternary_at, entry_at, inner_at, link_at, links_at, links_on}
+use Rattle.grammar.specs.ReadingExpressions.{operand_at, operands_at, operator_of, part_at, sum_at, unary_at}
+use Rattle.grammar.proofs.AtomTails.{call_arguments_fail, call_name_fails, comparison_alone, comparison_operator_fails, comparison_reads}
+use Rattle.grammar.proofs.AtomTails.{comparison_value_fails, dot_fails, group_close_fails, group_inner_fails, group_opening_fails}
+use Rattle.grammar.proofs.AtomTails.{group_reads, index_close_fails, index_inner_fails, index_opening_fails, method_arguments_fail}
+use Rattle.grammar.proofs.AtomTails.{method_name_fails}
+use Rattle.grammar.proofs.ExpressionTails.{atom_dictionary, atom_list, atom_single, chain_alone, ternary_alone, list_stops, list_unclosed}
+use Rattle.grammar.proofs.ExpressionTails.{list_reads, dictionary_stops, dictionary_unclosed, dictionary_reads, arguments_stops}
+use Rattle.grammar.proofs.ExpressionTails.{arguments_unclosed, arguments_reads, call_reads, chain_more, chain_others_fail}
+use Rattle.grammar.proofs.ExpressionTails.{entry_colon_fails, entry_key_fails, entry_reads, entry_value_fails, index_reads, method_reads}
+use Rattle.grammar.proofs.ExpressionTails.{postfix_alone, postfix_base_fails, postfix_links_fail, postfix_more, prefixed_reads}
+use Rattle.grammar.proofs.ExpressionTails.{prefixed_value_fails, prefixed_word_fails, ternary_asks, ternary_colon_fails, ternary_one_fails}
+use Rattle.grammar.proofs.ExpressionTails.{ternary_other_fails, ternary_question_fails, ternary_test_fails, argument_label_fails}
+use Rattle.grammar.proofs.ExpressionTails.{argument_reads, argument_value_fails, operand_fails, operand_reads, taken_head, taken_other}
 use Rattle.grammar.proofs.Loops.{pending_done, pending_fails, pending_first, pending_more, still_ends, still_fails, still_first, still_more}
 use Rattle.grammar.proofs.Tails.{length_lexemes}
-use Rattle.grammar.proofs.Views.{dictionary_seen, entries_pushed, list_seen, arguments_pushed, call_seen, chain_seen, index_seen, method_seen, operands_pushed, postfix_seen, prefix_seen, some_kept, ternary_seen}
+use Rattle.grammar.proofs.Views.{dictionary_seen, entries_pushed, list_seen, arguments_pushed, call_seen, chain_seen, index_seen}
+use Rattle.grammar.proofs.Views.{method_seen, operands_pushed, postfix_seen, prefix_seen, some_kept, ternary_seen}
 use Rattle.grammar.proofs.parser.Parser.+expression.Goals as goal
 
 -- what was read, as the tree of what is returned

@@ -6,7 +6,8 @@ use Rattle.grammar.specs.Expressions.{is_named}
 use Rattle.grammar.specs.Form.{same_state}
 use Rattle.grammar.specs.Parts.{stands_for}
 use Rattle.grammar.specs.Reading.{listed_at}
-use Rattle.grammar.specs.ReadingExpressions.{argument_at, ternary_at, entry_at, inner_at, link_at, links_at, links_on, operand_at, operands_at, operator_of, part_at, unary_at}
+use Rattle.grammar.specs.ReadingExpressions.{argument_at, ternary_at, entry_at, inner_at, link_at, links_at, links_on, operand_at}
+use Rattle.grammar.specs.ReadingExpressions.{operands_at, operator_of, part_at, unary_at}
 use Rattle.grammar.proofs.ExpressionTails.{weight}
 use Rattle.grammar.proofs.Loops.{Pending, StillReads}
 use Rattle.grammar.proofs.parser.Parser.+expression.Given as goal

@@ -10,8 +10,11 @@ use Rattle.grammar.specs.Tree.{branch_of, statement_of}
 use Rattle.grammar.proofs.Tails.{length_lexemes}
 use Rattle.grammar.specs.ExpressionTree.{expression_of}
 use Rattle.grammar.specs.Tree.{BranchTree, StatementTree, statements}
-use Rattle.grammar.proofs.BlockTails.{branch_body_fails, branch_reads, branch_seen, condition_newline_fails, else_newline_fails, else_reads, else_word_fails}
-use Rattle.grammar.proofs.StatementTails.{body_end, line_fails, otherwise_none, parts_end, stmt_conditional, stmt_foreach, stmt_simple, StillBody, body_first, body_line_fails, body_more, body_newline_fails, elif_branch_fails, elif_word_fails, line_none, line_some, parts_first, parts_fails, parts_more, parts_stop}
+use Rattle.grammar.proofs.BlockTails.{branch_body_fails, branch_reads, branch_seen, condition_newline_fails, else_newline_fails, else_reads}
+use Rattle.grammar.proofs.BlockTails.{else_word_fails}
+use Rattle.grammar.proofs.StatementTails.{body_end, line_fails, otherwise_none, parts_end, stmt_conditional, stmt_foreach, stmt_simple}
+use Rattle.grammar.proofs.StatementTails.{StillBody, body_first, body_line_fails, body_more, body_newline_fails, elif_branch_fails}
+use Rattle.grammar.proofs.StatementTails.{elif_word_fails, line_none, line_some, parts_first, parts_fails, parts_more, parts_stop}
 use Rattle.grammar.proofs.parser.Parser.+statement.Goals as goal
 
 -- orders that follow one another

@@ -1,5 +1,5 @@
 use Rattle.std.proofs.Common.{map, take}
-use Rattle.introspection.specs.QuestionsView.{line_in}
+use Rattle.outputs.specs.introspection.QuestionsView.{line_in}
 use Rattle.world.specs.AskedView.{asked_in}
 use Rattle.hawkottoman.specs.Questions.{shown}
 use Rattle.hawkottoman.specs.Telling.{Tells}

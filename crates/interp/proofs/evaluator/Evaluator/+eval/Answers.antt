@@ -1,5 +1,7 @@
-use Rattle.std.proofs.Common.{ℕ, suc, ◌+◌, ◌≤◌, max, Bool, List, [], ◌∷◌, drop, map, get_or, Option, Err, Some, option_map, refl, sym, ap, ◌∙◌, arith, rules}
-use Rattle.grammar.specs.ExpressionTree.{ListTree, DictionaryTree, FunctionTree, PostfixTree, ChainTree, expressions, entries, arguments, links, operands}
+use Rattle.std.proofs.Common.{ℕ, suc, ◌+◌, ◌≤◌, max, Bool, List, [], ◌∷◌, drop, map, get_or, Option, Err, Some, option_map, refl, sym, ap}
+use Rattle.std.proofs.Common.{◌∙◌, arith, rules}
+use Rattle.grammar.specs.ExpressionTree.{ListTree, DictionaryTree, FunctionTree, PostfixTree, ChainTree, expressions, entries, arguments}
+use Rattle.grammar.specs.ExpressionTree.{links, operands}
 use Rattle.grammar.specs.declared.tree.Operator.TheVariants as flatop
 use Rattle.code.specs.declared.node.Node.TheVariants as flat
 use Rattle.code.specs.declared.node.EntryNode.{EntryNode}
@@ -11,21 +13,24 @@ use Rattle.code.specs.Nodes.{tree_at, entry_at, argument_at, operand_at, link_at
 use Rattle.data.specs.Data.{Data, Items, is_disabler}
 use Rattle.data.specs.View.{data_of, items_of}
 use Rattle.data.proofs.ItemsLemmas.{items_of-append}
-use Rattle.operators.specs.Literal.{pairs_of}
+use Rattle.operations.specs.operators.Literal.{pairs_of}
 use Rattle.arguments.specs.Arguments.{arguments_data, no_arguments}
 use Rattle.world.specs.Plan.{ruled, next}
 use Rattle.interp.specs.Expressions.{arguments_of, chain_of, entries_of, link_of, links_of, method_of, value_of, values_of}
-use Rattle.operators.specs.declared.logic.Left.{Left}
+use Rattle.operations.specs.declared.operators.logic.Left.{Left}
 use Rattle.expressions.specs.Forms.{chosen, combined, listed, paired, unless_decided, variable}
 use Rattle.expressions.specs.declared.meaning.Meaning.{Meaning}
 use Rattle.interp.specs.Operations.{left_view}
 use Rattle.interp.specs.declared.halt.Halt.TheVariants as halts
 use Rattle.interp.specs.Parts.{above, above_number, above_entry, above_argument, above_operand, above_link}
 use Rattle.interp.specs.Folders.{folder}
-use Rattle.interp.proofs.Coming.{comes_as, comes_end, comes_given, comes_halt, comes_halt_inside, comes_last, comes_none, comes_rule, comes_same, comes_stop, comes_then}
-use Rattle.expressions.proofs.Evaluating.{given_as, given_give, given_then, leads_as, leads_end, leads_inside, leads_on, leads_start, next_is, next_item, no_item}
+use Rattle.interp.proofs.Coming.{comes_as, comes_end, comes_given, comes_halt, comes_halt_inside, comes_last, comes_none, comes_rule}
+use Rattle.interp.proofs.Coming.{comes_same, comes_stop, comes_then}
+use Rattle.expressions.proofs.Evaluating.{given_as, given_give, given_then, leads_as, leads_end, leads_inside, leads_on, leads_start}
+use Rattle.expressions.proofs.Evaluating.{next_is, next_item, no_item}
 use Rattle.interp.proofs.Pairs.{pairs_of-push}
-use Rattle.interp.proofs.Reading.{reads_on, opened, parts_at, name_of, number_reach, first_reach, three_reach, numbers_reach, entries_reach, arguments_reach, operands_reach, links_reach}
+use Rattle.interp.proofs.Reading.{reads_on, opened, parts_at, name_of, number_reach, first_reach, three_reach, numbers_reach, entries_reach}
+use Rattle.interp.proofs.Reading.{arguments_reach, operands_reach, links_reach}
 use Rattle.interp.proofs.evaluator.Evaluator.+eval.Goals as goal
 
 pub eval-returns-clause-gives : goal.eval-returns-clause-gives

@@ -1,10 +1,10 @@
 use Rattle.std.proofs.Common.{ℕ, Option, Ok, [], refl, sym, ap, ◌∙◌}
 use Rattle.data.specs.Data.{Data}
 use Rattle.basics.specs.declared.faults.refusal.Refusal.{Refusal}
-use Rattle.operators.specs.Logic.{LeftAnswers, left_answer}
-use Rattle.operators.specs.declared.logic.Left.{Left}
-use Rattle.operators.specs.declared.logic.Left.TheVariants.{Decides, Open}
-use Rattle.operators.specs.declared.operator.Connective.{Connective}
+use Rattle.operations.specs.operators.Logic.{LeftAnswers, left_answer}
+use Rattle.operations.specs.declared.operators.logic.Left.{Left}
+use Rattle.operations.specs.declared.operators.logic.Left.TheVariants.{Decides, Open}
+use Rattle.operations.specs.declared.operators.operator.Connective.{Connective}
 use Rattle.world.specs.Deed.{Files}
 use Rattle.world.specs.Gives.{Holds}
 use Rattle.world.specs.Plan.{answered, refuse}

@@ -13,7 +13,8 @@ use Rattle.interp.specs.declared.frames.Frame.TheVariants as frames
 use Rattle.expressions.proofs.Evaluating.{given_as, given_stop, given_then, leads_as, leads_further, leads_next, leads_start}
 use Rattle.interp.proofs.Doing.{memory_is}
 use Rattle.interp.proofs.Places.{entered_fresh, folder_is, given_refused_here, leads_fresh}
-use Rattle.interp.proofs.Stack.{behind_two, leads_under, left_here, made_now, moves_as, moves_block, moves_given, moves_none, moves_then, stacked_on, stacked_top}
+use Rattle.interp.proofs.Stack.{behind_two, leads_under, left_here, made_now, moves_as, moves_block, moves_given, moves_none, moves_then}
+use Rattle.interp.proofs.Stack.{stacked_on, stacked_top}
 use Rattle.interp.proofs.evaluator.Evaluator.enter.Goals as goal
 
 pub returns-in_err-path-clause-gives : goal.returns-in_err-path-clause-gives

@@ -7,7 +7,8 @@ use Rattle.world.specs.Plan.{give}
 use Rattle.world.specs.declared.stop.Stop.TheVariants as stops
 use Rattle.interp.specs.Statements.{rounds_of}
 use Rattle.interp.specs.declared.flow.Flow.{Flow}
-use Rattle.interp.proofs.Doing.{ended_tours, none_tours, rested_ended, rested_stop, toured_next, toured_out, walk_of, walked_left, walked_stop}
+use Rattle.interp.proofs.Doing.{ended_tours, none_tours, rested_ended, rested_stop, toured_next, toured_out, walk_of, walked_left}
+use Rattle.interp.proofs.Doing.{walked_stop}
 use Rattle.interp.proofs.Spelling.{drop_all, round_is, round_none}
 use Rattle.interp.proofs.Stack.{made_on}
 use Rattle.interp.proofs.evaluator.Evaluator.tour.Goals as goal

@@ -7,7 +7,8 @@ use Rattle.interp.specs.Statements.{do_all}
 use Rattle.interp.specs.declared.flow.Flow.{Flow}
 use Rattle.interp.proofs.Blocks.{number_below}
 use Rattle.interp.proofs.Stack.{made_on}
-use Rattle.interp.proofs.Doing.{deep_none, done_enters, done_flow, done_none, done_stops, walked_all, walked_left, walked_next, walked_on, walked_out, walked_stop, ended_begins, rested_ended}
+use Rattle.interp.proofs.Doing.{deep_none, done_enters, done_flow, done_none, done_stops, walked_all, walked_left, walked_next, walked_on}
+use Rattle.interp.proofs.Doing.{walked_out, walked_stop, ended_begins, rested_ended}
 use Rattle.interp.proofs.evaluator.Evaluator.walk.Goals as goal
 
 pub loop-place-init : goal.loop-place-init

@@ -1,7 +1,7 @@
 use Rattle.std.proofs.Common.{ap, refl, ◌∙◌}
 use Rattle.data.specs.Data.{text}
 use Rattle.data.specs.Limits.{within}
-use Rattle.machine_file.specs.Questions.{answer_to}
+use Rattle.machine.specs.machine_file.Questions.{answer_to}
 use Rattle.world.specs.Deed.{answered}
 use Rattle.world.proofs.Answering.{carries_as, carries_give, carries_none, carries_stop, carries_then, carries_value}
 use Rattle.objects.specs.CompilerMethods.{get_id}

@@ -1,6 +1,6 @@
 use Rattle.std.proofs.Common.{◌≡◌, ℕ, List, IfOk, subst}
-use Rattle.machine_file.specs.Questions.{answer_to}
-use Rattle.machine_file.specs.View.{machine_in}
+use Rattle.machine.specs.machine_file.Questions.{answer_to}
+use Rattle.machine.specs.machine_file.View.{machine_in}
 use Rattle.objects.specs.CompilerSaid.{argument_topic, is_true}
 use Rattle.objects.proofs.compiler.calling.is_supported.Goals as goal
 

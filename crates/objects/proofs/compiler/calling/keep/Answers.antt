@@ -4,8 +4,8 @@ use Rattle.arguments.specs.Given.{text_or_none}
 use Rattle.data.specs.Data.{item, items_append, no_items}
 use Rattle.data.specs.View.{data_of, items_of}
 use Rattle.data.proofs.ItemsLemmas.{items_append_none, items_of-push}
-use Rattle.machine_file.specs.Questions.{answer_to}
-use Rattle.machine_file.specs.View.{machine_in}
+use Rattle.machine.specs.machine_file.Questions.{answer_to}
+use Rattle.machine.specs.machine_file.View.{machine_in}
 use Rattle.objects.specs.CompilerSaid.{argument_topic, is_true}
 use Rattle.objects.proofs.compiler.calling.keep.Goals as goal
 

@@ -1,7 +1,7 @@
 use Rattle.std.proofs.Common.{Some, map, ap, ◌∙◌}
 use Rattle.data.specs.Data.{integer}
 use Rattle.arguments.specs.Arguments.{arguments_data}
-use Rattle.machine_file.specs.Questions.{answer_to, check_topic}
+use Rattle.machine.specs.machine_file.Questions.{answer_to, check_topic}
 use Rattle.world.proofs.Answering.{carries_give, carries_none, carries_stop, carries_then}
 use Rattle.objects.specs.CompilerMethods.{number}
 use Rattle.objects.specs.CompilerSaid.{number_of}

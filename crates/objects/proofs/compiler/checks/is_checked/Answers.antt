@@ -1,6 +1,6 @@
 use Rattle.std.proofs.Common.{map, ap, ◌∙◌}
 use Rattle.arguments.specs.Arguments.{arguments_data}
-use Rattle.machine_file.specs.Questions.{answer_to, check_topic}
+use Rattle.machine.specs.machine_file.Questions.{answer_to, check_topic}
 use Rattle.world.proofs.Answering.{carries_give, carries_none, carries_stop, carries_then}
 use Rattle.objects.specs.CompilerChecks.{is_checked}
 use Rattle.objects.specs.CompilerSaid.{is_true}

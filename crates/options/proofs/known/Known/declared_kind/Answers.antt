@@ -1,6 +1,6 @@
 use Rattle.std.proofs.Common.{ap}
 use Rattle.std.specs.Option.{option_map}
-use Rattle.option_file.specs.Declarations.{Declaration}
+use Rattle.options.specs.option_file.Declarations.{Declaration}
 use Rattle.options.specs.Verdicts.{declared_kind}
 use Rattle.options.proofs.known.Known.declared_kind.Goals as goal
 

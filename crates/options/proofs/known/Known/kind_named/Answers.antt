@@ -1,5 +1,5 @@
 use Rattle.std.proofs.Common.{◌∙◌, ap}
-use Rattle.option_file.specs.View.{options_in}
+use Rattle.options.specs.option_file.View.{options_in}
 use Rattle.options.specs.Verdicts.{or_declared, kind_named}
 use Rattle.options.proofs.known.Known.kind_named.Goals as goal
 

@@ -1,6 +1,6 @@
 use Rattle.std.proofs.Common.{string_bytes, ap, ◌∙◌}
-use Rattle.edge.specs.Texts.{texts}
-use Rattle.edge.proofs.TextLists.{texts-insert_key}
+use Rattle.targets.specs.edge.Texts.{texts}
+use Rattle.targets.proofs.TextLists.{texts-insert_key}
 use Rattle.targets.specs.LinkedViews.{linked_views}
 use Rattle.targets.specs.View.{surroundings_view}
 use Rattle.project.specs.World.{WorldData}

@@ -1,8 +1,8 @@
 use Rattle.std.proofs.Common.{◌≡◌, true, false, List, ◌++◌, map, Err, sym, ap, ◌∙◌}
 use Rattle.std.specs.List.{list_any, list_all}
 use Rattle.std.proofs.lemmas.Result.{IfOk-weaker}
-use Rattle.edge.specs.Texts.{Text, texts}
-use Rattle.edge.specs.Holding.{value_held}
+use Rattle.targets.specs.edge.Texts.{Text, texts}
+use Rattle.targets.specs.edge.Holding.{value_held}
 use Rattle.targets.specs.LinkedViews.{linked_views}
 use Rattle.targets.specs.View.{surroundings_view, target_view}
 use Rattle.targets.specs.declared.linked_target.Linked.{Linked}

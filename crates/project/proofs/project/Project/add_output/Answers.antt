@@ -1,7 +1,7 @@
 use Rattle.std.proofs.Common.{sym, ap, ◌∙◌}
 use Rattle.std.specs.Prelude.{not}
-use Rattle.edge.specs.Texts.{Path}
-use Rattle.edge.specs.Paths.{is_upward}
+use Rattle.targets.specs.edge.Texts.{Path}
+use Rattle.targets.specs.edge.Paths.{is_upward}
 use Rattle.paths.specs.Names.{is_file_name}
 use Rattle.project.specs.Adding.{is_folder}
 use Rattle.project.proofs.EdgeOrder.{split_and}

@@ -1,6 +1,6 @@
 use Rattle.std.proofs.Common.{List, string_bytes, sym, ap, ◌∙◌, subst}
-use Rattle.edge.specs.Texts.{Path, texts}
-use Rattle.edge.proofs.TextLists.{texts-insert_key}
+use Rattle.targets.specs.edge.Texts.{Path, texts}
+use Rattle.targets.proofs.TextLists.{texts-insert_key}
 use Rattle.targets.specs.LinkedViews.{linked_views}
 use Rattle.targets.specs.View.{surroundings_view}
 use Rattle.project.specs.World.{WorldData}

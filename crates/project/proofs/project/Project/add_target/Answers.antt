@@ -1,13 +1,13 @@
 use Rattle.std.proofs.Common.{List, ◌≡◌, ◌++◌, true, false, [], map, Err, OnOk, refl, sym, ap, ◌∙◌, subst}
 use Rattle.std.specs.List.{list_all}
 use Rattle.std.proofs.lemmas.Result.{IfOk-weaker}
-use Rattle.edge.specs.Texts.{texts}
-use Rattle.edge.specs.Holding.{are_writable}
+use Rattle.targets.specs.edge.Texts.{texts}
+use Rattle.targets.specs.edge.Holding.{are_writable}
 use Rattle.targets.specs.Libraries.{LinkBack, linked_of, linked_libraries}
 use Rattle.targets.specs.LinkedViews.{linked_views}
 use Rattle.targets.specs.View.{surroundings_view, target_view}
 use Rattle.targets.specs.declared.linked_target.Linked.{Linked}
-use Rattle.target_edges.specs.Edges.{target_edges}
+use Rattle.targets.specs.target_edges.Edges.{target_edges}
 use Rattle.project.specs.Laws.{outputs_of}
 use Rattle.project.specs.World.{WorldData}
 use Rattle.project.specs.Adding.{sources_of, is_present, is_fit, edges_with, place_answer, target_answer, with_target, after_answer}

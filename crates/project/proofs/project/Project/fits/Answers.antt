@@ -1,7 +1,7 @@
 use Rattle.std.proofs.Common.{Bool, sym, ap, ◌∙◌}
 use Rattle.std.specs.Prelude.{◌&&◌}
 use Rattle.std.specs.List.{list_all}
-use Rattle.edge.specs.Texts.{texts, holds}
+use Rattle.targets.specs.edge.Texts.{texts, holds}
 use Rattle.targets.specs.LinkedViews.{linked_views}
 use Rattle.targets.specs.View.{surroundings_view, target_view}
 use Rattle.project.specs.World.{WorldData, is_made_in, made_in, made_of}

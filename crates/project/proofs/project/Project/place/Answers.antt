@@ -3,7 +3,7 @@ use Rattle.std.specs.Prelude.{◌&&◌, is_some, not, if◌then◌else◌}
 use Rattle.std.proofs.lemmas.Grind.{common_steps}
 use Rattle.std.proofs.lemmas.List.{length-map}
 use Rattle.std.proofs.lemmas.Result.{IfOk-weaker}
-use Rattle.edge.specs.Texts.{texts}
+use Rattle.targets.specs.edge.Texts.{texts}
 use Rattle.targets.specs.Libraries.{LinkedData, linked, linked_of}
 use Rattle.targets.specs.LinkedViews.{linked_views}
 use Rattle.targets.specs.View.{surroundings_view, target_view}
@@ -16,7 +16,8 @@ use Rattle.project.specs.Whole.{IsWhole, IsNext, targets_in}
 use Rattle.project.specs.Adding.{place_answer, with_target}
 use Rattle.project.specs.Refused.{answer_data, refused}
 use Rattle.project.specs.declared.refusal.Refusal.TheVariants.{Limit, Duplicate}
-use Rattle.project.proofs.Placing.{whole_next, whole_same, free_is, place_ok, place_long, place_twice, placed_kept, placed_back, placed_twice, after_ok, after_err, on_ok, told_none, told_path, world_with}
+use Rattle.project.proofs.Placing.{whole_next, whole_same, free_is, place_ok, place_long, place_twice, placed_kept, placed_back}
+use Rattle.project.proofs.Placing.{placed_twice, after_ok, after_err, on_ok, told_none, told_path, world_with}
 use Rattle.project.proofs.Reading.{asked_last, targets_are, views-push}
 use Rattle.project.proofs.project.Project.place.Goals as goal
 

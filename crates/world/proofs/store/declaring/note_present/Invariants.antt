@@ -1,5 +1,5 @@
 use Rattle.std.proofs.Common.{◌≡◌, drop}
-use Rattle.edge.specs.Texts.{put_all_new, texts}
+use Rattle.targets.specs.edge.Texts.{put_all_new, texts}
 use Rattle.project.specs.World.{WorldData}
 use Rattle.world.proofs.store.declaring.note_present.Given as goal
 

@@ -7,7 +7,8 @@ use Rattle.data.specs.Data.{put, find, AreDistinct}
 use Rattle.data.specs.Weight.{weight, depth, entries_weight, entries_depth}
 use Rattle.data.specs.View.{data_of, entries_of}
 use Rattle.data.proofs.EntriesLemmas.{place, put_in, put_new, no_any, some_any, find_out}
-use Rattle.data.proofs.BuilderLemmas.{deeper_is, deeper_small, replaced_is, replaced_small, weight_replaced, weight-le-entries_weight, weight_put-new, depth_put-new, put-distinct, length-set}
+use Rattle.data.proofs.BuilderLemmas.{deeper_is, deeper_small, replaced_is, replaced_small, weight_replaced, weight-le-entries_weight}
+use Rattle.data.proofs.BuilderLemmas.{weight_put-new, depth_put-new, put-distinct, length-set}
 use Rattle.data.proofs.value.builder.DictionaryBuilder.put.Goals as goal
 
 pub overflow_sub-self : goal.overflow_sub-self

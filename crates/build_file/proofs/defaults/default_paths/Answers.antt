@@ -1,5 +1,0 @@
-use Rattle.build_file.proofs.DefaultPaths.{asked_are}
-use Rattle.build_file.proofs.defaults.default_paths.Goals as goal
-
-pub returns : goal.returns
-returns c = rw (asked_are c.targets.result.now c.args.project.now.targets c.targets.ensures) at c.all_asked.ensures

@@ -1,0 +1,16 @@
+use Rattle.std.proofs.Common.{length}
+use Rattle.data.specs.View.{data_of}
+use Rattle.data.specs.printing.Pieces.{pieces}
+use Rattle.world.specs.Answering.{Leads}
+use Rattle.world.specs.Caller.{state_of}
+use Rattle.calls.specs.language_calls.Saying.{say_each}
+use Rattle.calls.proofs.language_calls.messages.say_value.Given as goal
+
+-- what was said, and what is left
+abbrev pub invariant-loop-printer : goal.invariant-loop-printer
+invariant-loop-printer g l =
+    Leads (say_each (pieces (data_of l.value))) (state_of g.T.Tree.seen g.O.Outputs.seen l.fn.caller)
+    (say_each l.printer) (state_of g.T.Tree.seen g.O.Outputs.seen l.caller)
+
+abbrev pub decreases-loop-printer : goal.decreases-loop-printer
+decreases-loop-printer g l = length l.printer

@@ -1,0 +1,12 @@
+use Rattle.std.proofs.Common.{◌≡◌, List, [], ◌∷◌, map, refl, ap, ◌∙◌}
+use Rattle.machine.specs.option_values.BuiltIns as plain
+use Rattle.machine.specs.option_values.View.{row_in}
+use Rattle.machine.specs.declared.option_values.built_in.BuiltIn.{BuiltIn}
+use Rattle.calls.proofs.project_calls.resolution.built_in_names.Goals as goal
+
+names_are : (rows : List BuiltIn) → map (λ (row : BuiltIn). row.name.now) rows ≡ map (λ (b : plain.BuiltIn). b.name) (map row_in rows)
+names_are [] = refl
+names_are (row ∷ rows) = ap (λ ns. row.name.now ∷ ns) (names_are rows)
+
+pub returns : goal.returns
+returns c = c.in_ok-names.ensures ∙ names_are _ ∙ ap (map (λ (b : plain.BuiltIn). b.name)) c.built_ins-table.ensures

@@ -1,0 +1,2 @@
+pub mod language_calls
+pub mod project_calls

@@ -1,0 +1,15 @@
+-- `disabler` and `is_disabler`.
+use Rattle.std.specs.Prelude.{false, Option, Some, unwrap_or, option_map}
+use Rattle.data.specs.Data.{Data, boolean, is_disabler}
+use Rattle.operations.specs.operators.Operations.{disabler}
+use Rattle.arguments.specs.Arguments.{ArgumentsData}
+use Rattle.arguments.specs.Given.{argument}
+use Rattle.world.specs.Deed.{Deed, give}
+
+-- `disabler()`
+unfoldable pub give_disabler : Deed (Option Data)
+give_disabler = give (Some disabler)
+
+-- `is_disabler(value)`: a list with a disabler is none
+unfoldable pub tell_disabler : ArgumentsData → Deed (Option Data)
+tell_disabler a = give (Some (boolean (unwrap_or (option_map is_disabler (argument 0 a)) false)))

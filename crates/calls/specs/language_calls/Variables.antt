@@ -1,0 +1,68 @@
+-- The functions that name a variable by a text.
+use Rattle.std.specs.Prelude.{ℕ, Bool, true, false, not, ◌||◌, ◌&&◌, List, [], Option, Some, None, is_some, refl}
+use Rattle.data.specs.Data.{Data, boolean}
+use Rattle.arguments.specs.declared.rule.Rule.TheVariants as rules
+use Rattle.basics.specs.declared.faults.refusal.Refusal.TheVariants as refusals
+use Rattle.arguments.specs.Arguments.{ArgumentsData}
+use Rattle.arguments.specs.Given.{argument, text_at}
+use Rattle.world.specs.World.{with_variable}
+use Rattle.world.specs.Deed.{Deed, give, refuse, read, change, ◌>>=◌, need}
+use Rattle.world.specs.Ruled.{obeyed}
+use Rattle.data.specs.language_names.Names.{is_name, is_predefined, predefined}
+
+-- a name that definition files may set
+abbrev pub is_settable : List ℕ → Bool
+is_settable name = is_name name && not (is_predefined name)
+
+unfoldable pub set_to : List ℕ → Option Data → Deed (Unit {0})
+set_to name (Some d) = change (with_variable name (Some d)) (λ facts. refl)
+set_to name None = refuse refusals.Arguments []
+
+-- `set_variable(name, value)`
+unfoldable pub set_variable : ArgumentsData → Deed (Option Data)
+set_variable a = do
+  _ ← obeyed (is_settable (text_at 0 a)) rules.IsSettable (text_at 0 a)
+  _ ← set_to (text_at 0 a) (argument 1 a)
+  give None
+
+-- the value of a variable, or else a fallback
+unfoldable pub value_or : List ℕ → Option Data → Option Data → Deed (Option Data)
+value_or name (Some d) fallback = give (Some d)
+value_or name None (Some d) = give (Some d)
+value_or name None None = refuse refusals.UndefinedName name
+
+-- the value of a variable that definition files set, or else a fallback
+unfoldable pub set_or : List ℕ → Option Data → Deed (Option Data)
+set_or name fallback = do
+  facts ← read
+  value_or name (facts.variables name) fallback
+
+-- what a name stands for that every run has
+unfoldable pub thing : List ℕ → Deed (Option Data)
+thing name = give (Some (predefined name))
+
+unfoldable pub variable_or : Bool → List ℕ → Option Data → Deed (Option Data)
+variable_or true name fallback = thing name
+variable_or false name fallback = set_or name fallback
+
+-- `get_variable(name, fallback)`
+unfoldable pub get_variable : ArgumentsData → Deed (Option Data)
+get_variable a = do
+  _ ← obeyed (is_name (text_at 0 a)) rules.IsVariableName (text_at 0 a)
+  variable_or (is_predefined (text_at 0 a)) (text_at 0 a) (argument 1 a)
+
+-- `is_variable(name)`
+unfoldable pub is_variable : ArgumentsData → Deed (Option Data)
+is_variable a = do
+  _ ← obeyed (is_name (text_at 0 a)) rules.IsVariableName (text_at 0 a)
+  facts ← read
+  give (Some (boolean (is_predefined (text_at 0 a) || is_some (facts.variables (text_at 0 a)))))
+
+-- `unset_variable(name)`
+unfoldable pub unset_variable : ArgumentsData → Deed (Option Data)
+unset_variable a = do
+  _ ← obeyed (is_settable (text_at 0 a)) rules.IsSettable (text_at 0 a)
+  facts ← read
+  _ ← need (is_some (facts.variables (text_at 0 a))) refusals.UndefinedName (text_at 0 a)
+  _ ← change (with_variable (text_at 0 a) None) (λ facts. refl)
+  give None

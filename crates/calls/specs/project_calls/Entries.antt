@@ -1,0 +1,38 @@
+-- Options as they are listed.
+use Rattle.std.specs.Prelude.{ℕ, List, map, codes}
+use Rattle.machine.specs.option_values.Values as value
+use Rattle.machine.specs.declared.option_values.kind.FeatureState.{FeatureState}
+use Rattle.machine.specs.declared.option_values.kind.FeatureState.TheVariants as feature
+use Rattle.machine.specs.option_values.Settings.{named_value, Setting}
+use Rattle.targets.specs.Data.{OptionData, OptionEntryData, text, boolean, integer, texts}
+use Rattle.targets.specs.declared.facts.OptionType.{OptionType}
+use Rattle.targets.specs.declared.facts.OptionType.TheVariants as kind
+
+abbrev pub type_of : value.Value → OptionType
+type_of (value.Text t) = kind.String
+type_of (value.Boolean b) = kind.Boolean
+type_of (value.Combo choice) = kind.Combo
+type_of (value.Integer n) = kind.Integer
+type_of (value.Array items) = kind.Array
+type_of (value.Feature state) = kind.Feature
+
+abbrev pub word_of : FeatureState → List ℕ
+word_of feature.Enabled = codes "enabled"
+word_of feature.Disabled = codes "disabled"
+word_of feature.Auto = codes "auto"
+
+-- a choice and the state of a feature are shown as texts
+abbrev pub shown : value.Value → OptionData
+shown (value.Text t) = text t
+shown (value.Boolean b) = boolean b
+shown (value.Combo choice) = text choice
+shown (value.Integer n) = integer n
+shown (value.Array items) = texts items
+shown (value.Feature state) = text (word_of state)
+
+abbrev pub entry_of : List ℕ × value.Value → OptionEntryData
+entry_of named = record { name = named.0; kind = type_of named.1; value = shown named.1 }
+
+-- every option, in their order
+abbrev pub entries_in : List Setting → List OptionEntryData
+entries_in settings = map entry_of (map named_value settings)

@@ -1,0 +1,46 @@
+-- `get_option`.
+use Rattle.std.specs.Prelude.{ℕ, List, Option, Some, None, Result, Ok}
+use Rattle.data.specs.Data.{Data, boolean, integer, text, object}
+use Rattle.data.specs.Limits.{within}
+use Rattle.operations.specs.operators.TextLists.{text_list}
+use Rattle.data.specs.declared.object.Feature.{Feature}
+use Rattle.data.specs.declared.object.Feature.TheVariants as features
+use Rattle.data.specs.declared.object.Object.TheVariants as objects
+use Rattle.data.specs.declared.refusal.Refusal.{Refusal as OperationRefusal}
+use Rattle.basics.specs.declared.faults.refusal.Refusal.TheVariants as refusals
+use Rattle.arguments.specs.Arguments.{ArgumentsData}
+use Rattle.arguments.specs.Given.{text_at}
+use Rattle.arguments.specs.Rules.{broken}
+use Rattle.arguments.specs.declared.rule.Rule.TheVariants as rules
+use Rattle.machine.specs.option_values.Values.{Value, Text, Boolean, Combo, Integer, Array, Feature as FeatureValue}
+use Rattle.machine.specs.declared.option_values.kind.FeatureState.{FeatureState}
+use Rattle.machine.specs.declared.option_values.kind.FeatureState.TheVariants as states
+use Rattle.machine.specs.option_values.Settings.{value_named}
+use Rattle.world.specs.Deed.{Deed, give, refuse, read, ◌>>=◌, answered}
+
+abbrev pub feature_of : FeatureState → Feature
+feature_of states.Enabled = features.Enabled
+feature_of states.Disabled = features.Disabled
+feature_of states.Auto = features.Auto
+
+-- the value of an option as a value of the language, or E22 where it is too large for one; that of a feature is an object
+unfoldable pub as_data : Value → Result Data OperationRefusal
+as_data (Text t) = within (text t)
+as_data (Boolean b) = Ok (boolean b)
+as_data (Combo choice) = within (text choice)
+as_data (Integer n) = Ok (integer n)
+as_data (Array items) = text_list items
+as_data (FeatureValue state) = Ok (object (objects.Feature (feature_of state)))
+
+-- the value of the option with a name, where there is such an option
+unfoldable pub given : List ℕ → Option Value → Deed (Option Data)
+given name None = refuse refusals.OptionValue (broken rules.IsOption name)
+given name (Some value) = do
+  d ← answered (as_data value)
+  give (Some d)
+
+-- `get_option(name)`: E15 where no option has the name
+unfoldable pub get_option : ArgumentsData → Deed (Option Data)
+get_option a = do
+  facts ← read
+  given (text_at 0 a) (value_named facts.options (text_at 0 a))

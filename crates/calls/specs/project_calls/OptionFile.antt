@@ -1,0 +1,69 @@
+-- The option file of a project.
+use Rattle.std.specs.Prelude.{ℕ, List, [], ◌∷◌, codes, Result, Ok, Err, refl}
+use Rattle.std.specs.Str.{is_utf8}
+use Rattle.grammar.specs.Parsed.{parsed}
+use Rattle.grammar.specs.Tree.{FileTree, Statements, NoStatement, MoreStatements}
+use Rattle.basics.specs.declared.faults.refusal.Refusal.TheVariants as refusals
+use Rattle.options.specs.option_file.Declarations.{Declaration}
+use Rattle.options.specs.option_file.Declares.{file_declares}
+use Rattle.options.specs.option_file.Fault.{DeclareFaultData}
+use Rattle.world.specs.Details.{refuse_line_about}
+use Rattle.world.specs.DefinitionFiles.{spelled_by, tree_or_fault}
+use Rattle.world.specs.Finding.{FoundData, nothing, too_long, bytes, find}
+use Rattle.world.specs.World.{with_place}
+use Rattle.world.specs.Deed.{Deed, give, refuse, read, change, ◌>>=◌}
+
+-- its path, and the options that it declares
+pub record OptionFileData : Type 0 where
+  pub path : List ℕ
+  pub declared : List Declaration
+
+-- the statements of a file, one after another
+abbrev pub listed : Statements → FileTree
+listed NoStatement = []
+listed (MoreStatements s ss) = s ∷ listed ss
+
+-- the options that statements of the present file declare, or the first fault of one, at its line
+unfoldable pub declared_or_fault : Result (List Declaration) DeclareFaultData → Deed (List Declaration)
+declared_or_fault (Ok options) = give options
+declared_or_fault (Err fault) = refuse_line_about fault.line fault.refusal fault.detail
+
+-- the options that a text of the present file declares
+unfoldable pub text_declares : List ℕ → Deed (List Declaration)
+text_declares text = do
+  body ← tree_or_fault (parsed text)
+  declared_or_fault (file_declares (listed body))
+
+-- the options that the bytes of the present file declare
+unfoldable pub bytes_declare : List ℕ → Deed (List Declaration)
+bytes_declare bs = do
+  body ← spelled_by (is_utf8 bs) bs
+  declared_or_fault (file_declares (listed body))
+
+-- The options that the present file declares, which was found so: E22 at its first line, then E1 to E4, and then E15 and E23.
+unfoldable pub declared_in : FoundData → Deed (List Declaration)
+declared_in nothing = give []
+declared_in too_long = refuse refusals.Limit []
+declared_in (bytes bs) = bytes_declare bs
+
+-- the same of a file that was found so at this path; the run goes on where it was
+unfoldable pub declared_at : List ℕ → FoundData → Deed OptionFileData
+declared_at path found = do
+  outer ← read
+  _ ← change (with_place path [] 1) (λ facts. refl)
+  options ← declared_in found
+  _ ← change (with_place outer.file outer.folder outer.line) (λ facts. refl)
+  give (record { path = path; declared = options })
+
+-- by what was found at the new path
+unfoldable pub option_file_by : FoundData → Deed OptionFileData
+option_file_by nothing = do
+  old ← find (codes "meson_options.txt")
+  declared_at (codes "meson_options.txt") old
+option_file_by found = declared_at (codes "meson.options") found
+
+-- `meson.options` and, where that is absent, `meson_options.txt`
+unfoldable pub option_file : Deed OptionFileData
+option_file = do
+  found ← find (codes "meson.options")
+  option_file_by found

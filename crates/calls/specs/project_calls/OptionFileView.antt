@@ -1,0 +1,7 @@
+-- What the code's own type stands for.
+use Rattle.options.specs.option_file.View.{options_in}
+use Rattle.calls.specs.project_calls.OptionFile.{OptionFileData}
+use Rattle.calls.specs.declared.project_calls.declaring.OptionFile.{OptionFile}
+
+abbrev pub file_in : OptionFile → OptionFileData
+file_in f = record { path = f.path.now; declared = options_in f.declared }

@@ -1,0 +1,7 @@
+-- What the code's own type stands for.
+use Rattle.targets.specs.edge.Texts.{texts}
+use Rattle.calls.specs.project_calls.Programs.{ProgramsData}
+use Rattle.calls.specs.declared.project_calls.programs.Programs.{Programs}
+
+abbrev pub programs_in : Programs → ProgramsData
+programs_in p = record { compiler = texts p.compiler.items; archiver = texts p.archiver.items }

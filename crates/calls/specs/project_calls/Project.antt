@@ -1,0 +1,116 @@
+-- `project`.
+use Rattle.std.specs.Prelude.{ℕ, not, List, [], ◌∷◌, ◌++◌, Option, Some, None, codes, unwrap_or, option_and_then, if◌then◌else◌}
+use Rattle.std.specs.Prelude.{Result, Ok, Err, refl}
+use Rattle.std.specs.Str.{bytes_eq}
+use Rattle.data.specs.Data.{Data, entry_values, keys_in, text_in}
+use Rattle.data.specs.declared.refusal.Refusal.{Refusal as OperationRefusal}
+use Rattle.basics.specs.declared.faults.refusal.Refusal.TheVariants as refusals
+use Rattle.arguments.specs.Arguments.{ArgumentsData}
+use Rattle.arguments.specs.Given.{keyword, text_at, texts, texts_from}
+use Rattle.arguments.specs.Rules.{broken}
+use Rattle.arguments.specs.declared.rule.Rule.TheVariants as rules
+use Rattle.world.specs.Details.{refuse_about}
+use Rattle.options.specs.Faults.{OptionFaultData, file_of, line_of}
+use Rattle.options.specs.Resolves.{Resolution}
+use Rattle.machine.specs.option_values.Settings.{Setting}
+use Rattle.calls.specs.project_calls.Defaults.{entries_given, first_unprinted, printed_values}
+use Rattle.calls.specs.project_calls.OptionFile.{option_file}
+use Rattle.calls.specs.project_calls.Entries.{entries_in}
+use Rattle.calls.specs.project_calls.Flags.{flags_in}
+use Rattle.calls.specs.project_calls.Programs.{ProgramsData, programs}
+use Rattle.calls.specs.project_calls.Resolution.{resolution}
+use Rattle.targets.specs.Data.{FactsData}
+use Rattle.world.specs.World.{Facts, with_options}
+use Rattle.world.specs.Deed.{Deed, give, refuse, need, read, change, begin_project, ◌>>=◌, say}
+use Rattle.world.specs.Operation.{of_operation}
+
+-- what stands behind the name
+abbrev pub texts_behind : ArgumentsData → List (List ℕ)
+texts_behind a = texts_from 1 a
+
+-- the first language that is not C
+abbrev pub other_language : List (List ℕ) → Option (List ℕ)
+other_language [] = None
+other_language (l ∷ ls) = if bytes_eq l (codes "c") then other_language ls else Some l
+
+-- no language beside C
+unfoldable pub c_alone : Option (List ℕ) → Deed (Unit {0})
+c_alone None = give tt
+c_alone (Some language) = refuse refusals.LeftOut (broken rules.IsC language)
+
+-- the languages of a project: at least one, and none but C
+unfoldable pub languages_taken : List (List ℕ) → Deed (Unit {0})
+languages_taken [] = refuse refusals.ProjectCall (codes "'project': names no language")
+languages_taken (l ∷ ls) = c_alone (other_language (l ∷ ls))
+
+-- ---- the options
+
+-- values as they are printed, or a refusal by this name
+unfoldable pub printed_or : Result (List (List ℕ)) OperationRefusal → List ℕ → Deed (List (List ℕ))
+printed_or (Ok texts) name = give texts
+printed_or (Err refusal) name = refuse (of_operation refusal) (broken rules.IsPrinted name)
+
+-- the values of a dictionary of defaults as they are printed, or a refusal by the name of the first that can't be
+unfoldable pub defaults_printed : ArgumentsData → Deed (List (List ℕ))
+defaults_printed a = printed_or (printed_values a) (first_unprinted (keys_in (entries_given a)) (entry_values (entries_given a)))
+
+-- the user is warned of names that no option has
+unfoldable pub warned : List (List ℕ) → Deed (Unit {0})
+warned [] = give tt
+warned (name ∷ names) = do
+  _ ← say ((codes "WARNING: unknown option " ++ name) ++ codes "\n")
+  warned names
+
+-- the options with their values, or the first fault of a value, at its place, where the option file has this path
+unfoldable pub settled : List ℕ → Result (List Setting) OptionFaultData → ℕ → Deed (List Setting)
+settled path (Ok settings) call = give settings
+settled path (Err fault) call = refuse_about (file_of path fault.place) (line_of call fault.place) fault.refusal fault.detail
+
+-- ---- what `project` says
+
+abbrev pub version_of : ArgumentsData → List ℕ
+version_of a = unwrap_or (option_and_then text_in (keyword (codes "version") a)) (codes "undefined")
+
+-- the arguments of the call, the folders, the programs of the machine and the options
+abbrev pub facts_of : ArgumentsData → List Setting → ProgramsData → Facts → FactsData
+facts_of a options programs facts = record {
+  name = text_at 0 a;
+  version = version_of a;
+  license = texts (codes "license") a;
+  depth = facts.settings.depth;
+  source_root = facts.settings.source_root;
+  build_root = facts.settings.build_root;
+  compiler = programs.compiler;
+  archiver = programs.archiver;
+  flags = flags_in options;
+  options = entries_in options;
+}
+
+-- the warnings, the programs, and then the options are set, and the project begins
+unfoldable pub begin : ArgumentsData → List ℕ → Resolution → Deed (Unit {0})
+begin a path r = do
+  _ ← warned r.unknown
+  call ← read
+  options ← settled path r.outcome call.line
+  found ← programs
+  facts ← read
+  _ ← change (with_options options) (λ facts. refl)
+  begin_project (facts_of a options found facts)
+
+-- the first call: its arguments, the option file, the options
+unfoldable pub first_project : ArgumentsData → Deed (Option Data)
+first_project a = do
+  printed ← defaults_printed a
+  _ ← languages_taken (texts_behind a)
+  file ← option_file
+  options ← resolution a printed file.declared
+  _ ← begin a file.path options
+  give None
+
+-- `project(name, language.., version:, license:, default_options:, meson_version:)`: a later call is refused, whatever it is given; which
+-- version of Meson is asked for has no effect
+unfoldable pub project : ArgumentsData → Deed (Option Data)
+project a = do
+  facts ← read
+  _ ← need (not facts.is_begun) refusals.ProjectCall (codes "'project': was called before")
+  first_project a

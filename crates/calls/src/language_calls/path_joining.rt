@@ -1,0 +1,95 @@
+//! `join_paths`: one path of many.
+ghost use Rattle.std.specs.Prelude.{◌≡◌, ◌++◌, ◌<◌, IfOk, [], ℕ, List, false, length, map, option_map, string_bytes};
+ghost use Rattle.data.specs.Data.{text as text_data};
+ghost use Rattle.paths.specs.Below.{is_absolute, path_below};
+ghost use Rattle.world.specs.Prelude.{Answers, Does, arguments_data, data_of, string_in, within, within_bytes};
+ghost use Rattle.calls.specs.language_calls.JoinPaths.{join_paths, path_of};
+
+use arguments::Arguments;
+use basics::limits::TEXT_BYTES;
+use data::{Refusal, Value};
+use paths::{ends_with_slash, is_absolute};
+use ports::{Outputs, Tree};
+use std::alloc::{AllocError, Global};
+use world::{Caller, Stop};
+
+// A path and a piece behind it, within the limit of a text.
+fn lengthened(mut path: String, piece: &str) -> Result<Result<String, Refusal>, AllocError>
+    ensures { IfOk result (λ r. string_in r ≡ within_bytes (string_bytes path ++ piece.now)) }
+{
+    if path.len() + piece.len() > TEXT_BYTES {
+        return Ok(Err(Refusal::Limit));
+    }
+    path.push_str(piece)?;
+    Ok(Ok(path))
+}
+
+// A path that is not empty and a relative one below it.
+fn below(mut path: String, text: &str) -> Result<Result<String, Refusal>, AllocError>
+    requires some { 0 < length (string_bytes path) }
+    requires relative { is_absolute text.now ≡ false }
+    ensures { IfOk result (λ r. string_in r ≡ within_bytes (path_below (string_bytes path) text.now)) }
+{
+    if ends_with_slash(path.as_str()) {
+        return lengthened(path, text);
+    }
+    path.push_str("/")?;
+    lengthened(path, text)
+}
+
+// A path, or none that is within the limit, and one below it.
+fn joined(
+    alloc: Global,
+    path: Result<String, Refusal>,
+    text: &str,
+) -> Result<Result<String, Refusal>, AllocError>
+    ensures { (before : List ℕ) → string_in path ≡ within_bytes before
+        → IfOk result (λ r. string_in r ≡ within_bytes (path_below before text.now)) }
+{
+    if is_absolute(text) {
+        return lengthened(String::new(alloc), text);
+    }
+    match path {
+        Ok(path) => {
+            if path.is_empty() {
+                lengthened(path, text)
+            } else {
+                below(path, text)
+            }
+        }
+        Err(refusal) => Ok(Err(refusal)),
+    }
+}
+
+// All of them, from the first on.
+fn path_of(alloc: Global, texts: &[&str]) -> Result<Result<String, Refusal>, AllocError>
+    ensures { IfOk result (λ r. string_in r ≡ within_bytes (path_of [] (map (λ t. t.now) texts.now))) }
+{
+    let mut path = Ok(String::new(alloc));
+    for text in texts {
+        path = joined(alloc, path, text)?;
+    }
+    Ok(path)
+}
+
+// The text that they are.
+fn path_value(alloc: Global, texts: &[&str]) -> Result<Result<Value, Refusal>, AllocError>
+    ensures { IfOk result (λ r. Answers (within (text_data (path_of [] (map (λ t. t.now) texts.now)))) r) }
+{
+    match path_of(alloc, texts)? {
+        Ok(path) => Value::of_string(alloc, path),
+        Err(refusal) => Ok(Err(refusal)),
+    }
+}
+
+/// `join_paths(texts..)`: E22 where the path is too long.
+pub fn join_paths<T: Tree, O: Outputs>(
+    caller: &Caller<'_, T, O>,
+    arguments: &Arguments,
+) -> Result<Option<Value>, Stop>
+    ensures { Does T.seen O.seen (option_map data_of) (join_paths (arguments_data arguments.now)) caller.now result caller.now }
+{
+    let texts = arguments.all_texts(caller.alloc)?;
+    let value = caller.answered(path_value(caller.alloc, &texts)?)?;
+    Ok(Some(value))
+}

@@ -1,0 +1,128 @@
+//! `range`: a list of integers.
+ghost use Rattle.std.specs.Prelude.{◌≡◌, ◌<◌, ◌≤◌, ◌-◌, ◌^◌, IfOk, option_map, pos};
+ghost use Rattle.data.specs.Data.{integer as integer_data};
+ghost use Rattle.world.specs.Prelude.{Answers, Does, arguments_data, data_of, items_of};
+ghost use Rattle.calls.specs.language_calls.Range.{how_many, integer_at, integers_from, range, range_answer, range_of, stepped};
+
+use arguments::{Arguments, Rule};
+use basics::limits::ITEMS;
+use data::{List, Refusal, Value};
+use ports::{Outputs, Tree};
+use std::alloc::{AllocError, Global};
+use world::{Caller, Stop};
+
+/// The most items of a list.
+const MOST_ITEMS: u128 = ITEMS as u128;
+
+// How many integers there are from a start to below a stop, by steps.
+fn how_many(start: u128, stop: u128, step: u128) -> u128
+    requires order { start ≤ stop }
+    requires stop { stop < 2 ^ 127 }
+    requires step { 0 < step }
+    requires short { step < 2 ^ 127 }
+    ensures { result ≡ how_many start stop (step - 1) }
+{
+    (stop - start + (step - 1)) / step
+}
+
+// The value of a number.
+fn integer(number: u128) -> Value
+    requires { number < 2 ^ 127 }
+    ensures { data_of result ≡ integer_data (pos number) }
+{
+    Value::Integer(number as i128)
+}
+
+// Those integers.
+fn integers(alloc: Global, start: u128, stop: u128, step: u128) -> Result<Vec<Value>, AllocError>
+    requires stop { stop < 2 ^ 127 }
+    requires step { 0 < step }
+    requires short { step < 2 ^ 127 }
+    ensures { IfOk result (λ vs. items_of vs.items ≡ integers_from (how_many start stop (step - 1)) start step) }
+{
+    let mut integers = Vec::new(alloc);
+    let mut next = start;
+    while next < stop {
+        integers.push(integer(next))?;
+        next += step;
+    }
+    Ok(integers)
+}
+
+// The list of them, where that is within the limits.
+fn stepped(
+    alloc: Global,
+    start: u128,
+    stop: u128,
+    step: u128,
+) -> Result<Result<Value, Refusal>, AllocError>
+    requires order { start ≤ stop }
+    requires stop { stop < 2 ^ 127 }
+    requires step { 0 < step }
+    requires short { step < 2 ^ 127 }
+    ensures { IfOk result (λ r. Answers (stepped start stop (step - 1)) r) }
+{
+    if how_many(start, stop, step) > MOST_ITEMS {
+        return Ok(Err(Refusal::Limit));
+    }
+    match List::from_items(integers(alloc, start, stop, step)?) {
+        Ok(list) => Ok(Ok(Value::of_list(alloc, list)?)),
+        Err(refusal) => Ok(Err(refusal)),
+    }
+}
+
+// The same of integers that may be no such start, stop and step.
+fn range_answer(
+    alloc: Global,
+    start: i128,
+    stop: i128,
+    step: i128,
+) -> Result<Result<Value, Refusal>, AllocError>
+    ensures { IfOk result (λ r. Answers (range_answer start stop step) r) }
+{
+    if start < 0 || stop < start || step < 1 {
+        return Ok(Err(Refusal::Arguments));
+    }
+    stepped(
+        alloc,
+        start.unsigned_abs(),
+        stop.unsigned_abs(),
+        step.unsigned_abs(),
+    )
+}
+
+// The integer at a place.
+fn integer_at(arguments: &Arguments, place: usize) -> i128
+    ensures { result ≡ integer_at place (arguments_data arguments.now) }
+{
+    match arguments.argument(place) {
+        Some(value) => value.as_integer().unwrap_or(0),
+        None => 0,
+    }
+}
+
+// The list that one, two or three integers describe.
+fn range_of(alloc: Global, arguments: &Arguments) -> Result<Result<Value, Refusal>, AllocError>
+    ensures { IfOk result (λ r. Answers (range_of (arguments_data arguments.now).positional (arguments_data arguments.now)) r) }
+{
+    let first = integer_at(arguments, 0);
+    let second = integer_at(arguments, 1);
+    match arguments.positional.as_slice() {
+        [_] => range_answer(alloc, 0, first, 1),
+        [_, _] => range_answer(alloc, first, second, 1),
+        _ => range_answer(alloc, first, second, integer_at(arguments, 2)),
+    }
+}
+
+/// `range(stop)`, `range(start, stop)` and `range(start, stop, step)`: E9 where an integer is negative, the stop is below the start or
+/// the step is no positive one; E22 past 65,536 integers.
+pub fn range<T: Tree, O: Outputs>(
+    caller: &Caller<'_, T, O>,
+    arguments: &Arguments,
+) -> Result<Option<Value>, Stop>
+    ensures { Does T.seen O.seen (option_map data_of) (range (arguments_data arguments.now)) caller.now result caller.now }
+{
+    let answer = range_of(caller.alloc, arguments)?;
+    let value = caller.answered_by(Rule::GoesUp, "range", answer)?;
+    Ok(Some(value))
+}

@@ -1,0 +1,162 @@
+//! The functions that name a variable by a text.
+ghost use Rattle.std.specs.Prelude.{◌≡◌, ◌&&◌, ◌||◌, is_some, option_map};
+ghost use Rattle.data.specs.language_names.Names.{is_predefined};
+ghost use Rattle.world.specs.Prelude.{Does, arguments_data, data_of};
+ghost use Rattle.calls.specs.language_calls.Variables.{get_variable, is_settable, is_variable, set_or, set_to, set_variable};
+ghost use Rattle.calls.specs.language_calls.Variables.{unset_variable};
+ghost use Rattle.calls.specs.language_calls.Variables.{thing, value_or, variable_or};
+
+use arguments::{Arguments, Rule};
+use basics::faults::Refusal;
+use data::Value;
+use data::language_names::{is_name, is_predefined, predefined};
+use ports::{Outputs, Tree};
+use world::{Caller, Stop};
+
+// Whether it is a name that definition files may set.
+fn is_settable(name: &str) -> bool
+    ensures { result ≡ is_settable name.now }
+{
+    is_name(name) && !is_predefined(name)
+}
+
+// Whether a variable has this value, or none.
+fn is_known(value: Option<Value>) -> bool
+    ensures { result ≡ is_some (option_map data_of value) }
+{
+    value.is_some()
+}
+
+// Whether a name is that of a variable, which has this value, or none.
+fn is_set(name: &str, value: Option<Value>) -> bool
+    ensures { result ≡ (is_predefined name.now || is_some (option_map data_of value)) }
+{
+    is_predefined(name) || is_known(value)
+}
+
+// The variable takes a value, which the row of the call has seen to.
+fn set_to<T: Tree, O: Outputs>(
+    caller: &mut Caller<'_, T, O>,
+    name: &str,
+    value: Option<&Value>,
+) -> Result<(), Stop>
+    ensures { Does T.seen O.seen (λ u. u) (set_to name.now (option_map (λ v. data_of v.now) value.entry)) caller.old result caller.new }
+{
+    match value {
+        Some(value) => {
+            let value = value.clone()?;
+            caller.store.set(name, value)?;
+            Ok(())
+        }
+        None => caller.refuse(Refusal::Arguments, ""),
+    }
+}
+
+/// `set_variable(name, value)`
+pub fn set_variable<T: Tree, O: Outputs>(
+    caller: &mut Caller<'_, T, O>,
+    arguments: &Arguments,
+) -> Result<Option<Value>, Stop>
+    ensures { Does T.seen O.seen (option_map data_of) (set_variable (arguments_data arguments.now)) caller.old result caller.new }
+{
+    let name = arguments.text_at(0);
+    caller.obey(is_settable(name), Rule::IsSettable, name)?;
+    set_to(caller, name, arguments.argument(1))?;
+    Ok(None)
+}
+
+// The value of a variable, or else a fallback.
+fn value_or<T: Tree, O: Outputs>(
+    caller: &Caller<'_, T, O>,
+    name: &str,
+    value: Option<Value>,
+    fallback: Option<&Value>,
+) -> Result<Option<Value>, Stop>
+    ensures { Does T.seen O.seen (option_map data_of)
+        (value_or name.now (option_map data_of value) (option_map (λ v. data_of v.now) fallback.entry)) caller.now result caller.now }
+{
+    match value {
+        Some(value) => Ok(Some(value)),
+        None => match fallback {
+            Some(fallback) => Ok(Some(fallback.clone()?)),
+            None => caller.refuse(Refusal::UndefinedName, name),
+        },
+    }
+}
+
+// The value of a variable that definition files set, or else a fallback.
+fn set_or<T: Tree, O: Outputs>(
+    caller: &Caller<'_, T, O>,
+    name: &str,
+    fallback: Option<&Value>,
+) -> Result<Option<Value>, Stop>
+    ensures { Does T.seen O.seen (option_map data_of) (set_or name.now (option_map (λ v. data_of v.now) fallback.entry))
+        caller.now result caller.now }
+{
+    let value = caller.store.find(name)?;
+    value_or(caller, name, value, fallback)
+}
+
+// What a name stands for that every run has.
+fn thing<T: Tree, O: Outputs>(caller: &Caller<'_, T, O>, name: &str) -> Result<Option<Value>, Stop>
+    ensures { Does T.seen O.seen (option_map data_of) (thing name.now) caller.now result caller.now }
+{
+    let value = predefined(caller.alloc, name)?;
+    Ok(Some(value))
+}
+
+// The value of a variable, or else a fallback. A name that every run has stands for its object.
+fn variable_or<T: Tree, O: Outputs>(
+    caller: &Caller<'_, T, O>,
+    name: &str,
+    fallback: Option<&Value>,
+) -> Result<Option<Value>, Stop>
+    ensures { Does T.seen O.seen (option_map data_of)
+        (variable_or (is_predefined name.now) name.now (option_map (λ v. data_of v.now) fallback.entry)) caller.now result caller.now }
+{
+    if is_predefined(name) {
+        thing(caller, name)
+    } else {
+        set_or(caller, name, fallback)
+    }
+}
+
+/// `get_variable(name, fallback)`
+pub fn get_variable<T: Tree, O: Outputs>(
+    caller: &Caller<'_, T, O>,
+    arguments: &Arguments,
+) -> Result<Option<Value>, Stop>
+    ensures { Does T.seen O.seen (option_map data_of) (get_variable (arguments_data arguments.now)) caller.now result caller.now }
+{
+    let name = arguments.text_at(0);
+    caller.obey(is_name(name), Rule::IsVariableName, name)?;
+    variable_or(caller, name, arguments.argument(1))
+}
+
+/// `is_variable(name)`
+pub fn is_variable<T: Tree, O: Outputs>(
+    caller: &Caller<'_, T, O>,
+    arguments: &Arguments,
+) -> Result<Option<Value>, Stop>
+    ensures { Does T.seen O.seen (option_map data_of) (is_variable (arguments_data arguments.now)) caller.now result caller.now }
+{
+    let name = arguments.text_at(0);
+    caller.obey(is_name(name), Rule::IsVariableName, name)?;
+    let value = caller.store.find(name)?;
+    Ok(Some(Value::Boolean(is_set(name, value))))
+}
+
+/// `unset_variable(name)`
+pub fn unset_variable<T: Tree, O: Outputs>(
+    caller: &mut Caller<'_, T, O>,
+    arguments: &Arguments,
+) -> Result<Option<Value>, Stop>
+    ensures { Does T.seen O.seen (option_map data_of) (unset_variable (arguments_data arguments.now)) caller.old result caller.new }
+{
+    let name = arguments.text_at(0);
+    caller.obey(is_settable(name), Rule::IsSettable, name)?;
+    let value = caller.store.find(name)?;
+    caller.need(is_known(value), Refusal::UndefinedName, name)?;
+    caller.store.unset(name);
+    Ok(None)
+}

@@ -1,0 +1,16 @@
+//! `project` and `get_option` of the page "Reference manual": how a project begins, and what its options are.
+
+mod declaring;
+mod defaults;
+mod flags;
+mod option_call;
+mod programs;
+mod project_call;
+mod resolution;
+mod rows;
+mod shown_options;
+mod values;
+
+pub use option_call::get_option;
+pub use project_call::project;
+pub use rows::{get_option_row, project_row};

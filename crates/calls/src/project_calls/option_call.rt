@@ -1,0 +1,29 @@
+//! `get_option`.
+ghost use Rattle.std.specs.Prelude.{option_map};
+ghost use Rattle.world.specs.Prelude.{Does, arguments_data, data_of};
+ghost use Rattle.calls.specs.project_calls.GetOption.{get_option};
+
+use crate::project_calls::values::as_data;
+use arguments::{Arguments, Rule};
+use basics::faults::Refusal;
+use data::Value;
+use ports::{Outputs, Tree};
+use world::{Caller, Stop};
+
+/// `get_option(name)`: E15 where no option has the name, E22 where its value is too large for a value of the language.
+pub fn get_option<T: Tree, O: Outputs>(
+    caller: &Caller<'_, T, O>,
+    arguments: &Arguments,
+) -> Result<Option<Value>, Stop>
+    ensures { Does T.seen O.seen (option_map data_of) (get_option (arguments_data arguments.now)) caller.now result caller.now }
+{
+    let name = arguments.text_at(0);
+    match caller.store.option(name) {
+        Some(option) => {
+            let answer = as_data(caller.alloc, option)?;
+            let value = caller.answered(answer)?;
+            Ok(Some(value))
+        }
+        None => caller.refuse_for(Refusal::OptionValue, Rule::IsOption, name),
+    }
+}

@@ -1,0 +1,107 @@
+//! What the options of a project come to.
+ghost use Rattle.std.specs.Prelude.{◌≡◌, IfOk, map};
+ghost use Rattle.targets.specs.edge.Texts.{texts};
+ghost use Rattle.machine.specs.machine_file.Questions.{answer_to, plain};
+ghost use Rattle.machine.specs.machine_file.QuestionsView.{topic_in};
+ghost use Rattle.options.specs.option_file.View.{options_in as declared_in};
+ghost use Rattle.machine.specs.option_values.View.{strings_in};
+ghost use Rattle.options.specs.View.{resolved_in};
+ghost use Rattle.world.specs.Prelude.{Does, arguments_data, world_of};
+ghost use Rattle.world.specs.Deed.{consult};
+ghost use Rattle.calls.specs.project_calls.Resolution.{built_in_names, declared_names, options_topic, resolution, resolution_by};
+
+use crate::project_calls::defaults::{defaults, keys_given};
+use arguments::Arguments;
+use machine::machine_file::{Question, Topic};
+use machine::option_values::{BuiltIn, built_ins};
+use options::{Declared, Resolved, resolve};
+use ports::{Outputs, Tree};
+use std::alloc::{AllocError, Global};
+use world::{Caller, Stop, Store};
+
+fn row_names(alloc: Global, rows: &[BuiltIn]) -> Result<Vec<String>, AllocError>
+    ensures { IfOk result (λ v. texts v.items ≡ map (λ row. row.name.now) rows.now) }
+{
+    let mut names = Vec::new(alloc);
+    for row in rows {
+        names.push(String::from_str(alloc, row.name)?)?;
+    }
+    Ok(names)
+}
+
+// The names of the options that every project has, in their order.
+fn built_in_names(alloc: Global) -> Result<Vec<String>, AllocError>
+    ensures { IfOk result (λ v. texts v.items ≡ built_in_names) }
+{
+    let table = built_ins();
+    let names = row_names(alloc, &table)?;
+    Ok(names)
+}
+
+// The names of the options that are declared, in the order of their calls.
+fn declared_names(alloc: Global, declared: &Declared) -> Result<Vec<String>, AllocError>
+    ensures { IfOk result (λ v. texts v.items ≡ declared_names (declared_in declared.now)) }
+{
+    let mut names = Vec::new(alloc);
+    for i in 0..declared.len() {
+        let Some((name, _)) = declared.at(i) else {
+            return Ok(names);
+        };
+        names.push(String::from_str(alloc, name)?)?;
+    }
+    Ok(names)
+}
+
+fn options_topic(alloc: Global, declared: &Declared) -> Result<Topic, AllocError>
+    ensures { IfOk result (λ t. topic_in t ≡ options_topic (declared_in declared.now)) }
+{
+    let built_in = built_in_names(alloc)?;
+    Ok(Topic::Options(built_in, declared_names(alloc, declared)?))
+}
+
+// Asks the machine file for values of the options, of which these are declared.
+fn ask_options<T: Tree, O: Outputs>(
+    caller: &mut Caller<'_, T, O>,
+    declared: &Declared,
+) -> Result<(), Stop>
+    ensures deed { Does T.seen O.seen (λ u. answer_to caller.old.store.now.machine (options_topic (declared_in declared.now)))
+        (consult (plain (options_topic (declared_in declared.now)))) caller.old result caller.new }
+    ensures machine { caller.new.store.now.machine ≡ caller.old.store.now.machine }
+{
+    let topic = options_topic(caller.alloc, declared)?;
+    caller.ask(Question::plain(caller.alloc, topic))
+}
+
+// What the options come to by what the machine file says, which was asked.
+fn resolved_by(
+    alloc: Global,
+    arguments: &Arguments,
+    printed: &[String],
+    declared: &Declared,
+    store: &Store,
+) -> Result<Resolved, AllocError>
+    ensures { IfOk result (λ r. resolved_in r
+        ≡ resolution_by (arguments_data arguments.now) (strings_in printed.now) (declared_in declared.now)
+        (answer_to store.now.machine (options_topic (declared_in declared.now))) (world_of store.now).facts) }
+{
+    let texts = arguments.texts(alloc, "default_options")?;
+    let defaults = defaults(alloc, &texts, keys_given(arguments), printed)?;
+    let settings = store.settings();
+    resolve(alloc, declared, &defaults, store.machine(), &settings.words)
+}
+
+/// What the options come to, of which these are declared, by the defaults of the call, the machine file, which is asked, and the words of
+/// the command line.
+pub fn resolution<T: Tree, O: Outputs>(
+    caller: &mut Caller<'_, T, O>,
+    arguments: &Arguments,
+    printed: &[String],
+    declared: &Declared,
+) -> Result<Resolved, Stop>
+    ensures { Does T.seen O.seen resolved_in
+        (resolution (arguments_data arguments.now) (strings_in printed.now) (declared_in declared.now)) caller.old result caller.new }
+{
+    ask_options(caller, declared)?;
+    let resolved = resolved_by(caller.alloc, arguments, printed, declared, caller.store)?;
+    Ok(resolved)
+}

@@ -1,0 +1,74 @@
+//! Options as they are listed.
+ghost use Rattle.std.specs.Prelude.{◌≡◌, IfOk, map};
+ghost use Rattle.machine.specs.option_values.View.{value_in};
+ghost use Rattle.machine.specs.option_values.SettingsView.{options_in};
+ghost use Rattle.targets.specs.View.{option_entry_view, option_view};
+ghost use Rattle.calls.specs.project_calls.Entries.{entries_in, entry_of, shown, type_of, word_of};
+
+use options::{FeatureState, OptionValue, Options};
+use std::alloc::{AllocError, Global};
+use targets::edge::copies;
+use targets::{OptionEntry, OptionType};
+
+fn type_of(value: &OptionValue) -> OptionType
+    ensures { result ≡ type_of (value_in value.now) }
+{
+    match value {
+        OptionValue::Text(_) => OptionType::String,
+        OptionValue::Boolean(_) => OptionType::Boolean,
+        OptionValue::Combo(_) => OptionType::Combo,
+        OptionValue::Integer(_) => OptionType::Integer,
+        OptionValue::Array(_) => OptionType::Array,
+        OptionValue::Feature(_) => OptionType::Feature,
+    }
+}
+
+fn word_of(state: FeatureState) -> &'static str
+    ensures { result.now ≡ word_of state }
+{
+    match state {
+        FeatureState::Enabled => "enabled",
+        FeatureState::Disabled => "disabled",
+        FeatureState::Auto => "auto",
+    }
+}
+
+fn shown(alloc: Global, value: &OptionValue) -> Result<targets::OptionValue, AllocError>
+    ensures { IfOk result (λ v. option_view v ≡ shown (value_in value.now)) }
+{
+    match value {
+        OptionValue::Text(text) => Ok(targets::OptionValue::Text(text.clone()?)),
+        OptionValue::Boolean(boolean) => Ok(targets::OptionValue::Boolean(*boolean)),
+        OptionValue::Combo(choice) => Ok(targets::OptionValue::Text(choice.clone()?)),
+        OptionValue::Integer(number) => Ok(targets::OptionValue::Integer(*number)),
+        OptionValue::Array(items) => Ok(targets::OptionValue::Texts(copies(alloc, items)?)),
+        OptionValue::Feature(state) => {
+            let word = String::from_str(alloc, word_of(*state))?;
+            Ok(targets::OptionValue::Text(word))
+        }
+    }
+}
+
+fn entry_of(alloc: Global, name: &str, value: &OptionValue) -> Result<OptionEntry, AllocError>
+    ensures { IfOk result (λ e. option_entry_view e ≡ entry_of (name.now, value_in value.now)) }
+{
+    Ok(OptionEntry {
+        name: String::from_str(alloc, name)?,
+        kind: type_of(value),
+        value: shown(alloc, value)?,
+    })
+}
+
+/// Every option as it is listed: built in, then declared.
+pub fn option_entries(alloc: Global, options: &Options) -> Result<Vec<OptionEntry>, AllocError>
+    ensures { IfOk result (λ es. map option_entry_view es.items ≡ entries_in (options_in options.now)) }
+{
+    let mut entries = Vec::new(alloc);
+    for i in 0..options.len() {
+        let Some((name, value)) = options.at(i) else {
+            return Ok(entries);
+        };
+        entries.push(entry_of(alloc, name, value)?)?;
+    }
+    Ok(entries)
+}

@@ -1,0 +1,76 @@
+//! Texts cut into pieces, which are slices of the text.
+
+ghost use Rattle.std.specs.Prelude.{◌≡◌, false, All, IfOk};
+ghost use Rattle.data.specs.texts.Pieces.{words, lines, split_at, within_items};
+ghost use Rattle.data.specs.texts.Cut.{pieces, CanCut};
+ghost use Rattle.data.specs.texts.Search.{contains};
+ghost use Rattle.data.specs.texts.Joined.{joined};
+ghost use Rattle.data.specs.texts.Answers.{pieces_in};
+
+use crate::Refusal;
+use crate::texts::cut::Cut;
+use basics::limits::ITEMS;
+use std::alloc::{AllocError, Global};
+
+/// The parts of `text` between the places where `separator` stands: the method `split` with an argument.
+///
+/// It is looked for from the left, and never inside the one before. Empty parts are kept. `Refusal::Arguments` where
+/// the separator is empty, and `Refusal::Limit` where there are more than 65,536 parts.
+pub fn split_at<'a>(
+    alloc: Global,
+    text: &'a str,
+    separator: &str,
+) -> Result<Result<Vec<&'a str>, Refusal>, AllocError>
+    ensures parts { IfOk result (λ r. pieces_in r ≡ split_at text.now separator.now) }
+
+    // Laws of the definition: nothing gets lost, and each place of the separator is found.
+    ensures whole { IfOk result (λ r. IfOk (pieces_in r) (λ found. joined separator.now found ≡ text.now)) }
+    ensures apart { IfOk result (λ r. IfOk (pieces_in r) (All (λ part. contains part separator.now ≡ false))) }
+{
+    if separator.is_empty() {
+        return Ok(Err(Refusal::Arguments));
+    }
+    cut_up(alloc, text, Cut::At(separator))
+}
+
+/// The words of `text` between its ASCII white space: the method `split` without an argument.
+///
+/// `Refusal::Limit` where there are more than 65,536 words.
+pub fn split_blank(alloc: Global, text: &str) -> Result<Result<Vec<&str>, Refusal>, AllocError>
+    ensures { IfOk result (λ r. pieces_in r ≡ within_items (words text.now)) }
+{
+    cut_up(alloc, text, Cut::Blanks)
+}
+
+/// The lines of `text`: the method `splitlines`.
+///
+/// A line ends at a newline, a carriage return, or both in this order. Behind the last end there is no line.
+/// `Refusal::Limit` where there are more than 65,536 lines.
+pub fn split_lines(alloc: Global, text: &str) -> Result<Result<Vec<&str>, Refusal>, AllocError>
+    ensures { IfOk result (λ r. pieces_in r ≡ within_items (lines text.now)) }
+{
+    cut_up(alloc, text, Cut::Lines)
+}
+
+fn cut_up<'a>(
+    alloc: Global,
+    text: &'a str,
+    cut: Cut<'_>,
+) -> Result<Result<Vec<&'a str>, Refusal>, AllocError>
+    requires { CanCut cut }
+    ensures { IfOk result (λ r. pieces_in r ≡ within_items (pieces cut.entry text.now)) }
+{
+    let mut found = Vec::new(alloc);
+    let mut rest = text;
+    while let Some((piece, after)) = cut.first(rest) {
+        if found.len() == ITEMS {
+            return Ok(Err(Refusal::Limit));
+        }
+        found.push(piece)?;
+        let Some(after) = after else {
+            break;
+        };
+        rest = after;
+    }
+    Ok(Ok(found))
+}

@@ -1,3 +1,0 @@
-pub mod PathTexts
-pub mod TextLists
-pub mod Held

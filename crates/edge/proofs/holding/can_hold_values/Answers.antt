@@ -1,7 +1,0 @@
-use Rattle.std.proofs.Common.{sym, ◌∙◌}
-use Rattle.edge.specs.Holding.{value_held}
-use Rattle.edge.proofs.TextLists.{texts-list_all}
-use Rattle.edge.proofs.holding.can_hold_values.Goals as goal
-
-pub returns : goal.returns
-returns c = c.all_values.ensures ∙ sym (texts-list_all value_held c.args.values.now)

@@ -1,6 +1,0 @@
-use Rattle.std.proofs.Common.{◌≡◌, ◌++◌, string_bytes}
-use Rattle.edge.specs.Paths.{way_up}
-use Rattle.edge.proofs.paths.push_way_up.Given as goal
-
-abbrev pub invariant-loop : goal.invariant-loop
-invariant-loop l = string_bytes l.path ≡ string_bytes l.fn.path ++ way_up l.counter

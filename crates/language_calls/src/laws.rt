@@ -1,7 +1,0 @@
-//! What holds of all calls: a law is stated by the contract of a function that does nothing.
-ghost use Rattle.language_calls.specs.RangeLaw.{RangeIsBelow};
-
-/// `range` gives the start and all that steps from it reach below the stop, in order, and nothing else.
-pub fn range_is_below()
-    ensures { RangeIsBelow }
-{}

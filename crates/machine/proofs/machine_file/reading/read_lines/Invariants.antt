@@ -1,0 +1,15 @@
+use Rattle.std.proofs.Common.{◌≡◌, Some, false, is_some, string_bytes, length, drop}
+use Rattle.indexmap.specs.IndexMap.{get_by_text}
+use Rattle.machine.specs.machine_file.Files.{said_from, nothing_said}
+use Rattle.machine.specs.machine_file.Lines.{file_lines}
+use Rattle.machine.specs.machine_file.View.{said_by}
+use Rattle.machine.specs.declared.machine_file.state.OpenSection.{OpenSection}
+use Rattle.machine.proofs.machine_file.reading.read_lines.Given as goal
+
+abbrev pub invariant-loop-line : goal.invariant-loop-line
+invariant-loop-line l = record {
+  fresh : (o : OpenSection) → l.reading.1.0 ≡ Some o → is_some (get_by_text l.reading.0 (string_bytes o.name)) ≡ false;
+  counted : l.number ≡ length l.yielded;
+  said : said_from (drop l.number (file_lines l.text)) l.number (said_by l.reading.0.entries l.reading.1.0)
+      ≡ said_from (file_lines l.text) 0 nothing_said;
+}

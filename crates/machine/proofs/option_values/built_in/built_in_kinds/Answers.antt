@@ -1,0 +1,23 @@
+use Rattle.std.proofs.Common.{◌∙◌, ap, [], List, map, arith}
+use Rattle.std.specs.List.{fold}
+use Rattle.std.proofs.lemmas.List.{take_all}
+use Rattle.machine.specs.declared.option_values.built_in.BuiltIn.{BuiltIn}
+use Rattle.machine.specs.option_values.BuiltIns.{add_kind}
+use Rattle.machine.specs.option_values.View.{kinds_in, row_in}
+use Rattle.machine.proofs.BuiltInRows.{step_more}
+use Rattle.machine.proofs.BuiltInRows.{all_kinds, seventeen}
+use Rattle.machine.proofs.option_values.built_in.built_in_kinds.Goals as goal
+
+pub loop-row-init : goal.loop-row-init
+loop-row-init c = ap kinds_in c.new-kinds.ensures.empty
+
+pub loop-row-preserved : goal.loop-row-preserved
+loop-row-preserved c = step_more add_kind row_in [] _ _ _ c.loop-row.row-index _ c.in_ok-put_kind_of.ensures c.loop-row.invariant
+    (omega (arith, seventeen _ c.built_ins-table.ensures, c.loop-row-test.true))
+
+pub returns : goal.returns
+returns c =
+    c.loop-row.invariant
+    ∙ ap (λ (xs : List BuiltIn). fold add_kind [] (map row_in xs))
+    (take_all c.loop-row.row-index _ (omega (arith, seventeen _ c.built_ins-table.ensures, c.loop-row-test.false)))
+    ∙ ap (fold add_kind []) c.built_ins-table.ensures ∙ all_kinds

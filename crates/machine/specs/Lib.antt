@@ -1,0 +1,2 @@
+pub mod machine_file
+pub mod option_values

@@ -1,0 +1,39 @@
+-- What a machine file says, as a relation by the form of each line.
+use Rattle.std.specs.Prelude.{◌≡◌, ℕ, suc, true, false, List, [], ◌∷◌, ◌++◌, Some}
+use Rattle.machine.specs.declared.machine_file.section.SectionKind.{SectionKind}
+use Rattle.machine.specs.machine_file.Files.{Section, Open, Said, nothing_said, sections_said, has_key, has_name, cut_pair}
+use Rattle.machine.specs.machine_file.Lines.{Nothing, Header, Pair, form_of}
+use Rattle.machine.specs.machine_file.Sections.{kind_of, knows}
+use Rattle.machine.specs.machine_file.Values.{Value, value_of}
+
+-- a section of this name begins on this line, and the one before it ends
+abbrev pub with_begun : Said → ℕ → List ℕ → SectionKind → Said
+with_begun s line name kind = record {
+  ended = sections_said s;
+  open_section = Some (record { name = name; kind = kind; line = line; entries = [] });
+}
+
+-- this line gives the open section a value at a key
+abbrev pub with_given : Said → ℕ → Open → List ℕ → Value → Said
+with_given s line o key v =
+    record s { open_section = Some (record o { entries = o.entries ++ record { key = key; value = v; line = line } ∷ [] }) }
+
+-- Where the first n lines have said one thing, another is said once these lines have followed them. An empty line or a
+-- comment says nothing. A section has a name that there is, and that no section before it has. A key stands in a section
+-- that knows it and its value, and no line before it in that section has the same key.
+pub data Says : Said → ℕ → List (List ℕ) → Said → Type 0 where
+  end : (s : Said) (n : ℕ) → Says s n [] s
+  nothing : (s t : Said) (n : ℕ) (l : List ℕ) (ls : List (List ℕ)) → form_of l ≡ Nothing → Says s (suc n) ls t → Says s n (l ∷ ls) t
+  section : (s t : Said) (n : ℕ) (l : List ℕ) (ls : List (List ℕ)) (name : List ℕ) (kind : SectionKind)
+      → form_of l ≡ Header name → kind_of name ≡ Some kind → has_name name (sections_said s) ≡ false
+      → Says (with_begun s (suc n) name kind) (suc n) ls t → Says s n (l ∷ ls) t
+  pair : (s t : Said) (n : ℕ) (l : List ℕ) (ls : List (List ℕ)) (text : List ℕ) (o : Open) (key value : List ℕ) (v : Value)
+      → form_of l ≡ Pair text → s.open_section ≡ Some o → cut_pair o.kind text ≡ Some (key, value) → value_of value ≡ Some v
+      → knows o.kind key v ≡ true → has_key key o.entries ≡ false
+      → Says (with_given s (suc n) o key v) (suc n) ls t → Says s n (l ∷ ls) t
+
+-- the lines are a machine file that has these sections
+pub record AreSections (ls : List (List ℕ)) (sections : List Section) : Type 0 where
+  pub said : Said
+  pub reads : Says nothing_said 0 ls said
+  pub all : sections ≡ sections_said said

@@ -1,0 +1,85 @@
+-- What the code's own types stand for.
+use Rattle.std.specs.Prelude.{ℕ, List, map, Option, Result, string_bytes, String}
+use Rattle.std.specs.Option.{option_map}
+use Rattle.std.specs.Result.{result_map_both}
+use denote.Ref.{Bor}
+use Rattle.std.specs.declared.alloc.Global.{Global}
+use Rattle.machine.specs.declared.machine_file.value.MachineValue.{MachineValue}
+use Rattle.machine.specs.declared.machine_file.value.MachineValue.TheVariants as given
+use Rattle.machine.specs.declared.machine_file.fault.MachineFault.{MachineFault}
+use Rattle.machine.specs.declared.machine_file.machine.Entry.{Entry}
+use Rattle.machine.specs.declared.machine_file.machine.Section.{Section}
+use Rattle.machine.specs.declared.machine_file.machine.Machine.{Machine}
+use Rattle.machine.specs.declared.machine_file.state.OpenSection.{OpenSection}
+use Rattle.machine.specs.declared.machine_file.state.Reading.{Reading}
+use Rattle.machine.specs.declared.machine_file.line.Form.{Form}
+use Rattle.machine.specs.declared.machine_file.line.Form.TheVariants as form
+use Rattle.machine.specs.machine_file.Fault.{MachineFaultData}
+use Rattle.machine.specs.machine_file.Files as file
+use Rattle.machine.specs.machine_file.Lines as line
+use Rattle.machine.specs.machine_file.Values.{Value, Text, Integer, Boolean, Texts}
+
+abbrev pub strings_in : List (String Global) → List (List ℕ)
+strings_in strings = map string_bytes strings
+
+abbrev pub value_in : MachineValue → Value
+value_in (given.Text text) = Text (string_bytes text)
+value_in (given.Integer number) = Integer number
+value_in (given.Boolean boolean) = Boolean boolean
+value_in (given.Texts items) = Texts (strings_in items.items)
+
+abbrev pub entry_in : String Global × Entry → file.Entry
+entry_in e = record { key = string_bytes e.0; value = value_in e.1.value; line = e.1.line }
+
+-- a key that is shown with what it has
+abbrev pub shown_in : Bor (List ℕ) × Bor Entry → file.Entry
+shown_in e = record { key = e.0.now; value = value_in e.1.now.value; line = e.1.now.line }
+
+abbrev pub entries_in : List (String Global × Entry) → List file.Entry
+entries_in entries = map entry_in entries
+
+-- the entries of a section, in the order of their lines; a dependency's version that no line gives stands last
+abbrev pub entries_of : Section → List file.Entry
+entries_of section = entries_in section.entries.entries
+
+abbrev pub section_in : String Global × Section → file.Section
+section_in s = record { name = string_bytes s.0; entries = entries_of s.1 }
+
+abbrev pub sections_in : List (String Global × Section) → List file.Section
+sections_in sections = map section_in sections
+
+-- a section that is shown with its name
+abbrev pub shown_section_in : Bor (List ℕ) × Bor Section → file.Section
+shown_section_in s = record { name = s.0.now; entries = entries_of s.1.now }
+
+-- the sections of a machine file, in the order of their lines
+abbrev pub machine_in : Machine → List file.Section
+machine_in machine = sections_in machine.sections.entries
+
+abbrev pub form_in : Form → line.Form
+form_in form.Nothing = line.Nothing
+form_in (form.Header name) = line.Header name.now
+form_in (form.Pair text) = line.Pair text.now
+
+abbrev pub open_in : OpenSection → file.Open
+open_in o = record { name = string_bytes o.name; kind = o.kind; line = o.line; entries = entries_in o.entries.entries }
+
+abbrev pub said_by : List (String Global × Section) → Option OpenSection → file.Said
+said_by ended current = record { ended = sections_in ended; open_section = option_map open_in current }
+
+abbrev pub said_in : Reading → file.Said
+said_in reading = said_by reading.ended.entries reading.current
+
+-- what is said with one more line, or why it may not stand there
+abbrev pub more_in : Result Reading (String Global) → Result file.Said (List ℕ)
+more_in more = result_map_both said_in string_bytes more
+
+-- these entries, or why there are no more
+abbrev pub added_in : List file.Entry → Result (Unit {0}) (String Global) → Result (List file.Entry) (List ℕ)
+added_in entries added = result_map_both (λ u. entries) string_bytes added
+
+abbrev pub fault_in : MachineFault → MachineFaultData
+fault_in f = record { refusal = f.refusal; line = f.line; detail = string_bytes f.detail }
+
+abbrev pub read_in : Result Machine MachineFault → Result (List file.Section) MachineFaultData
+read_in read = result_map_both machine_in fault_in read

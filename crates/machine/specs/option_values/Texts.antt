@@ -1,0 +1,41 @@
+-- Which value of an option a text is.
+use Rattle.std.specs.Prelude.{ℕ, Bool, true, false, codes, bytes_eq, List, Option, Some, None, if◌then◌else◌}
+use Rattle.std.specs.Option.{option_map, option_and_then}
+use Rattle.machine.specs.declared.option_values.kind.FeatureState.{FeatureState}
+use Rattle.machine.specs.declared.option_values.kind.FeatureState.TheVariants as feature
+use Rattle.machine.specs.option_values.Kinds as kind
+use Rattle.machine.specs.option_values.Values as value
+use Rattle.machine.specs.option_values.Integers.{integer_within}
+use Rattle.basics.specs.Among.{is_among}
+use Rattle.machine.specs.option_values.Lists.{are_among, items_of, word_items_of}
+
+abbrev pub boolean_of : List ℕ → Option Bool
+boolean_of text =
+    if bytes_eq text (codes "true") then Some true
+    else (if bytes_eq text (codes "false") then Some false
+    else None)
+
+abbrev pub state_of : List ℕ → Option FeatureState
+state_of text =
+    if bytes_eq text (codes "enabled") then Some feature.Enabled
+    else (if bytes_eq text (codes "disabled") then Some feature.Disabled
+    else (if bytes_eq text (codes "auto") then Some feature.Auto
+    else None))
+
+-- one of these texts
+abbrev pub choice_of : List (List ℕ) → List ℕ → Option value.Value
+choice_of choices text = if is_among choices text then Some (value.Combo text) else None
+
+-- a list of these items, if the choices allow them
+abbrev pub array_of : Option (List (List ℕ)) → List (List ℕ) → Option value.Value
+array_of choices items = if are_among choices items then Some (value.Array items) else None
+
+-- the value of an option of this kind that a text is, if it is one
+abbrev pub value_of : kind.Kind → List ℕ → Option value.Value
+value_of kind.Text text = Some (value.Text text)
+value_of kind.Boolean text = option_map value.Boolean (boolean_of text)
+value_of (kind.Combo choices) text = choice_of choices text
+value_of (kind.Integer least greatest) text = option_map value.Integer (integer_within least greatest text)
+value_of (kind.Array choices) text = option_and_then (array_of choices) (items_of text)
+value_of kind.Words text = option_map value.Array (word_items_of text)
+value_of kind.Feature text = option_map value.Feature (state_of text)

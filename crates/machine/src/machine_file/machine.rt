@@ -1,0 +1,188 @@
+//! What a machine file says.
+
+ghost use Rattle.std.specs.Prelude.{◌≡◌, ◌==◌, [], IfOk, length, map, slice_get};
+ghost use Rattle.std.specs.Option.{option_map};
+
+use crate::machine_file::fault::MachineFault;
+use crate::machine_file::question::check_key;
+use crate::machine_file::reading::read_lines;
+use crate::machine_file::value::MachineValue;
+use basics::faults::Refusal;
+use basics::tables::{SipMap, new_map};
+use lexer::newlines;
+use std::alloc::{AllocError, Global};
+
+/// What a key has: a value, and the line, from 1, that gives it.
+#[derive(Drop)]
+pub struct Entry {
+    pub value: MachineValue,
+    pub line: usize,
+}
+
+/// The keys of a section, in the order of their lines.
+pub struct Section {
+    pub(crate) entries: SipMap<String, Entry>,
+}
+
+impl Drop for Section {
+    fn drop(self) {
+        let Section { entries: _ } = self;
+    }
+}
+
+/// What a machine file says, by section and key.
+pub struct Machine {
+    pub(crate) sections: SipMap<String, Section>,
+}
+
+impl Drop for Machine {
+    fn drop(self) {
+        let Machine { sections: _ } = self;
+    }
+}
+
+impl Section {
+    ghost use Rattle.machine.specs.machine_file.Lookups.{entry_at};
+    ghost use Rattle.machine.specs.machine_file.View.{shown_in, entries_of, value_in};
+
+    /// How many keys the section has.
+    pub fn len(&self) -> usize
+        ensures { result ≡ length (entries_of self.now) }
+    {
+        self.entries.len()
+    }
+
+    /// Whether the section has no key.
+    pub fn is_empty(&self) -> bool
+        ensures { result ≡ (length (entries_of self.now) == 0) }
+    {
+        self.entries.is_empty()
+    }
+
+    /// The i-th key, in the order of lines, and what it has. A version that a dependency does not give stands last.
+    pub fn at(&self, i: usize) -> Option<(&str, &Entry)>
+        ensures { option_map shown_in result ≡ slice_get (entries_of self.now) i }
+    {
+        let (key, entry) = self.entries.get_index(i)?;
+        Some((key.as_str(), entry))
+    }
+
+    /// The value that the section has at a key. It takes no memory and never fails.
+    pub fn get(&self, key: &str) -> Option<&MachineValue>
+        ensures { option_map (λ v. value_in v.now) result ≡ option_map (λ e. e.value) (entry_at (entries_of self.now) key.now) }
+    {
+        match self.entries.get(key) {
+            Some(entry) => Some(&entry.value),
+            None => None,
+        }
+    }
+}
+
+impl Machine {
+    ghost use Rattle.machine.specs.machine_file.Answers.{Answers, IsSaid, MachineSaid};
+    ghost use Rattle.machine.specs.machine_file.Lookups.{entries_at, value_at, text_or, dependency_at, check_at};
+    ghost use Rattle.machine.specs.machine_file.View.{value_in, entries_of, machine_in, read_in, shown_section_in};
+
+    /// What no file says: nothing.
+    pub fn empty(alloc: Global) -> Machine
+        ensures { machine_in result ≡ [] }
+    {
+        Machine {
+            sections: new_map(alloc),
+        }
+    }
+
+    /// What these bytes say, or the fault that they have: the Meson manual's page "Machine files", without sections of
+    /// constants and paths, and with sections of this project's own for what Meson asks the machine.
+    pub fn read(alloc: Global, bytes: &[u8]) -> Result<Result<Machine, MachineFault>, AllocError>
+        // The answer is what the lines say, or a fault at its line.
+        ensures answer { IfOk result (Answers bytes.now) }
+
+        // They say nothing else: no other sections, and no other fault.
+        ensures only { (said : MachineSaid) → IsSaid bytes.now said → IfOk result (λ answer. read_in answer ≡ said) }
+    {
+        let text = match str::from_utf8(bytes) {
+            Ok(text) => text,
+            Err(error) => {
+                let line = newlines(&bytes[..error.valid_up_to()]) + 1;
+                return Ok(Err(MachineFault {
+                    refusal: Refusal::NotUtf8,
+                    line,
+                    detail: String::new(alloc),
+                }));
+            }
+        };
+        read_lines(alloc, text)
+    }
+
+    /// How many sections there are.
+    pub fn len(&self) -> usize
+        ensures { result ≡ length (machine_in self.now) }
+    {
+        self.sections.len()
+    }
+
+    /// Whether there is no section.
+    pub fn is_empty(&self) -> bool
+        ensures { result ≡ (length (machine_in self.now) == 0) }
+    {
+        self.sections.is_empty()
+    }
+
+    /// The i-th section, in the order of lines, and its name.
+    pub fn at(&self, i: usize) -> Option<(&str, &Section)>
+        ensures { option_map shown_section_in result ≡ slice_get (machine_in self.now) i }
+    {
+        let (name, section) = self.sections.get_index(i)?;
+        Some((name.as_str(), section))
+    }
+
+    /// The section with this name, as `dependency zlib`.
+    pub fn section(&self, name: &str) -> Option<&Section>
+        ensures { option_map (λ s. entries_of s.now) result ≡ entries_at (machine_in self.now) name.now }
+    {
+        self.sections.get(name)
+    }
+
+    /// The value that a section has at a key. It takes no memory and never fails.
+    pub fn get(&self, section: &str, key: &str) -> Option<&MachineValue>
+        ensures { option_map (λ v. value_in v.now) result ≡ value_at (machine_in self.now) section.now key.now }
+    {
+        let section = self.section(section)?;
+        section.get(key)
+    }
+
+    /// The text that a section has at a key, or else this one.
+    pub fn text_or<'m>(&'m self, section: &str, key: &str, default: &'m str) -> &'m str
+        ensures { result.now ≡ text_or (machine_in self.now) section.now key.now default.now }
+    {
+        match self.get(section, key) {
+            Some(value) => value.text().unwrap_or(default),
+            None => default,
+        }
+    }
+
+    /// What `[dependency NAME]` says of the dependency of this name, where the section is there.
+    pub fn dependency(&self, alloc: Global, name: &str) -> Result<Option<&Section>, AllocError>
+        ensures { IfOk result (λ s. option_map (λ section. entries_of section.now) s ≡ dependency_at (machine_in self.now) name.now) }
+    {
+        let mut section = String::from_str(alloc, "dependency ")?;
+        section.push_str(name)?;
+        Ok(self.section(section.as_str()))
+    }
+
+    /// What the compiler answers to a check, where the machine file says so: a boolean, or the integer of `sizeof` and
+    /// `alignment`.
+    pub fn check(
+        &self,
+        alloc: Global,
+        method: &str,
+        arguments: &[&str],
+    ) -> Result<Option<&MachineValue>, AllocError>
+        ensures { IfOk result (λ v. option_map (λ value. value_in value.now) v
+            ≡ check_at (machine_in self.now) method.now (map (λ a. a.now) arguments.now)) }
+    {
+        let key = check_key(alloc, method, arguments)?;
+        Ok(self.get("checks", key.as_str()))
+    }
+}

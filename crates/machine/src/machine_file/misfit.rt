@@ -1,0 +1,132 @@
+//! Why a line may not stand where it does, and the words that say so.
+
+ghost use Rattle.std.specs.Prelude.{◌≡◌, IfOk, string_bytes};
+ghost use Rattle.machine.specs.machine_file.MisfitView.{misfit_in};
+ghost use Rattle.machine.specs.machine_file.Misfits.{expected_words, key_is, misfit_of, section_is, takes_words, value_words, words_of};
+ghost use Rattle.machine.specs.machine_file.View.{value_in};
+
+use crate::machine_file::section::{Expected, SectionKind};
+use crate::machine_file::value::MachineValue;
+use std::alloc::{AllocError, Global};
+
+/// What is wrong with a line; a section is told by its name.
+#[derive(Clone, Copy)]
+pub enum Misfit<'m> {
+    /// There is no section of this name.
+    NoSection(&'m str),
+    /// A section of this name began before.
+    SectionTwice(&'m str),
+    /// No section is open.
+    Outside,
+    /// A line of this section has no `=`.
+    NoSign(&'m str),
+    /// What stands behind this key of this section is no value.
+    NoValue(&'m str, &'m str),
+    /// This section knows no such key.
+    NoKey(&'m str, &'m str),
+    /// This key of this section takes this, and something else was given.
+    OtherValue(&'m str, &'m str, Expected, &'m MachineValue),
+    /// This key was given before in this section.
+    KeyTwice(&'m str, &'m str),
+}
+
+// What a key takes.
+fn expected_words(expected: Expected) -> &'static str
+    ensures { result.now ≡ expected_words expected }
+{
+    match expected {
+        Expected::Any => "a value",
+        Expected::Words => "a text or texts",
+        Expected::Text => "a text",
+        Expected::Texts => "a list of texts",
+        Expected::Boolean => "a truth value",
+        Expected::Integer => "an integer",
+    }
+}
+
+// What it got.
+fn value_words(value: &MachineValue) -> &'static str
+    ensures { result.now ≡ value_words (value_in value.now) }
+{
+    match value {
+        MachineValue::Text(_) => "a text",
+        MachineValue::Integer(_) => "an integer",
+        MachineValue::Boolean(_) => "a truth value",
+        MachineValue::Texts(items) => {
+            if items.is_empty() {
+                "an empty list"
+            } else {
+                "a list of texts"
+            }
+        }
+    }
+}
+
+// Of a section this is so.
+fn section_is(alloc: Global, name: &str, words: &str) -> Result<String, AllocError>
+    ensures { IfOk result (λ text. string_bytes text ≡ section_is name.now words.now) }
+{
+    format!(in alloc; "section '{name}': {words}")
+}
+
+// Of a key of a section this is so.
+fn key_is(alloc: Global, section: &str, key: &str, words: &str) -> Result<String, AllocError>
+    ensures { IfOk result (λ text. string_bytes text ≡ key_is section.now key.now words.now) }
+{
+    format!(in alloc; "[{section}] key '{key}': {words}")
+}
+
+// One value is taken, and this one was given.
+fn takes_words(
+    alloc: Global,
+    expected: Expected,
+    value: &MachineValue,
+) -> Result<String, AllocError>
+    ensures { IfOk result (λ text. string_bytes text ≡ takes_words expected (value_in value.now)) }
+{
+    let expected = expected_words(expected);
+    let got = value_words(value);
+    format!(in alloc; "takes {expected}, and got {got}")
+}
+
+impl<'m> Misfit<'m> {
+    /// What is wrong with a key and a value that a section of this name and kind does not take.
+    pub fn of_value(
+        section: &'m str,
+        kind: SectionKind,
+        key: &'m str,
+        value: &'m MachineValue,
+    ) -> Misfit<'m>
+        ensures { misfit_in result ≡ misfit_of section.now kind key.now (value_in value.now) }
+    {
+        match kind.expected(key) {
+            None => Misfit::NoKey(section, key),
+            Some(expected) => {
+                if expected.fits(value) {
+                    Misfit::KeyTwice(section, key)
+                } else {
+                    Misfit::OtherValue(section, key, expected, value)
+                }
+            }
+        }
+    }
+
+    /// What it is about.
+    pub fn words(self, alloc: Global) -> Result<String, AllocError>
+        ensures { IfOk result (λ text. string_bytes text ≡ words_of (misfit_in self.entry)) }
+    {
+        match self {
+            Misfit::NoSection(name) => section_is(alloc, name, "there is none"),
+            Misfit::SectionTwice(name) => section_is(alloc, name, "stands twice"),
+            Misfit::Outside => String::from_str(alloc, "line: stands in no section"),
+            Misfit::NoSign(section) => format!(in alloc; "[{section}] line: has no '='"),
+            Misfit::NoValue(section, key) => key_is(alloc, section, key, "has no value"),
+            Misfit::NoKey(section, key) => key_is(alloc, section, key, "there is none"),
+            Misfit::OtherValue(section, key, expected, value) => {
+                let words = takes_words(alloc, expected, value)?;
+                key_is(alloc, section, key, &words)
+            }
+            Misfit::KeyTwice(section, key) => key_is(alloc, section, key, "stands twice"),
+        }
+    }
+}

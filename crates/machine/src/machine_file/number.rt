@@ -1,0 +1,24 @@
+//! Integers of 64 bits.
+
+ghost use Rattle.std.specs.Prelude.{◌≡◌};
+ghost use Rattle.lexer.specs.Numerals.{magnitude};
+ghost use Rattle.machine.specs.machine_file.Numbers.{integer_of, greatest};
+
+use lexer::magnitude;
+
+/// The integer of a magnitude, behind a minus or not, if 64 bits hold it.
+#[tactic(auto, unfolding(crate::specs::machine_file::Numbers::greatest))]
+pub fn integer_of(negative: bool, magnitude: u128) -> Option<i64>
+    ensures { result ≡ integer_of negative magnitude }
+{
+    let magnitude = i128::try_from(magnitude).ok()?;
+    let number = if negative { -magnitude } else { magnitude };
+    i64::try_from(number).ok()
+}
+
+/// The integer of a number token, behind a minus or not, if 64 bits hold it.
+pub fn integer(negative: bool, text: &str) -> Option<i64>
+    ensures { result ≡ integer_of negative (magnitude text.now) }
+{
+    integer_of(negative, magnitude(text)?)
+}

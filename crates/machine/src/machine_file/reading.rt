@@ -1,0 +1,252 @@
+//! Reads a machine file, line by line.
+
+ghost use Rattle.std.specs.Prelude.{◌≡◌, [], ◌∷◌, ◌++◌, false, is_some, string_bytes, IfOk, OnOk};
+ghost use Rattle.indexmap.specs.IndexMap.{get_by_text};
+ghost use Rattle.machine.specs.machine_file.Files.{has_key, has_name, takes, with_pair, lacks_version, default_entries, closed};
+ghost use Rattle.machine.specs.machine_file.Files.{sections_said};
+ghost use Rattle.machine.specs.machine_file.Files.{with_section, in_section, after, machine_of};
+ghost use Rattle.machine.specs.machine_file.Lines.{file_lines};
+ghost use Rattle.machine.specs.machine_file.Sections.{kind_of};
+ghost use Rattle.machine.specs.machine_file.MisfitView.{misfit_in};
+ghost use Rattle.machine.specs.machine_file.Misfits.{refused};
+ghost use Rattle.machine.specs.machine_file.View.{value_in, added_in, entries_in, more_in, open_in, sections_in, said_in, read_in};
+
+use crate::machine_file::fault::MachineFault;
+use crate::machine_file::line::{Form, cut_pair, form_of};
+use crate::machine_file::machine::{Entry, Machine, Section};
+use crate::machine_file::misfit::Misfit;
+use crate::machine_file::section::SectionKind;
+use crate::machine_file::state::{Heading, OpenSection, Reading};
+use crate::machine_file::text::{Blanks, trimmed};
+use crate::machine_file::value::{MachineValue, read_value};
+use basics::faults::Refusal;
+use basics::tables::{SipMap, new_map};
+use std::alloc::{AllocError, Global};
+
+// Puts a value at a key that is new.
+fn put<V: Drop>(map: &mut SipMap<String, V>, key: String, value: V) -> Result<(), AllocError>
+    requires { is_some (get_by_text map.old (string_bytes key)) ≡ false }
+    ensures { OnOk result (map.new.entries ≡ map.old.entries ++ (key, value) ∷ []) }
+{
+    map.insert(key, value)?;
+    Ok(())
+}
+
+// Whether there is an entry with this key.
+fn has_key(entries: &SipMap<String, Entry>, key: &str) -> bool
+    ensures { result ≡ has_key key.now (entries_in entries.now.entries) }
+{
+    entries.contains_key(key)
+}
+
+// Whether a section of this kind with these entries takes this value at this key.
+fn takes(
+    kind: SectionKind,
+    entries: &SipMap<String, Entry>,
+    key: &str,
+    value: &MachineValue,
+) -> bool
+    ensures { result ≡ takes kind (entries_in entries.now.entries) key.now (value_in value.now) }
+{
+    kind.knows(key, value) && !has_key(entries, key)
+}
+
+// Puts the entry that a line gives behind those of a section, or says why the line may not stand there.
+fn add_pair(
+    alloc: Global,
+    heading: Heading<'_>,
+    entries: &mut SipMap<String, Entry>,
+    line: usize,
+    text: &str,
+) -> Result<Result<(), String>, AllocError>
+    ensures { IfOk result (λ added. added_in (entries_in entries.new.entries) added
+        ≡ with_pair heading.entry.name.now heading.entry.kind (entries_in entries.old.entries) line text.now) }
+{
+    let Heading { name, kind } = heading;
+    let Some((key, value)) = cut_pair(kind, text) else {
+        return Ok(Err(Misfit::NoSign(name).words(alloc)?));
+    };
+    let Some(value) = read_value(alloc, value)? else {
+        return Ok(Err(Misfit::NoValue(name, key).words(alloc)?));
+    };
+    if !takes(kind, entries, key, &value) {
+        return Ok(Err(Misfit::of_value(name, kind, key, &value).words(alloc)?));
+    }
+    let key = String::from_str(alloc, key)?;
+    put(entries, key, Entry { value, line })?;
+    Ok(Ok(()))
+}
+
+// Whether this is a dependency that has no version.
+fn lacks_version(kind: SectionKind, entries: &SipMap<String, Entry>) -> bool
+    ensures { result ≡ lacks_version kind (entries_in entries.now.entries) }
+{
+    kind == SectionKind::Dependency && !has_key(entries, "version")
+}
+
+// Puts the version of a section that ends and began on this line, where it is a dependency without one: an unknown version.
+fn put_default(
+    alloc: Global,
+    kind: SectionKind,
+    line: usize,
+    entries: &mut SipMap<String, Entry>,
+) -> Result<(), AllocError>
+    ensures { OnOk result (entries_in entries.new.entries
+        ≡ entries_in entries.old.entries ++ default_entries kind line (entries_in entries.old.entries)) }
+{
+    if !lacks_version(kind, entries) {
+        return Ok(());
+    }
+    let key = String::from_str(alloc, "version")?;
+    let value = MachineValue::Text(String::from_str(alloc, "unknown")?);
+    put(entries, key, Entry { value, line })?;
+    Ok(())
+}
+
+// Whether there is a section with this name.
+fn has_name(sections: &SipMap<String, Section>, name: &str) -> bool
+    ensures { result ≡ has_name name.now (sections_in sections.now.entries) }
+{
+    sections.contains_key(name)
+}
+
+// Puts a section that ends behind the others.
+fn put_closed(
+    alloc: Global,
+    ended: &mut SipMap<String, Section>,
+    mut section: OpenSection,
+) -> Result<(), AllocError>
+    requires { is_some (get_by_text ended.old (string_bytes section.name)) ≡ false }
+    ensures { OnOk result (sections_in ended.new.entries ≡ sections_in ended.old.entries ++ closed (open_in section) ∷ []) }
+{
+    put_default(alloc, section.kind, section.line, &mut section.entries)?;
+    let (name, section) = section.into_ended();
+    put(ended, name, section)?;
+    Ok(())
+}
+
+// All sections, the open one too, which ends.
+fn all_sections(alloc: Global, reading: Reading) -> Result<SipMap<String, Section>, AllocError>
+    ensures { IfOk result (λ sections. sections_in sections.entries ≡ sections_said (said_in reading)) }
+{
+    let (mut ended, current) = reading.into_sections();
+    let Some(section) = current else {
+        return Ok(ended);
+    };
+    put_closed(alloc, &mut ended, section)?;
+    Ok(ended)
+}
+
+// A line may not stand where it does, for this reason.
+fn refused(alloc: Global, misfit: Misfit<'_>) -> Result<Result<Reading, String>, AllocError>
+    ensures { IfOk result (λ more. more_in more ≡ refused (misfit_in misfit.entry)) }
+{
+    Ok(Err(misfit.words(alloc)?))
+}
+
+// A section begins on this line, if there is such a section, and none of this name before.
+fn with_section(
+    alloc: Global,
+    reading: Reading,
+    line: usize,
+    name: &str,
+) -> Result<Result<Reading, String>, AllocError>
+    ensures { IfOk result (λ more. more_in more ≡ with_section (said_in reading) line name.now (kind_of name.now)) }
+{
+    let Some(kind) = SectionKind::of(name) else {
+        return refused(alloc, Misfit::NoSection(name));
+    };
+    let ended = all_sections(alloc, reading)?;
+    if has_name(&ended, name) {
+        return refused(alloc, Misfit::SectionTwice(name));
+    }
+    let current = OpenSection {
+        name: String::from_str(alloc, name)?,
+        kind,
+        line,
+        entries: new_map(alloc),
+    };
+    Ok(Ok(Reading {
+        ended,
+        current: Some(current),
+    }))
+}
+
+// Puts the entry that a line gives behind those of the open section, or says why the line may not stand there.
+fn add_line(
+    alloc: Global,
+    section: &mut OpenSection,
+    line: usize,
+    text: &str,
+) -> Result<Result<(), String>, AllocError>
+    ensures added { IfOk result (λ added. added_in (open_in section.new).entries added
+        ≡ with_pair (string_bytes section.old.name) section.old.kind (open_in section.old).entries line text.now) }
+    ensures same { section.new ≡ record section.old { entries = section.new.entries } }
+{
+    let heading = Heading {
+        name: &section.name,
+        kind: section.kind,
+    };
+    add_pair(alloc, heading, &mut section.entries, line, text)
+}
+
+// A key and its value on this line, if a section is open that takes them.
+fn in_section(
+    alloc: Global,
+    mut reading: Reading,
+    line: usize,
+    text: &str,
+) -> Result<Result<Reading, String>, AllocError>
+    ensures { IfOk result (λ more. more_in more ≡ in_section (said_in reading) line text.now (said_in reading).open_section) }
+{
+    let Some(section) = &mut reading.current else {
+        return refused(alloc, Misfit::Outside);
+    };
+    match add_line(alloc, section, line, text)? {
+        Ok(()) => Ok(Ok(reading)),
+        Err(detail) => Ok(Err(detail)),
+    }
+}
+
+// What is said after one more line, or why the line may not stand there.
+#[tactic(auto, unfolding(crate::specs::machine_file::Files::after))]
+fn after(
+    alloc: Global,
+    reading: Reading,
+    line: usize,
+    text: &str,
+) -> Result<Result<Reading, String>, AllocError>
+    ensures { IfOk result (λ more. more_in more ≡ after (said_in reading) line text.now) }
+{
+    match form_of(text) {
+        Form::Nothing => Ok(Ok(reading)),
+        Form::Header(name) => with_section(alloc, reading, line, name),
+        Form::Pair(text) => in_section(alloc, reading, line, text),
+    }
+}
+
+/// What the lines of a text say, or the first line up to which they begin no machine file.
+pub fn read_lines(alloc: Global, text: &str) -> Result<Result<Machine, MachineFault>, AllocError>
+    ensures { IfOk result (λ read. read_in read ≡ machine_of (file_lines text.now)) }
+{
+    let mut reading = Reading {
+        ended: new_map(alloc),
+        current: None,
+    };
+    let mut number = 0;
+    for line in text.lines() {
+        number += 1;
+        match after(alloc, reading, number, trimmed(Blanks::All, line))? {
+            Ok(more) => reading = more,
+            Err(detail) => {
+                return Ok(Err(MachineFault {
+                    refusal: Refusal::MachineFile,
+                    line: number,
+                    detail,
+                }));
+            }
+        }
+    }
+    let sections = all_sections(alloc, reading)?;
+    Ok(Ok(Machine { sections }))
+}

@@ -1,0 +1,189 @@
+//! The sections of a machine file, and what each knows.
+
+ghost use Rattle.std.specs.Prelude.{◌≡◌};
+ghost use Rattle.machine.specs.machine_file.Sections.{kind_of, is_dependency, of_host_machine, of_compiler, of_dependency, true_or_false};
+ghost use Rattle.machine.specs.machine_file.Sections.{of_check};
+ghost use Rattle.machine.specs.machine_file.Sections.{expected, fits, knows, cuts_last};
+ghost use Rattle.machine.specs.machine_file.View.{value_in};
+
+use crate::machine_file::text::cut_first;
+use crate::machine_file::value::MachineValue;
+use basics::text_lists::is_among;
+
+/// A kind of section.
+#[derive(Clone, Copy, PartialEq, Eq)]
+pub enum SectionKind {
+    /// `[binaries]`: programs, each as a word or as words.
+    Binaries,
+    /// `[built-in options]` and `[project options]`: values of options.
+    Options,
+    /// `[host_machine]`: the machine that the project is built for.
+    HostMachine,
+    /// `[compiler]`: which compiler it is.
+    Compiler,
+    /// `[dependency NAME]`: a dependency that is there.
+    Dependency,
+    /// `[checks]`: what the compiler's checks answer.
+    Checks,
+    /// `[properties]`: values that the project asks for.
+    Properties,
+}
+
+/// What a key takes.
+#[derive(Clone, Copy, PartialEq, Eq)]
+pub enum Expected {
+    Any,
+    /// A text, or at least one text in a list.
+    Words,
+    Text,
+    Texts,
+    Boolean,
+    Integer,
+}
+
+impl SectionKind {
+    // The kind of the section with this name, if there is such a section.
+    #[tactic(auto, unfolding(crate::specs::machine_file::Sections::kind_of))]
+    pub(crate) fn of(name: &str) -> Option<SectionKind>
+        ensures { result ≡ kind_of name.now }
+    {
+        if name == "binaries" {
+            Some(SectionKind::Binaries)
+        } else if is_among(&["built-in options", "project options"], name) {
+            Some(SectionKind::Options)
+        } else if name == "host_machine" {
+            Some(SectionKind::HostMachine)
+        } else if name == "compiler" {
+            Some(SectionKind::Compiler)
+        } else if name == "checks" {
+            Some(SectionKind::Checks)
+        } else if name == "properties" {
+            Some(SectionKind::Properties)
+        } else if is_dependency(name) {
+            Some(SectionKind::Dependency)
+        } else {
+            None
+        }
+    }
+
+    // Whether the value stands behind the last equals sign of its line, and not behind the first.
+    pub(crate) fn cuts_last(self) -> bool
+        ensures { result ≡ cuts_last self }
+    {
+        self == SectionKind::Checks
+    }
+
+    // What a key of this section takes, if the section knows it.
+    pub(crate) fn expected(self, key: &str) -> Option<Expected>
+        ensures { result ≡ expected self key.now }
+    {
+        match self {
+            SectionKind::Binaries => Some(Expected::Words),
+            SectionKind::Options | SectionKind::Properties => Some(Expected::Any),
+            SectionKind::HostMachine => of_host_machine(key),
+            SectionKind::Compiler => of_compiler(key),
+            SectionKind::Dependency => of_dependency(key),
+            SectionKind::Checks => of_check(key),
+        }
+    }
+
+    // Whether this section knows the key and takes the value there.
+    #[tactic(auto, unfolding(crate::specs::machine_file::Sections::knows))]
+    pub(crate) fn knows(self, key: &str, value: &MachineValue) -> bool
+        ensures { result ≡ knows self key.now (value_in value.now) }
+    {
+        match self.expected(key) {
+            Some(expected) => expected.fits(value),
+            None => false,
+        }
+    }
+}
+
+// Whether this is `dependency`, a space and a name.
+fn is_dependency(name: &str) -> bool
+    ensures { result ≡ is_dependency name.now }
+{
+    name.starts_with("dependency ") && name.len() > 11
+}
+
+fn of_host_machine(key: &str) -> Option<Expected>
+    ensures { result ≡ of_host_machine key.now }
+{
+    if is_among(&["system", "cpu_family", "cpu", "endian"], key) {
+        Some(Expected::Text)
+    } else {
+        None
+    }
+}
+
+fn of_compiler(key: &str) -> Option<Expected>
+    ensures { result ≡ of_compiler key.now }
+{
+    if is_among(&["id", "version"], key) {
+        Some(Expected::Text)
+    } else {
+        None
+    }
+}
+
+fn of_dependency(key: &str) -> Option<Expected>
+    ensures { result ≡ of_dependency key.now }
+{
+    if key == "version" {
+        Some(Expected::Text)
+    } else if is_among(&["compile_args", "link_args"], key) {
+        Some(Expected::Texts)
+    } else {
+        None
+    }
+}
+
+// Whether a method of the compiler is a check that is true or false.
+#[tactic(auto, unfolding(crate::specs::machine_file::Sections::true_or_false))]
+fn is_true_or_false(method: &str) -> bool
+    ensures { result ≡ true_or_false method.now }
+{
+    let methods = [
+        "has_header",
+        "check_header",
+        "has_function",
+        "has_type",
+        "has_argument",
+        "has_link_argument",
+        "has_member",
+        "has_header_symbol",
+        "find_library",
+    ];
+    is_among(&methods, method)
+}
+
+// What a check answers: the method before the first space says so.
+fn of_check(key: &str) -> Option<Expected>
+    ensures { result ≡ of_check key.now }
+{
+    let (method, _) = cut_first(key, ' ')?;
+    if is_true_or_false(method) {
+        Some(Expected::Boolean)
+    } else if is_among(&["sizeof", "alignment"], method) {
+        Some(Expected::Integer)
+    } else {
+        None
+    }
+}
+
+impl Expected {
+    // Whether a value is of the type that is taken.
+    pub(crate) fn fits(self, value: &MachineValue) -> bool
+        ensures { result ≡ fits self (value_in value.now) }
+    {
+        match (self, value) {
+            (Expected::Any, _) => true,
+            (Expected::Words | Expected::Text, MachineValue::Text(_)) => true,
+            (Expected::Words, MachineValue::Texts(items)) => !items.is_empty(),
+            (Expected::Texts, MachineValue::Texts(_)) => true,
+            (Expected::Boolean, MachineValue::Boolean(_)) => true,
+            (Expected::Integer, MachineValue::Integer(_)) => true,
+            _ => false,
+        }
+    }
+}

@@ -1,0 +1,79 @@
+//! Texts without blanks at their ends, without a last character, and cut in two.
+
+ghost use Rattle.std.specs.Prelude.{◌≡◌, ◌<◌};
+ghost use Rattle.std.specs.Option.{option_map};
+ghost use Rattle.machine.specs.machine_file.Texts.{is_blank, from_word, to_word, trimmed, before_last_byte, cut_first, cut_last};
+
+/// What is dropped at the ends of a text.
+#[derive(Clone, Copy)]
+pub enum Blanks {
+    Spaces,
+    /// Spaces, tabs and carriage returns.
+    All,
+}
+
+fn is_blank(blanks: Blanks, byte: u8) -> bool
+    ensures { result ≡ is_blank blanks byte }
+{
+    match blanks {
+        Blanks::Spaces => byte == b' ',
+        Blanks::All => byte == b' ' || byte == b'\t' || byte == b'\r',
+    }
+}
+
+// A text from its first byte on that is no blank.
+fn from_word(blanks: Blanks, text: &str) -> &str
+    ensures { result.now ≡ from_word blanks text.now }
+{
+    let bytes = text.as_bytes();
+    let mut start = 0;
+    while start < bytes.len() && is_blank(blanks, bytes[start]) {
+        start += 1;
+    }
+    let (_, words) = text.split_at(start);
+    words
+}
+
+// A text up to its last byte that is no blank.
+fn to_word(blanks: Blanks, text: &str) -> &str
+    ensures { result.now ≡ to_word blanks text.now }
+{
+    let bytes = text.as_bytes();
+    let mut end = bytes.len();
+    while end > 0 && is_blank(blanks, bytes[end - 1]) {
+        end -= 1;
+    }
+    let (words, _) = text.split_at(end);
+    words
+}
+
+/// A text without blanks at its ends.
+pub fn trimmed(blanks: Blanks, text: &str) -> &str
+    ensures { result.now ≡ trimmed blanks text.now }
+{
+    to_word(blanks, from_word(blanks, text))
+}
+
+/// What stands in front of the last character, if it is this one of ASCII.
+pub fn before_last_byte(text: &str, last: char) -> Option<&str>
+    requires { last < 128 }
+    ensures { option_map (λ t. t.now) result ≡ before_last_byte last text.now }
+{
+    text.strip_suffix(last)
+}
+
+/// The parts before and behind the first such character of ASCII.
+pub fn cut_first(text: &str, at: char) -> Option<(&str, &str)>
+    requires { at < 128 }
+    ensures { option_map (λ parts. (parts.0.now, parts.1.now)) result ≡ cut_first at text.now }
+{
+    text.split_once(at)
+}
+
+/// The parts before and behind the last such character of ASCII.
+pub fn cut_last(text: &str, at: char) -> Option<(&str, &str)>
+    requires { at < 128 }
+    ensures { option_map (λ parts. (parts.0.now, parts.1.now)) result ≡ cut_last at text.now }
+{
+    text.rsplit_once(at)
+}

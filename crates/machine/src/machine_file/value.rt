@@ -1,0 +1,161 @@
+//! Values of a machine file.
+
+ghost use Rattle.std.specs.Prelude.{◌≡◌, [], is_some, IfOk, string_bytes};
+ghost use Rattle.std.specs.Option.{option_map};
+ghost use Rattle.lexer.specs.Lexeme.{lexeme_of, lexemes};
+ghost use Rattle.machine.specs.machine_file.Values.{plain_text, closing, items_of, of_word, negative_of, of_tokens, value_of};
+ghost use Rattle.machine.specs.machine_file.View.{value_in, strings_in};
+
+use crate::machine_file::number::integer;
+use lexer::fault::SyntaxError;
+use lexer::token::{Kind, Token};
+use lexer::{text_of, tokens};
+use std::alloc::{AllocError, Global};
+
+/// A value of a machine file.
+#[derive(Drop)]
+pub enum MachineValue {
+    Text(String),
+    Integer(i64),
+    Boolean(bool),
+    Texts(Vec<String>),
+}
+
+impl MachineValue {
+    ghost use Rattle.machine.specs.machine_file.Readers.{text_said, integer_said, boolean_said, texts_said};
+
+    /// The text that the value is, if it is one.
+    pub fn text(&self) -> Option<&str>
+        ensures { option_map (λ t. t.now) result ≡ text_said (value_in self.now) }
+    {
+        match self {
+            MachineValue::Text(text) => Some(text.as_str()),
+            _ => None,
+        }
+    }
+
+    /// The integer that the value is, if it is one.
+    pub fn integer(&self) -> Option<i64>
+        ensures { result ≡ integer_said (value_in self.now) }
+    {
+        match self {
+            MachineValue::Integer(number) => Some(*number),
+            _ => None,
+        }
+    }
+
+    /// The boolean that the value is, if it is one.
+    pub fn boolean(&self) -> Option<bool>
+        ensures { result ≡ boolean_said (value_in self.now) }
+    {
+        match self {
+            MachineValue::Boolean(boolean) => Some(*boolean),
+            _ => None,
+        }
+    }
+
+    /// The texts of the list that the value is, if it is one.
+    pub fn texts(&self) -> Option<&[String]>
+        ensures { option_map (λ items. strings_in items.now) result ≡ texts_said (value_in self.now) }
+    {
+        match self {
+            MachineValue::Texts(items) => Some(items),
+            _ => None,
+        }
+    }
+}
+
+// The text of a plain string.
+fn plain_text(alloc: Global, token: &Token<'_>) -> Result<Option<String>, AllocError>
+    ensures { IfOk result (λ text. option_map string_bytes text ≡ plain_text (lexeme_of token.now)) }
+{
+    if !token.is(Kind::String) {
+        return Ok(None);
+    }
+    Ok(Some(text_of(alloc, token)?))
+}
+
+// Whether these tokens are a closing bracket, and no more.
+fn closes(tokens: &[Token<'_>]) -> bool
+    ensures { result ≡ is_some (closing (lexemes tokens.now)) }
+{
+    tokens.len() == 1 && tokens[0].is(Kind::CloseBracket)
+}
+
+// The items of a list of plain strings, from behind its opening bracket on.
+fn items_of(alloc: Global, tokens: &[Token<'_>]) -> Result<Option<Vec<String>>, AllocError>
+    ensures { IfOk result (λ items. option_map (λ v. strings_in v.items) items ≡ items_of (lexemes tokens.now)) }
+{
+    let mut items = Vec::new(alloc);
+    let mut rest = tokens;
+    while rest.len() > 1 {
+        let Some(text) = plain_text(alloc, &rest[0])? else {
+            return Ok(None);
+        };
+        items.push(text)?;
+        if !rest[1].is(Kind::Comma) {
+            return Ok(closes(&rest[1..]).then_some(items));
+        }
+        rest = &rest[2..];
+    }
+    Ok(closes(rest).then_some(items))
+}
+
+// A value that is one token.
+fn of_word(alloc: Global, token: &Token<'_>) -> Result<Option<MachineValue>, AllocError>
+    ensures { IfOk result (λ value. option_map value_in value ≡ of_word (lexeme_of token.now)) }
+{
+    if token.is(Kind::True) {
+        return Ok(Some(MachineValue::Boolean(true)));
+    }
+    if token.is(Kind::False) {
+        return Ok(Some(MachineValue::Boolean(false)));
+    }
+    if token.is(Kind::Number) {
+        return Ok(integer(false, token.text).map(MachineValue::Integer));
+    }
+    Ok(plain_text(alloc, token)?.map(MachineValue::Text))
+}
+
+// The number that stands behind a minus.
+fn negative_of(token: &Token<'_>) -> Option<MachineValue>
+    ensures { option_map value_in result ≡ negative_of (lexeme_of token.now) [] }
+{
+    if token.is(Kind::Number) {
+        integer(true, token.text).map(MachineValue::Integer)
+    } else {
+        None
+    }
+}
+
+// A value of these tokens.
+fn of_tokens(alloc: Global, tokens: &[Token<'_>]) -> Result<Option<MachineValue>, AllocError>
+    ensures { IfOk result (λ value. option_map value_in value ≡ of_tokens (lexemes tokens.now)) }
+{
+    if tokens.is_empty() {
+        return Ok(None);
+    }
+    if tokens.len() == 1 {
+        return of_word(alloc, &tokens[0]);
+    }
+    if tokens[0].is(Kind::OpenBracket) {
+        return Ok(items_of(alloc, &tokens[1..])?.map(MachineValue::Texts));
+    }
+    if tokens[0].is(Kind::Minus) && tokens.len() == 2 {
+        return Ok(negative_of(&tokens[1]));
+    }
+    Ok(None)
+}
+
+/// The value that a text is, if it is one: a plain string, a number of 64 bits, a boolean or a list of plain strings,
+/// and then at most a comment. They are written as in a definition file (the Meson manual's page "Syntax").
+#[tactic(auto, unfolding(crate::specs::machine_file::Values::value_of))]
+pub fn read_value(alloc: Global, text: &str) -> Result<Option<MachineValue>, AllocError>
+    ensures { IfOk result (λ value. option_map value_in value ≡ value_of text.now) }
+{
+    match tokens(alloc, text) {
+        Ok(tokens) => of_tokens(alloc, &tokens),
+        Err(SyntaxError::Memory) => Err(AllocError),
+        Err(SyntaxError::Fault(_)) => Ok(None),
+    }
+}

@@ -1,0 +1,183 @@
+//! The options that every project has.
+
+ghost use Rattle.std.specs.Prelude.{◌≡◌, IfOk, map, OnOk};
+ghost use Rattle.machine.specs.option_values.BuiltIns.{built_ins, is_built_in, put_kind, add_kind};
+ghost use Rattle.machine.specs.option_values.View.{AreBuiltIns, form_kind, form_value, kind_in, kinds_in, list_in, row_in, strings_in};
+ghost use Rattle.machine.specs.option_values.View.{value_in};
+
+use crate::option_values::choices::Choices;
+use crate::option_values::kind::{FeatureState, OptionKind, OptionValue};
+use indexmap::IndexMap;
+use std::alloc::{AllocError, Global};
+
+/// The choices of a combo.
+#[derive(Clone, Copy)]
+pub enum ChoiceList {
+    BuildTypes,
+    Levels,
+    Warnings,
+    Standards,
+    Libraries,
+}
+
+/// What an option takes, and the value that it has where none is given.
+#[derive(Clone, Copy)]
+pub enum Form {
+    Text(&'static str),
+    Boolean(bool),
+    Combo(ChoiceList, &'static str),
+    /// Words, at first none.
+    Words,
+    /// A feature that is `auto` at first.
+    Feature,
+}
+
+/// An option that every project has.
+#[derive(Clone, Copy)]
+pub struct BuiltIn {
+    pub name: &'static str,
+    pub form: Form,
+}
+
+// A row of the table of options.
+fn built_in(name: &'static str, form: Form) -> BuiltIn
+    ensures { result ≡ record { name = name.entry; form = form } }
+{
+    BuiltIn { name, form }
+}
+
+/// The options in their order, as the Meson manual's page "Built-in options" has them.
+pub fn built_ins() -> [BuiltIn; 17]
+    ensures { map row_in result ≡ built_ins }
+{
+    [
+        built_in("prefix", Form::Text("/usr/local")),
+        built_in("bindir", Form::Text("bin")),
+        built_in("libdir", Form::Text("lib")),
+        built_in("includedir", Form::Text("include")),
+        built_in("datadir", Form::Text("share")),
+        built_in("mandir", Form::Text("share/man")),
+        built_in("sysconfdir", Form::Text("etc")),
+        built_in("buildtype", Form::Combo(ChoiceList::BuildTypes, "debug")),
+        built_in("debug", Form::Boolean(true)),
+        built_in("optimization", Form::Combo(ChoiceList::Levels, "0")),
+        built_in("warning_level", Form::Combo(ChoiceList::Warnings, "1")),
+        built_in("werror", Form::Boolean(false)),
+        built_in("c_std", Form::Combo(ChoiceList::Standards, "none")),
+        built_in(
+            "default_library",
+            Form::Combo(ChoiceList::Libraries, "shared"),
+        ),
+        built_in("c_args", Form::Words),
+        built_in("c_link_args", Form::Words),
+        built_in("auto_features", Form::Feature),
+    ]
+}
+
+/// Whether every project has an option of this name.
+pub fn is_built_in(name: &str) -> bool
+    ensures { result ≡ is_built_in name.now }
+{
+    let table = built_ins();
+    table.iter().any(|row| name == row.name)
+}
+
+// These texts, owned.
+fn texts(alloc: Global, texts: &[&str]) -> Result<Vec<String>, AllocError>
+    ensures { IfOk result (λ v. strings_in v.items ≡ map (λ t. t.now) texts.now) }
+{
+    let mut owned = Vec::new(alloc);
+    for text in texts {
+        owned.push(String::from_str(alloc, text)?)?;
+    }
+    Ok(owned)
+}
+
+fn listed(alloc: Global, choices: ChoiceList) -> Result<Vec<String>, AllocError>
+    ensures { IfOk result (λ v. strings_in v.items ≡ list_in choices) }
+{
+    match choices {
+        ChoiceList::BuildTypes => texts(
+            alloc,
+            &["plain", "debug", "debugoptimized", "release", "minsize"],
+        ),
+        ChoiceList::Levels => texts(alloc, &["plain", "0", "g", "1", "2", "3", "s"]),
+        ChoiceList::Warnings => texts(alloc, &["0", "1", "2", "3"]),
+        ChoiceList::Standards => texts(
+            alloc,
+            &[
+                "none", "c89", "c99", "c11", "c17", "gnu89", "gnu99", "gnu11", "gnu17",
+            ],
+        ),
+        ChoiceList::Libraries => texts(alloc, &["shared", "static"]),
+    }
+}
+
+// What an option of this form takes.
+fn kind_of(alloc: Global, form: Form) -> Result<OptionKind, AllocError>
+    ensures { IfOk result (λ k. kind_in k ≡ form_kind form) }
+{
+    match form {
+        Form::Text(_) => Ok(OptionKind::Text),
+        Form::Boolean(_) => Ok(OptionKind::Boolean),
+        Form::Combo(choices, _) => {
+            let choices = Choices::new(alloc, listed(alloc, choices)?)?;
+            Ok(OptionKind::Combo(choices))
+        }
+        Form::Words => Ok(OptionKind::Words),
+        Form::Feature => Ok(OptionKind::Feature),
+    }
+}
+
+/// The value that an option of this form has where none is given.
+pub fn built_in_value(alloc: Global, form: Form) -> Result<OptionValue, AllocError>
+    ensures { IfOk result (λ v. value_in v ≡ form_value form) }
+{
+    match form {
+        Form::Text(text) => Ok(OptionValue::Text(String::from_str(alloc, text)?)),
+        Form::Boolean(boolean) => Ok(OptionValue::Boolean(boolean)),
+        Form::Combo(_, choice) => Ok(OptionValue::Combo(String::from_str(alloc, choice)?)),
+        Form::Words => Ok(OptionValue::Array(Vec::new(alloc))),
+        Form::Feature => Ok(OptionValue::Feature(FeatureState::Auto)),
+    }
+}
+
+// An option of this name takes this.
+fn put_kind(
+    alloc: Global,
+    kinds: &mut IndexMap<String, OptionKind>,
+    name: &str,
+    kind: OptionKind,
+) -> Result<(), AllocError>
+    ensures { OnOk result (kinds_in kinds.new.entries
+        ≡ put_kind (record { name = name.now; kind = kind_in kind }) (kinds_in kinds.old.entries)) }
+{
+    let name = String::from_str(alloc, name)?;
+    kinds.insert(name, kind)?;
+    Ok(())
+}
+
+// The option of a row of the table takes what stands there.
+fn put_kind_of(
+    alloc: Global,
+    kinds: &mut IndexMap<String, OptionKind>,
+    row: &BuiltIn,
+) -> Result<(), AllocError>
+    ensures { OnOk result (kinds_in kinds.new.entries ≡ add_kind (kinds_in kinds.old.entries) (row_in row.now)) }
+{
+    let kind = kind_of(alloc, row.form)?;
+    put_kind(alloc, kinds, row.name, kind)?;
+    Ok(())
+}
+
+/// The options with what each takes.
+pub fn built_in_kinds(alloc: Global) -> Result<IndexMap<String, OptionKind>, AllocError>
+    ensures { IfOk result (λ kinds. AreBuiltIns kinds.entries) }
+{
+    let mut kinds = IndexMap::new(alloc);
+    let table = built_ins();
+    for row in &table {
+        put_kind_of(alloc, &mut kinds, row)?;
+    }
+    Ok(kinds)
+}

@@ -1,0 +1,60 @@
+//! The choices of an option.
+
+ghost use Rattle.std.specs.Prelude.{◌≡◌, ℕ, List, IfOk};
+ghost use Rattle.basics.specs.Among.{is_among};
+ghost use Rattle.machine.specs.machine_file.View.{strings_in};
+
+use basics::tables::{SipSet, new_set};
+use std::alloc::{AllocError, Global};
+
+/// The texts that an option takes, in their order; one may stand there twice. A look-up takes the same time however many they
+/// are.
+pub struct Choices {
+    texts: Vec<String>,
+    known: SipSet<String>,
+    ghost same: { (text : List ℕ) → is_among (strings_in known.keys) text ≡ is_among (strings_in texts.items) text },
+}
+
+impl Drop for Choices {
+    fn drop(self) {
+        let Choices { texts: _, known: _ } = self;
+    }
+}
+
+// Each of the texts, once.
+fn known_of(alloc: Global, texts: &[String]) -> Result<SipSet<String>, AllocError>
+    ensures { (text : List ℕ) → IfOk result (λ known. is_among (strings_in known.keys) text ≡ is_among (strings_in texts.now) text) }
+{
+    let mut known = new_set(alloc);
+    for text in texts {
+        let text = String::from_str(alloc, text.as_str())?;
+        known.insert(text)?;
+    }
+    Ok(known)
+}
+
+impl Choices {
+    ghost use Rattle.machine.specs.option_values.View.{texts_of};
+
+    /// These texts.
+    pub fn new(alloc: Global, texts: Vec<String>) -> Result<Choices, AllocError>
+        ensures { IfOk result (λ choices. texts_of choices ≡ strings_in texts.items) }
+    {
+        let known = known_of(alloc, &texts)?;
+        Ok(Choices { texts, known })
+    }
+
+    /// The texts, in their order.
+    pub fn texts(&self) -> &[String]
+        ensures { strings_in result.now ≡ texts_of self.now }
+    {
+        &self.texts
+    }
+
+    /// Whether the text is one of these.
+    pub fn has(&self, text: &str) -> bool
+        ensures { result ≡ is_among (texts_of self.now) text.now }
+    {
+        self.known.contains(text)
+    }
+}

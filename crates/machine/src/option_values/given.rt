@@ -1,0 +1,96 @@
+//! Which value of an option a list is, and a value of a machine file.
+
+ghost use Rattle.std.specs.Prelude.{◌≡◌, ◌++◌, [], IfOk, OnOk, string_bytes};
+ghost use Rattle.std.specs.Option.{option_map};
+ghost use Rattle.machine.specs.machine_file.View.{value_in as machine_value_in};
+ghost use Rattle.machine.specs.option_values.Given.{printed, quoted, boolean_text, value_of_given, value_of_items};
+ghost use Rattle.machine.specs.option_values.Texts.{value_of};
+ghost use Rattle.machine.specs.option_values.View.{kind_in, strings_in, value_in};
+
+use crate::machine_file::MachineValue;
+use crate::option_values::kind::{OptionKind, OptionValue};
+use crate::option_values::text::{array_of, value_of_text};
+use basics::text_lists::copies;
+use itoa::Buffer;
+use std::alloc::{AllocError, Global};
+
+/// Puts texts in single quotes behind a text, with a comma and a space between each two; nothing in them is escaped.
+pub fn push_quoted(text: &mut String, items: &[String]) -> Result<(), AllocError>
+    ensures { OnOk result (string_bytes text.new ≡ string_bytes text.old ++ quoted [] (strings_in items.now)) }
+{
+    let mut separator = "";
+    for item in items {
+        text.push_str(separator)?;
+        text.push_str("'")?;
+        text.push_str(item.as_str())?;
+        text.push_str("'")?;
+        separator = ", ";
+    }
+    Ok(())
+}
+
+// A list as it is printed.
+fn printed(alloc: Global, items: &[String]) -> Result<String, AllocError>
+    ensures { IfOk result (λ text. string_bytes text ≡ printed (strings_in items.now)) }
+{
+    let mut text = String::from_str(alloc, "[")?;
+    push_quoted(&mut text, items)?;
+    text.push_str("]")?;
+    Ok(text)
+}
+
+// The value that the printed list is.
+fn value_of_printed(
+    alloc: Global,
+    kind: &OptionKind,
+    items: &[String],
+) -> Result<Option<OptionValue>, AllocError>
+    ensures { IfOk result (λ v. option_map value_in v ≡ value_of (kind_in kind.now) (printed (strings_in items.now))) }
+{
+    let text = printed(alloc, items)?;
+    value_of_text(alloc, kind, text.as_str())
+}
+
+/// The value of an option of this kind that a list of texts is, if it is one.
+///
+/// An array takes the items, each of which is one of its choices, and words take them as they are. For every other option the
+/// list is the text that it is printed as, as `['a', 'b']`.
+pub fn value_of_items(
+    alloc: Global,
+    kind: &OptionKind,
+    items: &[String],
+) -> Result<Option<OptionValue>, AllocError>
+    ensures { IfOk result (λ v. option_map value_in v ≡ value_of_items (kind_in kind.now) (strings_in items.now)) }
+{
+    match kind {
+        OptionKind::Array(choices) => Ok(array_of(choices, copies(alloc, items)?)),
+        OptionKind::Words => Ok(Some(OptionValue::Array(copies(alloc, items)?))),
+        _ => value_of_printed(alloc, kind, items),
+    }
+}
+
+fn boolean_text(boolean: bool) -> &'static str
+    ensures { result.now ≡ boolean_text boolean }
+{
+    if boolean { "true" } else { "false" }
+}
+
+/// The value of an option of this kind that a value of a machine file is, if it is one: the one that its printed text is, and
+/// of a list its items, as [`value_of_items`] has them.
+pub fn value_of_given(
+    alloc: Global,
+    kind: &OptionKind,
+    given: &MachineValue,
+) -> Result<Option<OptionValue>, AllocError>
+    ensures { IfOk result (λ v. option_map value_in v ≡ value_of_given (kind_in kind.now) (machine_value_in given.now)) }
+{
+    match given {
+        MachineValue::Text(text) => value_of_text(alloc, kind, text.as_str()),
+        MachineValue::Integer(number) => {
+            let mut buffer = Buffer::new();
+            value_of_text(alloc, kind, buffer.format(*number))
+        }
+        MachineValue::Boolean(boolean) => value_of_text(alloc, kind, boolean_text(*boolean)),
+        MachineValue::Texts(items) => value_of_items(alloc, kind, items),
+    }
+}

@@ -1,0 +1,79 @@
+//! Texts that give the items of a list.
+
+ghost use Rattle.std.specs.Prelude.{◌≡◌, IfOk};
+ghost use Rattle.std.specs.Option.{option_map};
+ghost use Rattle.machine.specs.option_values.Lists.{are_among, begins_list, items_of, listed, parts_of, word_items_of};
+ghost use Rattle.machine.specs.option_values.View.{choices_in, strings_in, texts_of};
+
+use crate::machine_file::{Blanks, MachineValue, read_value, trimmed};
+use crate::option_values::choices::Choices;
+use crate::option_values::words::words_of;
+use std::alloc::{AllocError, Global};
+
+// Whether each item is one of the choices.
+fn all_among(choices: &Choices, items: &[String]) -> bool
+    ensures { result ≡ are_among (Some (texts_of choices.now)) (strings_in items.now) }
+{
+    items.iter().all(|item| choices.has(item.as_str()))
+}
+
+/// Whether each item is one of the choices, where there are choices.
+pub fn are_among(choices: &Option<Choices>, items: &[String]) -> bool
+    ensures { result ≡ are_among (choices_in choices.now) (strings_in items.now) }
+{
+    match choices {
+        Some(choices) => all_among(choices, items),
+        None => true,
+    }
+}
+
+// The parts between commas, without spaces at their ends; none of an empty text.
+fn parts_of(alloc: Global, text: &str) -> Result<Vec<String>, AllocError>
+    ensures { IfOk result (λ parts. strings_in parts.items ≡ parts_of text.now) }
+{
+    let mut parts = Vec::new(alloc);
+    if text.is_empty() {
+        return Ok(parts);
+    }
+    for part in text.split(',') {
+        parts.push(String::from_str(alloc, trimmed(Blanks::Spaces, part))?)?;
+    }
+    Ok(parts)
+}
+
+fn begins_list(text: &str) -> bool
+    ensures { result ≡ begins_list text.now }
+{
+    let bytes = text.as_bytes();
+    !bytes.is_empty() && bytes[0] == b'['
+}
+
+// The items of a list literal of plain strings.
+fn listed(alloc: Global, text: &str) -> Result<Option<Vec<String>>, AllocError>
+    ensures { IfOk result (λ items. option_map (λ i. strings_in i.items) items ≡ listed text.now) }
+{
+    match read_value(alloc, text)? {
+        Some(MachineValue::Texts(items)) => Ok(Some(items)),
+        _ => Ok(None),
+    }
+}
+
+/// The items of an array: a list literal, or the parts between commas.
+pub fn items_of(alloc: Global, text: &str) -> Result<Option<Vec<String>>, AllocError>
+    ensures { IfOk result (λ items. option_map (λ i. strings_in i.items) items ≡ items_of text.now) }
+{
+    if begins_list(text) {
+        return listed(alloc, text);
+    }
+    Ok(Some(parts_of(alloc, text)?))
+}
+
+/// The items of words: a list literal, or words.
+pub fn word_items_of(alloc: Global, text: &str) -> Result<Option<Vec<String>>, AllocError>
+    ensures { IfOk result (λ items. option_map (λ i. strings_in i.items) items ≡ word_items_of text.now) }
+{
+    if begins_list(text) {
+        return listed(alloc, text);
+    }
+    words_of(alloc, text)
+}

@@ -1,0 +1,203 @@
+//! A text cut into words, as a shell cuts it.
+
+ghost use Rattle.std.specs.Prelude.{◌≡◌, ◌↔◌, ℕ, List, IfOk};
+ghost use Rattle.std.specs.Str.{chars};
+ghost use Rattle.machine.specs.option_values.Shell.{AreWords};
+ghost use Rattle.std.specs.Option.{option_map};
+ghost use Rattle.machine.specs.option_values.View.{strings_in};
+ghost use Rattle.machine.specs.option_values.Words.{after, after_at, bare, begun, ended, grown, is_escapable, moved, parted, parts_words};
+ghost use Rattle.machine.specs.option_values.Words.{words_of};
+ghost use Rattle.machine.specs.option_values.WordsView.{cut_in};
+
+use std::alloc::{AllocError, Global};
+
+/// Where a character stands.
+#[derive(Clone, Copy)]
+pub enum Place {
+    /// Between words.
+    Between,
+    /// In a word, outside quotes.
+    Bare,
+    /// Behind a backslash, outside quotes.
+    Escaped,
+    /// Between single quotes.
+    Single,
+    /// Between double quotes.
+    Double,
+    /// Behind a backslash, between double quotes.
+    DoubleEscaped,
+}
+
+/// The place of the next character, the word that it may belong to, and the words before.
+#[derive(Drop)]
+pub struct Cutting {
+    place: Place,
+    word: String,
+    words: Vec<String>,
+}
+
+// Whether a character parts words: a blank or a newline.
+fn parts_words(character: char) -> bool
+    ensures { result ≡ parts_words character }
+{
+    matches!(character, ' ' | '\t' | '\r' | '\n')
+}
+
+// Whether a backslash may stand before this character between double quotes.
+fn is_escapable(character: char) -> bool
+    ensures { result ≡ is_escapable character }
+{
+    character == '"' || character == '\\'
+}
+
+fn begun(alloc: Global) -> Cutting
+    ensures { cut_in result ≡ begun }
+{
+    Cutting {
+        place: Place::Between,
+        word: String::new(alloc),
+        words: Vec::new(alloc),
+    }
+}
+
+fn moved(cutting: Cutting, place: Place) -> Cutting
+    ensures { cut_in result ≡ moved (cut_in cutting) place }
+{
+    let Cutting {
+        place: _,
+        word,
+        words,
+    } = cutting;
+    Cutting { place, word, words }
+}
+
+// The character belongs to the word.
+fn grown(cutting: Cutting, place: Place, character: char) -> Result<Cutting, AllocError>
+    ensures { IfOk result (λ more. cut_in more ≡ grown (cut_in cutting) place character) }
+{
+    let Cutting {
+        place: _,
+        mut word,
+        words,
+    } = cutting;
+    word.push(character)?;
+    Ok(Cutting { place, word, words })
+}
+
+// The word has ended.
+fn parted(alloc: Global, cutting: Cutting) -> Result<Cutting, AllocError>
+    ensures { IfOk result (λ more. cut_in more ≡ parted (cut_in cutting)) }
+{
+    let Cutting {
+        place: _,
+        word,
+        mut words,
+    } = cutting;
+    words.push(word)?;
+    Ok(Cutting {
+        place: Place::Between,
+        word: String::new(alloc),
+        words,
+    })
+}
+
+// After a character that begins a word or goes on with it, outside quotes.
+fn bare(cutting: Cutting, character: char) -> Result<Cutting, AllocError>
+    ensures { IfOk result (λ more. cut_in more ≡ bare (cut_in cutting) character) }
+{
+    match character {
+        '\\' => Ok(moved(cutting, Place::Escaped)),
+        '\'' => Ok(moved(cutting, Place::Single)),
+        '"' => Ok(moved(cutting, Place::Double)),
+        _ => grown(cutting, Place::Bare, character),
+    }
+}
+
+// After a character between double quotes.
+fn double(cutting: Cutting, character: char) -> Result<Cutting, AllocError>
+    ensures { IfOk result (λ more. cut_in more ≡ after_at Place.Double (cut_in cutting) character) }
+{
+    match character {
+        '"' => Ok(moved(cutting, Place::Bare)),
+        '\\' => Ok(moved(cutting, Place::DoubleEscaped)),
+        _ => grown(cutting, Place::Double, character),
+    }
+}
+
+// After a character behind a backslash, between double quotes.
+fn double_escaped(cutting: Cutting, character: char) -> Result<Cutting, AllocError>
+    ensures { IfOk result (λ more. cut_in more ≡ after_at Place.DoubleEscaped (cut_in cutting) character) }
+{
+    if is_escapable(character) {
+        return grown(cutting, Place::Double, character);
+    }
+    let cutting = grown(cutting, Place::Double, '\\')?;
+    grown(cutting, Place::Double, character)
+}
+
+// After a character at this place.
+fn after_at(
+    alloc: Global,
+    place: Place,
+    cutting: Cutting,
+    character: char,
+) -> Result<Cutting, AllocError>
+    ensures { IfOk result (λ more. cut_in more ≡ after_at place (cut_in cutting) character) }
+{
+    match place {
+        Place::Between if parts_words(character) => Ok(cutting),
+        Place::Bare if parts_words(character) => parted(alloc, cutting),
+        Place::Between | Place::Bare => bare(cutting, character),
+        Place::Escaped => grown(cutting, Place::Bare, character),
+        Place::Single if character == '\'' => Ok(moved(cutting, Place::Bare)),
+        Place::Single => grown(cutting, Place::Single, character),
+        Place::Double => double(cutting, character),
+        Place::DoubleEscaped => double_escaped(cutting, character),
+    }
+}
+
+// After one more character.
+fn after(alloc: Global, cutting: Cutting, character: char) -> Result<Cutting, AllocError>
+    ensures { IfOk result (λ more. cut_in more ≡ after (cut_in cutting) character) }
+{
+    let place = cutting.place;
+    after_at(alloc, place, cutting, character)
+}
+
+// The words at the end of the text, unless a quote is open or a backslash has nothing behind it.
+fn ended(cutting: Cutting) -> Result<Option<Vec<String>>, AllocError>
+    ensures { IfOk result (λ words. option_map (λ w. strings_in w.items) words ≡ ended (cut_in cutting)) }
+{
+    let Cutting {
+        place,
+        word,
+        mut words,
+    } = cutting;
+    match place {
+        Place::Between => Ok(Some(words)),
+        Place::Bare => {
+            words.push(word)?;
+            Ok(Some(words))
+        }
+        _ => Ok(None),
+    }
+}
+
+/// The words of a text, in the way of a shell.
+///
+/// Runs of blanks and newlines part them. Outside quotes a backslash gives the character behind it. Single quotes keep all
+/// between them, and so do double quotes, where `\"` and `\\` give their second character. There are none where a quote is
+/// not closed, or a backslash is the last character.
+pub fn words_of(alloc: Global, text: &str) -> Result<Option<Vec<String>>, AllocError>
+    ensures value { IfOk result (λ words. option_map (λ w. strings_in w.items) words ≡ words_of text.now) }
+
+    // These are the words as which the text is written, and where there are none it is written as no words.
+    ensures written { (given : List (List ℕ)) → IfOk result (λ words.
+        (option_map (λ w. strings_in w.items) words ≡ Some given) ↔ AreWords (chars text.now) given) }
+{
+    let mut cutting = begun(alloc);
+    for character in text.chars() {
+        cutting = after(alloc, cutting, character)?;
+    }
+    ended(cutting)
+}

@@ -1,5 +1,0 @@
-mod FormattedLemmas
-mod KeyLemmas
-mod TextListLemmas
-mod KeyOrders
-mod PlaceCounts

@@ -1,0 +1,109 @@
+//! The objects that `dependency` and `find_program` give.
+ghost use Rattle.std.specs.Prelude.{◌≡◌, map, string_bytes, codes, IfOk};
+ghost use Rattle.named_sources.specs.resources.Found.{found, missing, within_texts};
+
+use data::{Dependency, Numbers, Refusal, Sources, Text, Texts};
+use std::alloc::{AllocError, Global};
+
+/// Texts of their own, or `Refusal::Limit` where there are more than 65,536 of them or one is longer than 16,777,216 bytes.
+pub fn within_texts(alloc: Global, strings: &[String]) -> Result<Result<Texts, Refusal>, AllocError>
+    ensures { IfOk result (λ r. r ≡ within_texts (map string_bytes strings.now)) }
+{
+    if strings.len() > basics::limits::ITEMS {
+        return Ok(Err(Refusal::Limit));
+    }
+    let mut texts = Texts::new(alloc);
+    for string in strings {
+        match Text::of_str(alloc, string.as_str())? {
+            Ok(text) => texts.push(text)?,
+            Err(refusal) => return Ok(Err(refusal)),
+        }
+    }
+    Ok(Ok(texts))
+}
+
+// A dependency with these arguments for the compiler and the linker, and with nothing else.
+fn of_arguments(
+    alloc: Global,
+    name: Text,
+    version: Text,
+    compile_args: Texts,
+    link_args: Texts,
+) -> Dependency
+    ensures { result ≡ Rattle.named_sources.specs.resources.Found.of_arguments name version compile_args link_args }
+{
+    Dependency {
+        is_found: true,
+        name,
+        version,
+        include_directories: Texts::new(alloc),
+        compile_args,
+        link_args,
+        link_with: Numbers::new(alloc),
+        sources: Sources::new(alloc),
+    }
+}
+
+/// The dependency of this name and version, with arguments for the compiler and the linker, or `Refusal::Limit` where these are too large
+/// for a value.
+pub fn found_dependency(
+    alloc: Global,
+    name: &str,
+    version: &str,
+    compile_args: &[String],
+    link_args: &[String],
+) -> Result<Result<Dependency, Refusal>, AllocError>
+    ensures { IfOk result (λ r. r ≡ found name.now version.now (map string_bytes compile_args.now) (map string_bytes link_args.now)) }
+{
+    let name = match Text::of_str(alloc, name)? {
+        Ok(name) => name,
+        Err(refusal) => return Ok(Err(refusal)),
+    };
+    let version = match Text::of_str(alloc, version)? {
+        Ok(version) => version,
+        Err(refusal) => return Ok(Err(refusal)),
+    };
+    let compile_args = match within_texts(alloc, compile_args)? {
+        Ok(arguments) => arguments,
+        Err(refusal) => return Ok(Err(refusal)),
+    };
+    let link_args = match within_texts(alloc, link_args)? {
+        Ok(arguments) => arguments,
+        Err(refusal) => return Ok(Err(refusal)),
+    };
+    Ok(Ok(of_arguments(alloc, name, version, compile_args, link_args)))
+}
+
+// A dependency that isn't found, with a name, a version and nothing else.
+fn absent(alloc: Global, name: Text, version: Text) -> Dependency
+    requires { version ≡ codes "unknown" }
+    ensures { result ≡ Rattle.named_sources.specs.resources.Found.absent name }
+{
+    Dependency {
+        is_found: false,
+        name,
+        version,
+        include_directories: Texts::new(alloc),
+        compile_args: Texts::new(alloc),
+        link_args: Texts::new(alloc),
+        link_with: Numbers::new(alloc),
+        sources: Sources::new(alloc),
+    }
+}
+
+/// The dependency of this name that isn't found, whose version is `unknown`; or `Refusal::Limit` where the name is too long for a text.
+pub fn missing_dependency(
+    alloc: Global,
+    name: &str,
+) -> Result<Result<Dependency, Refusal>, AllocError>
+    ensures { IfOk result (λ r. r ≡ missing name.now) }
+{
+    let name = match Text::of_str(alloc, name)? {
+        Ok(name) => name,
+        Err(refusal) => return Ok(Err(refusal)),
+    };
+    match Text::of_str(alloc, "unknown")? {
+        Ok(version) => Ok(Ok(absent(alloc, name, version))),
+        Err(refusal) => Ok(Err(refusal)),
+    }
+}

@@ -1,0 +1,94 @@
+//! What `test` is given: <https://mesonbuild.com/Reference-manual_functions.html#test>.
+ghost use Rattle.std.specs.Prelude.{◌≡◌, IfOk, [], map, string_bytes};
+ghost use Rattle.arguments.specs.Arguments.{arguments_data};
+ghost use Rattle.arguments.specs.Refused.{answer_data, said_data};
+ghost use Rattle.data.specs.Prelude.{items_of};
+ghost use Rattle.named_sources.specs.resources.TestingView.{strings_of};
+ghost use Rattle.named_sources.specs.resources.Testing.{are_assignments, assigned_behind, assignment, environment, is_assignment};
+ghost use Rattle.named_sources.specs.resources.Testing.{seconds_of};
+
+use arguments::{Arguments, Refused, Rule};
+use data::{Refusal, Text, Value};
+use std::alloc::{AllocError, Global};
+
+/// The seconds that a test may run, or `Refusal::Range` where they need more than 64 bits. They may be zero or negative.
+pub fn seconds_of(timeout: i128) -> Result<i64, Refusal>
+    ensures { result ≡ seconds_of timeout }
+{
+    match i64::try_from(timeout) {
+        Ok(seconds) => Ok(seconds),
+        Err(_) => Err(Refusal::Range),
+    }
+}
+
+// A variable of the environment of a test and its value, as `NAME=VALUE`. The name may be empty.
+fn assignment(alloc: Global, name: &str, value: &str) -> Result<String, AllocError>
+    ensures { IfOk result (λ text. string_bytes text ≡ assignment name.now value.now) }
+{
+    let mut text = String::from_str(alloc, name)?;
+    text.push_str("=")?;
+    text.push_str(value)?;
+    Ok(text)
+}
+
+// The variables that have these names and values, in order.
+#[tactic(auto, using(crate::proofs::Assigned::assigned_cases))]
+fn assigned(
+    alloc: Global,
+    names: &[Text],
+    values: &[Value],
+) -> Result<Result<Vec<String>, Refused>, AllocError>
+    ensures { IfOk result (λ ts. said_data strings_of ts ≡ assigned_behind [] names.now (items_of values.now)) }
+{
+    let mut texts = Vec::new(alloc);
+    for (i, value) in values.iter().enumerate() {
+        let Some(name) = names.get(i) else {
+            return Ok(Ok(texts));
+        };
+        let Some(text) = value.as_text() else {
+            return Ok(Err(Rule::TakesText.refused(alloc, name.as_str())?));
+        };
+        texts.push(assignment(alloc, name.as_str(), text.as_str())?)?;
+    }
+    Ok(Ok(texts))
+}
+
+fn is_assignment(text: &str) -> bool
+    ensures { result ≡ is_assignment text.now }
+{
+    text.as_bytes().iter().any(|byte| *byte == b'=')
+}
+
+// The first text that says no name and value breaks a rule.
+fn are_assignments(alloc: Global, texts: &[String]) -> Result<Result<(), Refused>, AllocError>
+    ensures { IfOk result (λ r. answer_data r ≡ are_assignments (map string_bytes texts.now)) }
+{
+    for text in texts {
+        if !is_assignment(text.as_str()) {
+            return Ok(Err(Rule::IsAssignment.refused(alloc, text.as_str())?));
+        }
+    }
+    Ok(Ok(()))
+}
+
+/// The variables of the environment that the keyword `env` gives, as texts `NAME=VALUE`. A value of a dictionary that is no text breaks
+/// `Rule::TakesText`, by its name, and a text without `=` breaks `Rule::IsAssignment`.
+pub fn environment(
+    alloc: Global,
+    arguments: &Arguments,
+) -> Result<Result<Vec<String>, Refused>, AllocError>
+    ensures { IfOk result (λ ts. said_data strings_of ts ≡ environment (arguments_data arguments.now)) }
+{
+    match arguments.keyword("env") {
+        Some(Value::Dictionary(dictionary)) => {
+            assigned(alloc, dictionary.keys(), dictionary.values())
+        }
+        _ => {
+            let texts = arguments.texts(alloc, "env")?;
+            match are_assignments(alloc, &texts)? {
+                Ok(()) => Ok(Ok(texts)),
+                Err(refused) => Ok(Err(refused)),
+            }
+        }
+    }
+}

@@ -1,0 +1,114 @@
+-- `configure_file`: a file that is made while the definition files are read.
+use Rattle.std.specs.Prelude.{ℕ, Bool, true, false, [], Option, Some, None, codes, bytes_eq, option_map}
+use Rattle.arguments.specs.Arguments.{ArgumentsData}
+use Rattle.arguments.specs.Given.{keyword, text_given, text_of}
+use Rattle.data.specs.Data.{Data, object, text}
+use Rattle.data.specs.Limits.{within_bytes}
+use Rattle.data.specs.declared.object.Object.TheVariants as objects
+use Rattle.targets.specs.edge.Texts.{Path, Text}
+use Rattle.arguments.specs.declared.rule.Rule.TheVariants as rules
+use Rattle.basics.specs.declared.faults.refusal.Refusal.TheVariants as refusals
+use Rattle.paths.specs.Below.{path_below}
+use Rattle.paths.specs.Paths.{path_in}
+use Rattle.paths.specs.Names.{is_file_name}
+use Rattle.project.specs.World.{InstallData}
+use Rattle.named_sources.specs.resources.Installs.{destination}
+use Rattle.world.specs.Configuring.{freeze_configured}
+use Rattle.world.specs.Declaring.{add_install}
+use Rattle.world.specs.Deed.{Deed, give, read, make, ◌>>=◌, answered, need}
+use Rattle.world.specs.Fit.{passed}
+use Rattle.world.specs.Ruled.{obeyed}
+use Rattle.world.specs.Making.{Filling}
+use Rattle.world.specs.Options.{option_text}
+use Rattle.world.specs.World.{Facts}
+use Rattle.objects.specs.configuration_calls.Given.{GivenData, configuration_given}
+use Rattle.objects.specs.configuration_calls.Inputs.{input_named}
+use Rattle.objects.specs.configuration_calls.Written.{header_filling, template_at, template_filling}
+
+-- ---- what the arguments say
+
+-- the format is `'meson'`, or is not given; another is left out
+abbrev pub is_meson : Data → Bool
+is_meson (text t) = bytes_eq t (codes "meson")
+is_meson _ = false
+
+abbrev pub fits_format : Option Data → Bool
+fits_format None = true
+fits_format (Some d) = is_meson d
+
+abbrev pub has_meson_format : ArgumentsData → Bool
+has_meson_format a = fits_format (keyword (codes "format") a)
+
+-- the template: E9 where `input` names none
+unfoldable pub input_given : ArgumentsData → Deed (Option Path)
+input_given a = do
+  facts ← read
+  passed (input_named facts.settings.source_root facts.folder a)
+
+-- the values of `configuration`: E9 where they are no configuration data
+unfoldable pub values_given : ArgumentsData → Deed GivenData
+values_given a = do
+  facts ← read
+  passed (configuration_given facts a)
+
+-- ---- where the output is installed
+
+-- the output, by its path in the build folder, goes to a folder below `prefix`, or to one that is absolute
+abbrev pub install_at : Facts → (path : Path) (name : Text) (folder : Path) → InstallData
+install_at facts path name folder = record {
+  source = path_below facts.settings.build_root path;
+  destination = destination (option_text facts.options (codes "prefix")) folder name;
+}
+
+unfoldable pub noted : Option InstallData → Deed (Unit {0})
+noted None = give tt
+noted (Some install) = add_install install
+
+-- the output is installed where `install_dir` says so
+unfoldable pub installed : (path : Path) → ArgumentsData → Deed (Unit {0})
+installed path a = do
+  facts ← read
+  noted (option_map (install_at facts path (text_of (codes "output") a)) (text_given (codes "install_dir") a))
+
+-- ---- the call
+
+-- no call changes the data from now on; a dictionary is none
+unfoldable pub frozen_by : Option ℕ → Deed (Unit {0})
+frozen_by None = give tt
+frozen_by (Some number) = freeze_configured number
+
+-- before the output is opened: its path is a text that is not too long (E22), and the data are frozen
+unfoldable pub prepared : Path → Option ℕ → Deed Path
+prepared path number = do
+  given ← answered (within_bytes path)
+  _ ← frozen_by number
+  give given
+
+-- the output is made in the present folder (E21, E11), and its path given
+unfoldable pub output_made : ArgumentsData → GivenData → Filling → Deed Path
+output_made a values filling = do
+  facts ← read
+  make facts.folder (text_of (codes "output") a) (prepared (path_in facts.folder (text_of (codes "output") a)) values.number) filling
+
+-- and the call gives it as a file
+unfoldable pub made : ArgumentsData → GivenData → Filling → Deed (Option Data)
+made a values filling = do
+  path ← output_made a values filling
+  _ ← installed path a
+  give (Some (object (objects.File path true)))
+
+-- with a template, or without one
+unfoldable pub configured : ArgumentsData → Option Path → GivenData → Deed (Option Data)
+configured a None values = made a values (header_filling values.entries)
+configured a (Some path) values = do
+  bytes ← template_at path
+  made a values (template_filling values.entries path bytes)
+
+-- `configure_file()`: E9, E14, E21, E11; E19 or E22 at the template's first line that is refused, when the lines before it are written
+unfoldable pub configure_file : ArgumentsData → Deed (Option Data)
+configure_file a = do
+  _ ← need (has_meson_format a) refusals.LeftOut []
+  _ ← obeyed (is_file_name (text_of (codes "output") a)) rules.IsFileName (text_of (codes "output") a)
+  input ← input_given a
+  values ← values_given a
+  configured a input values

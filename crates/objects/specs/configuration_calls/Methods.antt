@@ -1,0 +1,125 @@
+-- The methods of configuration data: the type `cfg_data` of the page "Reference manual".
+use Rattle.std.specs.Prelude.{ℕ, pos, Bool, false, List, [], Option, Some, None, is_some, ok_or, option_and_then}
+use Rattle.std.specs.Prelude.{if◌then◌else◌}
+use Rattle.arguments.specs.Arguments.{ArgumentsData}
+use Rattle.arguments.specs.Given.{argument, flag_at, text_at}
+use Rattle.data.specs.Data.{Data, boolean}
+use Rattle.arguments.specs.declared.rule.Rule.TheVariants as rules
+use Rattle.basics.specs.declared.faults.refusal.Refusal.TheVariants as refusals
+use Rattle.template.specs.Config.{Content, Number, names, value_of}
+use Rattle.template.specs.Line.{is_name}
+use Rattle.world.specs.Configuring.{configuration_at, merge_configured, set_configured, set_quoted}
+use Rattle.world.specs.Deed.{Deed, give, refuse, read, ◌>>=◌, answered, fitting}
+use Rattle.world.specs.Fit.{fit}
+use Rattle.world.specs.Ruled.{obeyed}
+use Rattle.objects.specs.configuration_calls.Contents.{content_in, found_or, found_unquoted}
+use Rattle.operations.specs.operators.TextLists.{text_list}
+use Rattle.objects.specs.configuration_calls.Given.{entries_of, number_in}
+use Rattle.objects.specs.configuration_calls.Rows.{row_of}
+use Rattle.data.specs.declared.language_names.object_methods.ConfigurationMethod.{ConfigurationMethod}
+use Rattle.data.specs.declared.language_names.object_methods.ConfigurationMethod.TheVariants as methods
+use Rattle.data.specs.language_names.ObjectMethods.{configuration_method_named}
+
+abbrev pub has_method : List ℕ → Bool
+has_method name = is_some (configuration_method_named name)
+
+-- the name that a call is given first: E9 where it is no name of configuration data
+unfoldable pub name_given : ArgumentsData → Deed (List ℕ)
+name_given a = do
+  _ ← obeyed (is_name (text_at 0 a)) rules.IsValueName (text_at 0 a)
+  give (text_at 0 a)
+
+-- `get(name, fallback)`: E10 where the name stands for nothing and no fallback is given
+unfoldable pub get : ℕ → ArgumentsData → Deed (Option Data)
+get number a = do
+  name ← name_given a
+  facts ← read
+  d ← answered (found_or (value_of (entries_of facts number) name) (argument 1 a))
+  give (Some d)
+
+-- `get_unquoted(name, fallback)`: the same, of a text without the quotes at its ends
+unfoldable pub get_unquoted : ℕ → ArgumentsData → Deed (Option Data)
+get_unquoted number a = do
+  name ← name_given a
+  facts ← read
+  d ← answered (found_unquoted (value_of (entries_of facts number) name) (argument 1 a))
+  give (Some d)
+
+-- `has(name)`: whether the name stands for anything
+unfoldable pub has : ℕ → ArgumentsData → Deed (Option Data)
+has number a = do
+  name ← name_given a
+  facts ← read
+  give (Some (boolean (is_some (value_of (entries_of facts number) name))))
+
+-- `keys()`: the names, by the order of their bytes
+unfoldable pub keys : ℕ → Deed (Option Data)
+keys number = do
+  facts ← read
+  d ← answered (text_list (names (entries_of facts number)))
+  give (Some d)
+
+-- the data that a call is given
+unfoldable pub other_given : ArgumentsData → Deed ℕ
+other_given a = fitting (ok_or (option_and_then number_in (argument 0 a)) refusals.Arguments)
+
+-- `merge_from(other)`: each name of the other data gets the value that it has there
+unfoldable pub merge_from : ℕ → ArgumentsData → Deed (Option Data)
+merge_from number a = do
+  other ← other_given a
+  facts ← read
+  _ ← merge_configured number (configuration_at other facts.configurations)
+  give None
+
+-- what a call gives a name: a text, an integer or a truth value
+unfoldable pub content_given : ArgumentsData → Deed Content
+content_given a = fitting (ok_or (option_and_then content_in (argument 1 a)) refusals.Arguments)
+
+-- `set(name, value)`
+unfoldable pub set : ℕ → ArgumentsData → Deed (Option Data)
+set number a = do
+  name ← name_given a
+  content ← content_given a
+  _ ← set_configured number name content
+  give None
+
+abbrev pub one_or_zero : Bool → Content
+one_or_zero is_so = Number (pos (if is_so then 1 else 0))
+
+-- `set10(name, condition)`: 1 where it is true, else 0
+unfoldable pub set10 : ℕ → ArgumentsData → Deed (Option Data)
+set10 number a = do
+  name ← name_given a
+  _ ← set_configured number name (one_or_zero (flag_at 1 false a))
+  give None
+
+-- `set_quoted(name, text)`
+unfoldable pub set_text_quoted : ℕ → ArgumentsData → Deed (Option Data)
+set_text_quoted number a = do
+  name ← name_given a
+  _ ← set_quoted number name (text_at 1 a)
+  give None
+
+-- what a method does with arguments that its row has let through; the changes are refused by E20 where the data are frozen
+abbrev pub does : ConfigurationMethod → ℕ → ArgumentsData → Deed (Option Data)
+does methods.Get number a = get number a
+does methods.GetUnquoted number a = get_unquoted number a
+does methods.Has number a = has number a
+does methods.Keys number a = keys number
+does methods.MergeFrom number a = merge_from number a
+does methods.Set number a = set number a
+does methods.Set10 number a = set10 number a
+does methods.SetQuoted number a = set_text_quoted number a
+
+unfoldable pub fitting_does : ConfigurationMethod → ℕ → ArgumentsData → Deed (Option Data)
+fitting_does method number a = do
+  _ ← fit (row_of method) a
+  does method number a
+
+abbrev pub does_if : Option ConfigurationMethod → ℕ → ArgumentsData → Deed (Option Data)
+does_if None number a = refuse refusals.UnknownFunction []
+does_if (Some method) number a = fitting_does method number a
+
+-- a method of the data with a number on its arguments, which its row looks at first: it gives a value, or nothing
+unfoldable pub configuration_method : ℕ → List ℕ → ArgumentsData → Deed (Option Data)
+configuration_method number name a = does_if (configuration_method_named name) number a

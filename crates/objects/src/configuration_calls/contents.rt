@@ -1,0 +1,202 @@
+//! Values of the language in configuration data.
+ghost use Rattle.std.specs.Prelude.{◌≡◌, [], IfOk, OnOk, option_map};
+ghost use Rattle.std.specs.List.{list_all};
+ghost use Rattle.arguments.specs.Refused.{answer_data, said_data};
+ghost use Rattle.data.specs.Data.{text as text_data};
+ghost use Rattle.template.specs.Config.{with_value};
+ghost use Rattle.template.specs.ConfigData.{content_of};
+ghost use Rattle.template.specs.Line.{is_name, is_name_byte};
+ghost use Rattle.world.specs.Prelude.{Answers, data_of, items_of, within};
+ghost use Rattle.objects.specs.configuration_calls.Contents.{all_set, content_at, content_in, data_in, data_with, entries_in};
+ghost use Rattle.objects.specs.configuration_calls.Contents.{fallback_or_none};
+ghost use Rattle.objects.specs.configuration_calls.Contents.{found_or, found_unquoted, unquoted, unquoted_fallback, unquoted_text};
+
+use arguments::{Refused, Rule};
+use data::{Dictionary, Refusal, Text, Value};
+use std::alloc::{AllocError, Global};
+use template::{ConfigData, ConfigValue};
+
+fn is_name_byte(byte: u8) -> bool
+    ensures { result ≡ is_name_byte byte }
+{
+    byte.is_ascii_alphanumeric() || byte == b'-' || byte == b'_'
+}
+
+fn are_name_bytes(bytes: &[u8]) -> bool
+    ensures { result ≡ list_all is_name_byte bytes.now }
+{
+    bytes.iter().all(|byte| is_name_byte(*byte))
+}
+
+/// Whether configuration data may have the name.
+#[tactic(auto, unfolding(template::specs::Line::is_name))]
+pub fn is_name(name: &str) -> bool
+    ensures { result ≡ is_name name.now }
+{
+    let bytes = name.as_bytes();
+    !bytes.is_empty() && are_name_bytes(bytes)
+}
+
+/// What configuration data hold of a value: none where it is no text, integer or truth value.
+pub fn content_in(alloc: Global, value: &Value) -> Result<Option<ConfigValue>, AllocError>
+    ensures { IfOk result (λ c. option_map content_of c ≡ content_in (data_of value.now)) }
+{
+    match value {
+        Value::Boolean(boolean) => Ok(Some(ConfigValue::Boolean(*boolean))),
+        Value::Integer(integer) => Ok(Some(ConfigValue::Integer(*integer))),
+        Value::Text(text) => {
+            let text = String::from_str(alloc, text.as_str())?;
+            Ok(Some(ConfigValue::Text(text)))
+        }
+        _ => Ok(None),
+    }
+}
+
+// What a name stands for. One that configuration data can't have breaks a rule, and one whose value they can't hold.
+fn content_at(
+    alloc: Global,
+    name: &str,
+    value: &Value,
+) -> Result<Result<ConfigValue, Refused>, AllocError>
+    ensures { IfOk result (λ c. said_data content_of c ≡ content_at name.now (data_of value.now)) }
+{
+    if !is_name(name) {
+        return Ok(Err(Rule::IsValueName.refused(alloc, name)?));
+    }
+    match content_in(alloc, value)? {
+        Some(content) => Ok(Ok(content)),
+        None => Ok(Err(Rule::IsSetting.refused(alloc, name)?)),
+    }
+}
+
+// Sets a value in data of which none are frozen: only memory can be wanting.
+fn set(held: &mut ConfigData, name: &str, content: ConfigValue) -> Result<(), AllocError>
+    ensures { OnOk result (held.new ≡ record held.old { entries = with_value held.old.entries name.now (content_of content) }) }
+{
+    match held.set(name, content) {
+        Ok(()) => Ok(()),
+        Err(_) => Err(AllocError),
+    }
+}
+
+// Data with these values at these names, up to the first that can't be set.
+fn all_set(
+    alloc: Global,
+    names: &[Text],
+    values: &[Value],
+) -> Result<Result<ConfigData, Refused>, AllocError>
+    ensures { IfOk result (λ c. answer_data c ≡ data_with (all_set [] names.now (items_of values.now))) }
+{
+    let mut held = ConfigData::new(alloc);
+    for (i, name) in names.iter().enumerate() {
+        match values.get(i) {
+            Some(value) => match content_at(alloc, name.as_str(), value)? {
+                Ok(content) => set(&mut held, name.as_str(), content)?,
+                Err(refused) => return Ok(Err(refused)),
+            },
+            None => return Ok(Ok(held)),
+        }
+    }
+    Ok(Ok(held))
+}
+
+/// A dictionary as configuration data. A key that is no name of such breaks a rule, and a value that is no text, integer or truth value.
+pub fn entries_in(
+    alloc: Global,
+    dictionary: &Dictionary,
+) -> Result<Result<ConfigData, Refused>, AllocError>
+    ensures { IfOk result (λ c. answer_data c ≡ data_with (entries_in dictionary.now)) }
+{
+    all_set(alloc, dictionary.keys(), dictionary.values())
+}
+
+// The value, or `Refusal::Limit` for a text past the limit.
+fn value_of(alloc: Global, content: &ConfigValue) -> Result<Result<Value, Refusal>, AllocError>
+    ensures { IfOk result (λ r. Answers (within (data_in (content_of content.now))) r) }
+{
+    match content {
+        ConfigValue::Boolean(boolean) => Ok(Ok(Value::Boolean(*boolean))),
+        ConfigValue::Integer(integer) => Ok(Ok(Value::Integer(*integer))),
+        ConfigValue::Text(text) => Value::of_str(alloc, text.as_str()),
+    }
+}
+
+fn fallback_or_none(fallback: Option<&Value>) -> Result<Result<Value, Refusal>, AllocError>
+    ensures { IfOk result (λ r. Answers (fallback_or_none (option_map (λ v. data_of v.now) fallback.entry)) r) }
+{
+    match fallback {
+        Some(value) => Ok(Ok(value.clone()?)),
+        None => Ok(Err(Refusal::Absent)),
+    }
+}
+
+/// What a name stands for, else the fallback, or `Refusal::Absent` where there is neither.
+pub fn found_or(
+    alloc: Global,
+    content: Option<&ConfigValue>,
+    fallback: Option<&Value>,
+) -> Result<Result<Value, Refusal>, AllocError>
+    ensures { IfOk result (λ r. Answers (found_or (option_map (λ c. content_of c.now) content.entry)
+        (option_map (λ v. data_of v.now) fallback.entry)) r) }
+{
+    match content {
+        Some(content) => value_of(alloc, content),
+        None => fallback_or_none(fallback),
+    }
+}
+
+fn unquoted_text(text: &str) -> &str
+    ensures { result.now ≡ unquoted_text text.now }
+{
+    match text.strip_prefix("\"") {
+        Some(rest) => match rest.strip_suffix("\"") {
+            Some(inside) => inside,
+            None => text,
+        },
+        None => text,
+    }
+}
+
+// The value of a text without the quotes at its ends.
+fn unquoted_value(alloc: Global, text: &str) -> Result<Result<Value, Refusal>, AllocError>
+    ensures { IfOk result (λ r. Answers (within (text_data (unquoted_text text.now))) r) }
+{
+    Value::of_str(alloc, unquoted_text(text))
+}
+
+fn unquoted(alloc: Global, content: &ConfigValue) -> Result<Result<Value, Refusal>, AllocError>
+    ensures { IfOk result (λ r. Answers (within (data_in (unquoted (content_of content.now)))) r) }
+{
+    match content {
+        ConfigValue::Boolean(boolean) => Ok(Ok(Value::Boolean(*boolean))),
+        ConfigValue::Integer(integer) => Ok(Ok(Value::Integer(*integer))),
+        ConfigValue::Text(text) => unquoted_value(alloc, text.as_str()),
+    }
+}
+
+fn unquoted_fallback(
+    alloc: Global,
+    fallback: Option<&Value>,
+) -> Result<Result<Value, Refusal>, AllocError>
+    ensures { IfOk result (λ r. Answers (unquoted_fallback (option_map (λ v. data_of v.now) fallback.entry)) r) }
+{
+    match fallback {
+        Some(Value::Text(text)) => unquoted_value(alloc, text.as_str()),
+        _ => fallback_or_none(fallback),
+    }
+}
+
+/// The same of texts without the quotes at their ends, the fallback too.
+pub fn found_unquoted(
+    alloc: Global,
+    content: Option<&ConfigValue>,
+    fallback: Option<&Value>,
+) -> Result<Result<Value, Refusal>, AllocError>
+    ensures { IfOk result (λ r. Answers (found_unquoted (option_map (λ c. content_of c.now) content.entry)
+        (option_map (λ v. data_of v.now) fallback.entry)) r) }
+{
+    match content {
+        Some(content) => unquoted(alloc, content),
+        None => unquoted_fallback(alloc, fallback),
+    }
+}

@@ -1,0 +1,203 @@
+//! What the arguments of `configure_file` say.
+ghost use Rattle.std.specs.Prelude.{◌≡◌, IfOk, codes, map, option_map, string_bytes};
+ghost use Rattle.arguments.specs.Refused.{said_data};
+ghost use Rattle.arguments.specs.Said.{found};
+ghost use Rattle.arguments.specs.declared.rule.Rule.TheVariants.{TakesTreeFile};
+ghost use Rattle.data.specs.Data.{text as text_data};
+ghost use Rattle.world.specs.Prelude.{Does, arguments_data, data_of, world_of};
+ghost use Rattle.objects.specs.configuration_calls.ConfigureFile.{has_meson_format, input_given, values_given};
+ghost use Rattle.objects.specs.configuration_calls.Given.{configuration_given, dictionary_given, given_by};
+ghost use Rattle.objects.specs.configuration_calls.GivenView.{given_view};
+ghost use Rattle.objects.specs.configuration_calls.Inputs.{file_named, input_named, one_file, tree_file};
+
+use crate::configuration_calls::contents::entries_in;
+use crate::configuration_calls::methods::number_in;
+use arguments::{Arguments, Refused, Rule};
+use data::{Object, Value};
+use paths::tree_path;
+use ports::{Outputs, Tree};
+use std::alloc::{AllocError, Global};
+use template::ConfigData;
+use world::{Caller, Stop, Store};
+
+/// Values that a call is given, and the number of the configuration data that have them, where they are no dictionary's.
+#[derive(Drop)]
+pub struct Given {
+    pub values: ConfigData,
+    pub number: Option<usize>,
+}
+
+/// Whether `configure_file` is given no `format` or the format `'meson'`. With another the call is E23, which is looked for before E9: its
+/// row is [`crate::configuration_calls::other_format_row`].
+pub fn has_meson_format(arguments: &Arguments) -> bool
+    ensures { result ≡ has_meson_format (arguments_data arguments.now) }
+{
+    match arguments.keyword("format") {
+        Some(Value::Text(format)) => format.as_str() == "meson",
+        Some(_) => false,
+        None => true,
+    }
+}
+
+// The path of a file of the tree.
+fn tree_file(alloc: Global, object: &Object) -> Result<Option<String>, AllocError>
+    ensures { IfOk result (λ p. option_map string_bytes p ≡ tree_file object.now) }
+{
+    match object {
+        Object::File { path, is_built } => {
+            if *is_built {
+                Ok(None)
+            } else {
+                Ok(Some(String::from_str(alloc, path.as_str())?))
+            }
+        }
+        _ => Ok(None),
+    }
+}
+
+// The path of a text that names a file of the tree.
+fn text_named(
+    alloc: Global,
+    source_root: &str,
+    folder: &str,
+    text: &str,
+) -> Result<Result<String, Refused>, AllocError>
+    ensures { IfOk result (λ p. said_data string_bytes p ≡ file_named source_root.now folder.now (text_data text.now)) }
+{
+    match tree_path(alloc, source_root, folder, text)? {
+        Some(path) => Ok(Ok(path)),
+        None => Ok(Err(Rule::NamesFile.refused(alloc, text)?)),
+    }
+}
+
+// The path of an object that is a file of the tree.
+fn object_named(alloc: Global, object: &Object) -> Result<Result<String, Refused>, AllocError>
+    ensures { IfOk result (λ p. said_data string_bytes p ≡ found (tree_file object.now) TakesTreeFile (codes "input")) }
+{
+    match tree_file(alloc, object)? {
+        Some(path) => Ok(Ok(path)),
+        None => Ok(Err(Rule::TakesTreeFile.refused(alloc, "input")?)),
+    }
+}
+
+// The file of the tree that a value names in a definition file of a folder.
+fn file_named(
+    alloc: Global,
+    source_root: &str,
+    folder: &str,
+    value: &Value,
+) -> Result<Result<String, Refused>, AllocError>
+    ensures { IfOk result (λ p. said_data string_bytes p ≡ file_named source_root.now folder.now (data_of value.now)) }
+{
+    match value {
+        Value::Text(text) => text_named(alloc, source_root, folder, text.as_str()),
+        Value::Object(object) => object_named(alloc, object),
+        _ => Ok(Err(Rule::TakesTreeFile.refused(alloc, "input")?)),
+    }
+}
+
+// That of just one value.
+fn one_file(
+    alloc: Global,
+    source_root: &str,
+    folder: &str,
+    values: &[&Value],
+) -> Result<Result<String, Refused>, AllocError>
+    ensures { IfOk result (λ p. said_data string_bytes p ≡ one_file source_root.now folder.now (map (λ v. data_of v.now) values.now)) }
+{
+    match values {
+        [value] => file_named(alloc, source_root, folder, value),
+        _ => Ok(Err(Rule::TakesOneFile.refused(alloc, "input")?)),
+    }
+}
+
+// The path that the keyword `input` names, which may be left out.
+fn input_named(
+    alloc: Global,
+    source_root: &str,
+    folder: &str,
+    arguments: &Arguments,
+) -> Result<Result<Option<String>, Refused>, AllocError>
+    ensures { IfOk result (λ p. said_data (option_map string_bytes) p
+        ≡ input_named source_root.now folder.now (arguments_data arguments.now)) }
+{
+    if arguments.keyword("input").is_none() {
+        return Ok(Ok(None));
+    }
+    let values = arguments.leaves(alloc, "input")?;
+    match one_file(alloc, source_root, folder, &values)? {
+        Ok(path) => Ok(Ok(Some(path))),
+        Err(refused) => Ok(Err(refused)),
+    }
+}
+
+/// The path of the template, where one is given.
+pub fn input_given<T: Tree, O: Outputs>(
+    caller: &Caller<'_, T, O>,
+    arguments: &Arguments,
+) -> Result<Option<String>, Stop>
+    ensures { Does T.seen O.seen (option_map string_bytes) (input_given (arguments_data arguments.now)) caller.now result caller.now }
+{
+    let source_root = caller.store.settings().source_root.as_str();
+    let input = input_named(caller.alloc, source_root, caller.store.folder(), arguments)?;
+    caller.passed(input)
+}
+
+// The values of a dictionary.
+fn dictionary_given(alloc: Global, value: &Value) -> Result<Result<Given, Refused>, AllocError>
+    ensures { IfOk result (λ g. said_data given_view g ≡ dictionary_given (data_of value.now)) }
+{
+    match value {
+        Value::Dictionary(dictionary) => match entries_in(alloc, dictionary)? {
+            Ok(values) => Ok(Ok(Given {
+                values,
+                number: None,
+            })),
+            Err(refused) => Ok(Err(refused)),
+        },
+        _ => Ok(Err(Rule::IsValueName.refused(alloc, "")?)),
+    }
+}
+
+// The values of configuration data or of a dictionary.
+fn given_by(
+    alloc: Global,
+    store: &Store,
+    value: &Value,
+) -> Result<Result<Given, Refused>, AllocError>
+    ensures { IfOk result (λ g. said_data given_view g ≡ given_by (world_of store.now).facts (data_of value.now)) }
+{
+    match number_in(value) {
+        Some(number) => Ok(Ok(Given {
+            values: store.copy_of_configuration(alloc, number)?,
+            number: Some(number),
+        })),
+        None => dictionary_given(alloc, value),
+    }
+}
+
+// Those of the keyword `configuration`.
+fn configuration_given(
+    alloc: Global,
+    store: &Store,
+    arguments: &Arguments,
+) -> Result<Result<Given, Refused>, AllocError>
+    ensures { IfOk result (λ g. said_data given_view g
+        ≡ configuration_given (world_of store.now).facts (arguments_data arguments.now)) }
+{
+    match arguments.keyword("configuration") {
+        Some(value) => given_by(alloc, store, value),
+        None => Ok(Err(Rule::IsValueName.refused(alloc, "")?)),
+    }
+}
+
+/// The values of the keyword `configuration`.
+pub fn values_given<T: Tree, O: Outputs>(
+    caller: &Caller<'_, T, O>,
+    arguments: &Arguments,
+) -> Result<Given, Stop>
+    ensures { Does T.seen O.seen given_view (values_given (arguments_data arguments.now)) caller.now result caller.now }
+{
+    let given = configuration_given(caller.alloc, caller.store, arguments)?;
+    caller.passed(given)
+}

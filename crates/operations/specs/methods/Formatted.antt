@@ -1,0 +1,35 @@
+-- Texts with places for values.
+use Rattle.std.specs.Prelude.{ℕ, Bool, true, List, [], Option, Some, None, option_and_then, is_some, slice_get, Result, Err, if◌then◌else◌}
+use Rattle.std.specs.List.{list_all, flat_map}
+use Rattle.data.specs.declared.refusal.Refusal.{Refusal}
+use Rattle.data.specs.declared.refusal.Refusal.TheVariants as refusal
+use Rattle.data.specs.Data.{Data}
+use Rattle.data.specs.Limits.{within_bytes}
+use Rattle.data.specs.printing.Printed.{is_printable, shown}
+use Rattle.data.specs.declared.texts.placed.Places.TheVariants as places
+use Rattle.data.specs.texts.Segments.{Segment, text, place, segments, number_of}
+
+-- the value whose number stands between the two `@` of a place, counted from 0
+abbrev pub value_at : List Data → List ℕ → Option Data
+value_at values name = option_and_then (slice_get values) (number_of name)
+
+abbrev pub has_value : List Data → Segment → Bool
+has_value values (text t) = true
+has_value values (place name) = is_some (value_at values name)
+
+abbrev pub shown_or_none : Option Data → List ℕ
+shown_or_none None = []
+shown_or_none (Some d) = shown d
+
+-- what stands between places stays, and each place becomes what its value is printed as
+abbrev pub filled : List Data → Segment → List ℕ
+filled values (text t) = t
+filled values (place name) = shown_or_none (value_at values name)
+
+-- No value may be an object or hold one, also one that no place names; each place has a value; and the result is a text within the limit.
+abbrev pub formatted_text : List ℕ → List Data → Result (List ℕ) Refusal
+formatted_text t values =
+    if list_all is_printable values then
+    (if list_all (has_value values) (segments places.Numbers t) then within_bytes (flat_map (filled values) (segments places.Numbers t))
+    else Err refusal.Absent)
+    else Err refusal.Arguments

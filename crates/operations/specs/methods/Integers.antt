@@ -1,0 +1,35 @@
+-- The methods of integers: the type `int` of the page "Reference manual".
+use Rattle.std.specs.Prelude.{ℕ, ℤ, ◌%◌, ◌==◌, not, unsigned_abs, List, Result, Ok}
+use Rattle.std.specs.Fmt.{signed_decimal}
+use Rattle.data.specs.declared.refusal.Refusal.{Refusal}
+use Rattle.data.specs.Data.{Data, boolean, text}
+use Rattle.data.specs.Limits.{within}
+use Rattle.data.specs.declared.language_names.value_methods.IntegerMethod.{IntegerMethod}
+use Rattle.data.specs.declared.language_names.value_methods.IntegerMethod.TheVariants.{IsEven, IsOdd, ToString}
+use Rattle.operations.specs.methods.Steps.{◌>>=◌, called}
+use Rattle.operations.specs.methods.Arguments.{no_arguments}
+use Rattle.data.specs.language_names.ValueMethods.{integer_method_named}
+
+-- an integer is even where its distance from zero is
+abbrev pub is_even : ℤ → List Data → Result Data Refusal
+is_even z arguments = do
+  _ ← no_arguments arguments
+  Ok (boolean (unsigned_abs z % 2 == 0))
+
+abbrev pub is_odd : ℤ → List Data → Result Data Refusal
+is_odd z arguments = do
+  _ ← no_arguments arguments
+  Ok (boolean (not (unsigned_abs z % 2 == 0)))
+
+abbrev pub to_string : ℤ → List Data → Result Data Refusal
+to_string z arguments = do
+  _ ← no_arguments arguments
+  within (text (signed_decimal z))
+
+abbrev pub call : IntegerMethod → ℤ → List Data → Result Data Refusal
+call IsEven z arguments = is_even z arguments
+call IsOdd z arguments = is_odd z arguments
+call ToString z arguments = to_string z arguments
+
+abbrev pub answer : ℤ → List ℕ → List Data → Result Data Refusal
+answer z name arguments = called (integer_method_named name) (λ m. call m z arguments)

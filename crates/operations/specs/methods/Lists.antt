@@ -1,0 +1,57 @@
+-- The methods of lists: the type `list` of the page "Reference manual".
+use Rattle.std.specs.Prelude.{ℕ, pos, Bool, false, ◌||◌, List, Option, Some, None, Result, Ok, Err}
+use Rattle.data.specs.declared.refusal.Refusal.{Refusal}
+use Rattle.data.specs.declared.refusal.Refusal.TheVariants as refusal
+use Rattle.data.specs.Data.{Data, boolean, integer, text, list, dictionary, object, Items, no_items, item, count}
+use Rattle.data.specs.Same.{same}
+use Rattle.operations.specs.operators.Index.{indexed_item}
+use Rattle.data.specs.declared.language_names.value_methods.ListMethod.{ListMethod}
+use Rattle.data.specs.declared.language_names.value_methods.ListMethod.TheVariants.{Contains, Get, Length}
+use Rattle.operations.specs.methods.Steps.{◌>>=◌, called}
+use Rattle.operations.specs.methods.Arguments.{no_arguments, one_argument, key_and_fallback, integer_argument}
+use Rattle.data.specs.language_names.ValueMethods.{list_method_named}
+
+-- whether a value is an item, or stands in an item that is a list, at any depth
+abbrev mutual
+  pub stands_in : Data → Items → Bool
+  stands_in d no_items = false
+  stands_in d (item e es) = (same d e || stands_inside d e) || stands_in d es
+
+  pub stands_inside : Data → Data → Bool
+  stands_inside d (list es) = stands_in d es
+  stands_inside d (boolean b) = false
+  stands_inside d (integer z) = false
+  stands_inside d (text t) = false
+  stands_inside d (dictionary es) = false
+  stands_inside d (object o) = false
+
+abbrev pub contains : Items → List Data → Result Data Refusal
+contains ds arguments = do
+  d ← one_argument arguments
+  Ok (boolean (stands_in d ds))
+
+-- what was found, or else a value in its place
+abbrev pub found_or : Option Data → Option Data → Result Data Refusal
+found_or (Some d) fallback = Ok d
+found_or None (Some fallback) = Ok fallback
+found_or None None = Err refusal.Absent
+
+-- the item that an index means, as between brackets
+abbrev pub get : Items → List Data → Result Data Refusal
+get ds arguments = do
+  asked ← key_and_fallback arguments
+  i ← integer_argument asked.0
+  found_or (indexed_item ds i) asked.1
+
+abbrev pub len : Items → List Data → Result Data Refusal
+len ds arguments = do
+  _ ← no_arguments arguments
+  Ok (integer (pos (count ds)))
+
+abbrev pub call : ListMethod → Items → List Data → Result Data Refusal
+call Contains ds arguments = contains ds arguments
+call Get ds arguments = get ds arguments
+call Length ds arguments = len ds arguments
+
+abbrev pub answer : Items → List ℕ → List Data → Result Data Refusal
+answer ds name arguments = called (list_method_named name) (λ m. call m ds arguments)

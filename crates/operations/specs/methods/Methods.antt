@@ -1,0 +1,30 @@
+-- The methods of values that are no objects, by the type of the receiver.
+use Rattle.std.specs.Prelude.{ℕ, Bool, false, List, is_some, Result, Err}
+use Rattle.data.specs.declared.refusal.Refusal.{Refusal}
+use Rattle.data.specs.declared.refusal.Refusal.TheVariants as refusal
+use Rattle.data.specs.Data.{Data, boolean, integer, text, list, dictionary, object}
+use Rattle.data.specs.language_names.ValueMethods.{boolean_method_named, dictionary_method_named, integer_method_named, list_method_named}
+use Rattle.data.specs.language_names.ValueMethods.{text_method_named}
+use Rattle.operations.specs.methods.Integers as integers
+use Rattle.operations.specs.methods.Booleans as booleans
+use Rattle.operations.specs.methods.TextMethods as texts
+use Rattle.operations.specs.methods.Lists as lists
+use Rattle.operations.specs.methods.Dictionaries as dictionaries
+
+-- what a method of a receiver gives, or why it gives nothing: first its name is looked at, then its arguments
+abbrev pub answer : Data → List ℕ → List Data → Result Data Refusal
+answer (boolean b) name arguments = booleans.answer b name arguments
+answer (integer z) name arguments = integers.answer z name arguments
+answer (text t) name arguments = texts.answer t name arguments
+answer (list ds) name arguments = lists.answer ds name arguments
+answer (dictionary es) name arguments = dictionaries.answer es name arguments
+answer (object o) name arguments = Err refusal.UnknownMethod
+
+-- whether the type of a receiver has a method of a name
+abbrev pub has_name : Data → List ℕ → Bool
+has_name (boolean b) name = is_some (boolean_method_named name)
+has_name (integer z) name = is_some (integer_method_named name)
+has_name (text t) name = is_some (text_method_named name)
+has_name (list ds) name = is_some (list_method_named name)
+has_name (dictionary es) name = is_some (dictionary_method_named name)
+has_name (object o) name = false

@@ -1,0 +1,26 @@
+-- Steps of a call, each of which may be refused, and what a call answers.
+use Rattle.std.specs.Prelude.{◌≡◌, Option, ok_or, Result, Ok, Err}
+use Rattle.data.specs.declared.refusal.Refusal.{Refusal}
+use Rattle.data.specs.declared.refusal.Refusal.TheVariants as refusal
+use Rattle.data.specs.declared.value.Value.{Value}
+use Rattle.data.specs.Data.{Data}
+use Rattle.data.specs.View.{data_of}
+use Rattle.operations.specs.declared.methods.stop.Stop.{Stop}
+use Rattle.operations.specs.declared.methods.stop.Stop.TheVariants as stop
+
+infixl 10 ◌>>=◌
+abbrev pub ◌>>=◌ : {A B : Type 0} → Result A Refusal → (A → Result B Refusal) → Result B Refusal
+Ok x >>= f = f x
+Err e >>= f = Err e
+
+-- what is answered by the method that a name names, or that there is none of that name (E8)
+abbrev pub called : {M : Type 0} → (named : Option M) → (M → Result Data Refusal) → Result Data Refusal
+called named answer = do
+  method ← ok_or named refusal.UnknownMethod
+  answer method
+
+-- the call answers what is given: a value that stands for it, or its refusal; or memory ran out
+abbrev pub Gives : Result Data Refusal → Result Value Stop → Type 0
+Gives given (Ok v) = given ≡ Ok (data_of v)
+Gives given (Err (stop.Refused r)) = given ≡ Err r
+Gives given (Err (stop.Memory e)) = Unit {0}

@@ -1,0 +1,65 @@
+-- What each method takes, in words, and of which values.
+use Rattle.std.specs.Prelude.{ℕ, List, [], Option, Some, None, codes}
+use Rattle.data.specs.Data.{Data, boolean, integer, text, list, dictionary, object}
+use Rattle.data.specs.language_names.ValueMethods.{boolean_method_named, dictionary_method_named, integer_method_named, list_method_named}
+use Rattle.data.specs.language_names.ValueMethods.{text_method_named}
+use Rattle.data.specs.declared.language_names.value_methods.BooleanMethod.{BooleanMethod}
+use Rattle.data.specs.declared.language_names.value_methods.BooleanMethod.TheVariants as of_boolean
+use Rattle.data.specs.declared.language_names.value_methods.IntegerMethod.{IntegerMethod}
+use Rattle.data.specs.declared.language_names.value_methods.IntegerMethod.TheVariants as of_integer
+use Rattle.data.specs.declared.language_names.value_methods.ListMethod.{ListMethod}
+use Rattle.data.specs.declared.language_names.value_methods.ListMethod.TheVariants as of_list
+use Rattle.data.specs.declared.language_names.value_methods.DictionaryMethod.{DictionaryMethod}
+use Rattle.data.specs.declared.language_names.value_methods.DictionaryMethod.TheVariants as of_dictionary
+use Rattle.data.specs.declared.language_names.value_methods.TextMethod.{TextMethod}
+use Rattle.data.specs.declared.language_names.value_methods.TextMethod.TheVariants as of_text
+
+abbrev pub boolean_takes : BooleanMethod → List ℕ
+boolean_takes of_boolean.ToInt = codes "no arguments"
+boolean_takes of_boolean.ToString = codes "no arguments, or two texts"
+
+abbrev pub integer_takes : IntegerMethod → List ℕ
+integer_takes of_integer.IsEven = codes "no arguments"
+integer_takes of_integer.IsOdd = codes "no arguments"
+integer_takes of_integer.ToString = codes "no arguments"
+
+abbrev pub list_takes : ListMethod → List ℕ
+list_takes of_list.Contains = codes "one value"
+list_takes of_list.Get = codes "an integer, or an integer and a value in its place"
+list_takes of_list.Length = codes "no arguments"
+
+abbrev pub dictionary_takes : DictionaryMethod → List ℕ
+dictionary_takes of_dictionary.Get = codes "a text, or a text and a value in its place"
+dictionary_takes of_dictionary.HasKey = codes "one text"
+dictionary_takes of_dictionary.Keys = codes "no arguments"
+
+abbrev pub text_takes : TextMethod → List ℕ
+text_takes of_text.Contains = codes "one text"
+text_takes of_text.StartsWith = codes "one text"
+text_takes of_text.EndsWith = codes "one text"
+text_takes of_text.Format = codes "values that are no objects and hold none"
+text_takes of_text.Join = codes "texts and lists of texts"
+text_takes of_text.Replace = codes "two texts, of which the first is not empty"
+text_takes of_text.Split = codes "no arguments, or one text that is not empty"
+text_takes of_text.SplitLines = codes "no arguments"
+text_takes of_text.Strip = codes "no arguments, or one text"
+text_takes of_text.Substring = codes "at most two integers"
+text_takes of_text.ToInt = codes "no arguments, of a text that is an integer"
+text_takes of_text.ToLower = codes "no arguments"
+text_takes of_text.ToUpper = codes "no arguments"
+text_takes of_text.Underscorify = codes "no arguments"
+text_takes of_text.VersionCompare = codes "one text"
+
+-- the words of a method, where there is one
+abbrev pub words_of : {A : Type 0} → (A → List ℕ) → Option A → List ℕ
+words_of words (Some method) = words method
+words_of words None = []
+
+-- what the method of a name takes, by the type of the receiver
+abbrev pub takes_words : Data → List ℕ → List ℕ
+takes_words (boolean b) name = words_of boolean_takes (boolean_method_named name)
+takes_words (integer z) name = words_of integer_takes (integer_method_named name)
+takes_words (text t) name = words_of text_takes (text_method_named name)
+takes_words (list ds) name = words_of list_takes (list_method_named name)
+takes_words (dictionary es) name = words_of dictionary_takes (dictionary_method_named name)
+takes_words (object o) name = []

@@ -1,0 +1,141 @@
+-- The methods of texts: the type `str` of the page "Reference manual".
+use Rattle.std.specs.Prelude.{ℕ, List, [], map, nat_eq, Result, Ok}
+use Rattle.std.specs.Char.{to_ascii_lowercase, to_ascii_uppercase}
+use Rattle.std.specs.List as lists
+use Rattle.data.specs.declared.refusal.Refusal.{Refusal}
+use Rattle.data.specs.Data.{Data, boolean, integer, text}
+use Rattle.data.specs.Limits.{within}
+use Rattle.data.specs.texts.Search as search
+use Rattle.data.specs.texts.Joined.{joined, replaced}
+use Rattle.data.specs.texts.Letters.{underscorified}
+use Rattle.data.specs.texts.Number.{integer_of}
+use Rattle.data.specs.texts.Part.{part}
+use Rattle.data.specs.texts.Pieces as pieces
+use Rattle.data.specs.texts.Strip.{stripped, is_blank, is_among}
+use Rattle.data.specs.texts.Condition.{meets}
+use Rattle.data.specs.declared.language_names.value_methods.TextMethod.{TextMethod}
+use Rattle.data.specs.declared.language_names.value_methods.TextMethod.TheVariants as method
+use Rattle.operations.specs.methods.Steps.{◌>>=◌, called}
+use Rattle.operations.specs.methods.Arguments.{no_arguments, one_text, two_texts, bounds}
+use Rattle.operations.specs.methods.FlatTexts.{flat_texts}
+use Rattle.operations.specs.methods.Formatted.{formatted_text}
+use Rattle.operations.specs.operators.TextLists.{text_list}
+use Rattle.data.specs.language_names.ValueMethods.{text_method_named}
+
+-- `contains`
+abbrev pub contains : List ℕ → List Data → Result Data Refusal
+contains t arguments = do
+  s ← one_text arguments
+  Ok (boolean (search.contains t s))
+
+-- `startswith`
+abbrev pub starts_with : List ℕ → List Data → Result Data Refusal
+starts_with t arguments = do
+  s ← one_text arguments
+  Ok (boolean (lists.starts_with nat_eq t s))
+
+-- `endswith`
+abbrev pub ends_with : List ℕ → List Data → Result Data Refusal
+ends_with t arguments = do
+  s ← one_text arguments
+  Ok (boolean (lists.ends_with nat_eq t s))
+
+-- `format`
+abbrev pub format : List ℕ → List Data → Result Data Refusal
+format t arguments = do
+  s ← formatted_text t arguments
+  within (text s)
+
+-- `join`: the text stands between each two texts of the arguments
+abbrev pub join : List ℕ → List Data → Result Data Refusal
+join t arguments = do
+  ts ← flat_texts arguments
+  within (text (joined t ts))
+
+-- `replace`
+abbrev pub replace : List ℕ → List Data → Result Data Refusal
+replace t arguments = do
+  both ← two_texts arguments
+  s ← replaced t both.0 both.1
+  within (text s)
+
+-- `split`: without an argument at white space
+abbrev pub split : List ℕ → List Data → Result Data Refusal
+split t [] = do
+  found ← pieces.within_items (pieces.words t)
+  text_list found
+split t arguments = do
+  separator ← one_text arguments
+  found ← pieces.split_at t separator
+  text_list found
+
+-- `splitlines`
+abbrev pub split_lines : List ℕ → List Data → Result Data Refusal
+split_lines t arguments = do
+  _ ← no_arguments arguments
+  found ← pieces.within_items (pieces.lines t)
+  text_list found
+
+-- `strip`: without an argument white space is taken away
+abbrev pub strip : List ℕ → List Data → Result Data Refusal
+strip t [] = within (text (stripped is_blank t))
+strip t arguments = do
+  set ← one_text arguments
+  within (text (stripped (is_among set) t))
+
+-- `substring`
+abbrev pub substring : List ℕ → List Data → Result Data Refusal
+substring t arguments = do
+  ends ← bounds arguments
+  within (text (part ends.0 ends.1 t))
+
+-- `to_int`
+abbrev pub to_int : List ℕ → List Data → Result Data Refusal
+to_int t arguments = do
+  _ ← no_arguments arguments
+  z ← integer_of t
+  Ok (integer z)
+
+-- `to_lower`
+abbrev pub to_lower : List ℕ → List Data → Result Data Refusal
+to_lower t arguments = do
+  _ ← no_arguments arguments
+  within (text (map to_ascii_lowercase t))
+
+-- `to_upper`
+abbrev pub to_upper : List ℕ → List Data → Result Data Refusal
+to_upper t arguments = do
+  _ ← no_arguments arguments
+  within (text (map to_ascii_uppercase t))
+
+-- `underscorify`
+abbrev pub underscorify : List ℕ → List Data → Result Data Refusal
+underscorify t arguments = do
+  _ ← no_arguments arguments
+  within (text (underscorified t))
+
+-- `version_compare`
+abbrev pub version_compare : List ℕ → List Data → Result Data Refusal
+version_compare t arguments = do
+  condition ← one_text arguments
+  Ok (boolean (meets t condition))
+
+abbrev pub call : TextMethod → List ℕ → List Data → Result Data Refusal
+call method.Contains t arguments = contains t arguments
+call method.StartsWith t arguments = starts_with t arguments
+call method.EndsWith t arguments = ends_with t arguments
+call method.Format t arguments = format t arguments
+call method.Join t arguments = join t arguments
+call method.Replace t arguments = replace t arguments
+call method.Split t arguments = split t arguments
+call method.SplitLines t arguments = split_lines t arguments
+call method.Strip t arguments = strip t arguments
+call method.Substring t arguments = substring t arguments
+call method.ToInt t arguments = to_int t arguments
+call method.ToLower t arguments = to_lower t arguments
+call method.ToUpper t arguments = to_upper t arguments
+call method.Underscorify t arguments = underscorify t arguments
+call method.VersionCompare t arguments = version_compare t arguments
+
+abbrev pub answer : List ℕ → List ℕ → List Data → Result Data Refusal
+answer t name arguments = called (text_method_named name) (λ m. call m t arguments)

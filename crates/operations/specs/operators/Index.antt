@@ -1,0 +1,66 @@
+-- `whole[index]`: a part of a list, a text, a dictionary or a custom target.
+use Rattle.std.specs.Prelude.{ℕ, zero, suc, ℤ, pos, negsuc, ◌-◌, nat_lt, ◌||◌, List, length, Option, Some, None, option_map}
+use Rattle.std.specs.Prelude.{option_and_then, ok_or, slice_get, Result, Ok, Err, if◌then◌else◌}
+use Rattle.std.specs.Str.{chars}
+use Rattle.std.specs.Char.{encode_utf8}
+use Rattle.data.specs.declared.object.Object.{Object}
+use Rattle.data.specs.declared.object.Object.TheVariants as TheObject
+use Rattle.data.specs.declared.refusal.Refusal.{Refusal}
+use Rattle.data.specs.declared.refusal.Refusal.TheVariants as refusal
+use Rattle.data.specs.Data.{Data, integer, text, list, dictionary, object, Items, no_items, item, count, find, is_disabler}
+use Rattle.operations.specs.operators.Operations.{disabler}
+
+-- The place that an index means among so many parts. `negsuc i` is -(i + 1): negative ones count from the end, and -1 is the last.
+abbrev pub place : ℤ → ℕ → Option ℕ
+place (pos i) n = if nat_lt i n then Some i else None
+place (negsuc i) n = if nat_lt i n then Some (n - suc i) else None
+
+-- the item at a place
+abbrev pub item_at : Items → ℕ → Option Data
+item_at no_items k = None
+item_at (item d ds) zero = Some d
+item_at (item d ds) (suc k) = item_at ds k
+
+-- the item that an index means
+abbrev pub indexed_item : Items → ℤ → Option Data
+indexed_item ds i = option_and_then (item_at ds) (place i (count ds))
+
+-- the character that an index means, by its number
+abbrev pub indexed_char : List ℕ → ℤ → Option ℕ
+indexed_char t i = option_and_then (slice_get (chars t)) (place i (length (chars t)))
+
+-- the text of a character, where there is one
+abbrev pub char_text : Option ℕ → Option Data
+char_text c = option_map (λ n. text (encode_utf8 n)) c
+
+-- the output of a custom target that an index means
+abbrev pub indexed_output : ℕ → ℕ → ℤ → Option Object
+indexed_output number outputs i = option_map (TheObject.CustomOutput number) (place i outputs)
+
+-- the part, where there is one
+abbrev pub part : Data → Data → Option Data
+part (list ds) (integer i) = indexed_item ds i
+part (text t) (integer i) = char_text (indexed_char t i)
+part (dictionary es) (text k) = find k es
+part (object (TheObject.CustomTarget number outputs)) (integer i) = option_map object (indexed_output number outputs i)
+part _ _ = None
+
+-- an index of the right type means no part, or else the types are wrong
+abbrev pub part_refusal : Data → Data → Refusal
+part_refusal (list ds) (integer i) = refusal.Absent
+part_refusal (text t) (integer i) = refusal.Absent
+part_refusal (dictionary es) (text k) = refusal.Absent
+part_refusal (object (TheObject.CustomTarget number outputs)) (integer i) = refusal.Absent
+part_refusal _ _ = refusal.Type
+
+-- what an integer as index gives for an object
+abbrev pub output_outcome : Object → ℤ → Result Object Refusal
+output_outcome (TheObject.CustomTarget number outputs) i = ok_or (indexed_output number outputs i) refusal.Absent
+output_outcome _ i = Err refusal.Type
+
+abbrev pub part_outcome : Data → Data → Result Data Refusal
+part_outcome d i = ok_or (part d i) (part_refusal d i)
+
+-- a disabler, as the whole or as the index, gives a disabler
+abbrev pub index_answer : Data → Data → Result Data Refusal
+index_answer d i = if is_disabler d || is_disabler i then Ok disabler else part_outcome d i

@@ -1,0 +1,47 @@
+-- A dictionary literal: what comes of its keys and values, in order.
+use Rattle.std.specs.Prelude.{◌≡◌, List, [], ◌∷◌, is_some, Result, Ok, Err, if◌then◌else◌}
+use Rattle.data.specs.declared.refusal.Refusal.{Refusal}
+use Rattle.data.specs.declared.refusal.Refusal.TheVariants as refusal
+use Rattle.data.specs.Data.{Data, text, dictionary, Entries, no_entries, put, find}
+use Rattle.data.specs.Limits.{within}
+use Rattle.data.specs.View.{data_of}
+use Rattle.data.specs.declared.value.Value.{Value}
+use Rattle.operations.specs.declared.operators.literal.LiteralRefusal.{LiteralRefusal}
+use Rattle.operations.specs.declared.operators.literal.LiteralRefusal.TheVariants as literals
+
+infixl 10 ◌>>=◌
+abbrev pub ◌>>=◌ : {A B : Type 0} → Result A LiteralRefusal → (A → Result B LiteralRefusal) → Result B LiteralRefusal
+Ok x >>= f = f x
+Err e >>= f = Err e
+
+-- the entries with one more: its key has to be a text, and none that is there
+abbrev pub with_entry : Entries → Data → Data → Result Entries LiteralRefusal
+with_entry es (text k) d = if is_some (find k es) then Err (literals.Twice k) else Ok (put k d es)
+with_entry es k d = Err (literals.Refused refusal.Type)
+
+-- the entries with all of these, or the refusal of the first key that is none
+abbrev pub with_entries : Entries → List (Data × Data) → Result Entries LiteralRefusal
+with_entries es [] = Ok es
+with_entries es (p ∷ ps) = do
+  more ← with_entry es p.0 p.1
+  with_entries more ps
+
+abbrev pub refused : Result Data Refusal → Result Data LiteralRefusal
+refused (Ok d) = Ok d
+refused (Err refusal) = Err (literals.Refused refusal)
+
+-- The literal's value. Its size is looked at last.
+abbrev pub literal_answer : List (Data × Data) → Result Data LiteralRefusal
+literal_answer ps = do
+  es ← with_entries no_entries ps
+  refused (within (dictionary es))
+
+-- the literal gives what is given: a value that stands for it, or its refusal
+abbrev pub Makes : Result Data LiteralRefusal → Result Value LiteralRefusal → Type 0
+Makes given (Ok v) = given ≡ Ok (data_of v)
+Makes given (Err refusal) = given ≡ Err refusal
+
+-- the keys and values as plain data
+abbrev pub pairs_of : List (Value × Value) → List (Data × Data)
+pairs_of [] = []
+pairs_of (p ∷ ps) = (data_of p.0, data_of p.1) ∷ pairs_of ps

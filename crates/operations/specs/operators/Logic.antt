@@ -1,0 +1,33 @@
+-- `and` and `or`: the left side decides, or the right side does.
+use Rattle.std.specs.Prelude.{◌≡◌, true, false, Option, Some, None, Result, Ok, Err}
+use Rattle.data.specs.declared.object.Object.TheVariants as TheObject
+use Rattle.data.specs.declared.refusal.Refusal.{Refusal}
+use Rattle.data.specs.declared.refusal.Refusal.TheVariants as refusal
+use Rattle.data.specs.Data.{Data, boolean, object}
+use Rattle.data.specs.View.{data_of}
+use Rattle.operations.specs.declared.operators.operator.Connective.{Connective}
+use Rattle.operations.specs.declared.operators.operator.Connective.TheVariants.{And, Or}
+use Rattle.operations.specs.declared.operators.logic.Left.{Left}
+use Rattle.operations.specs.declared.operators.logic.Left.TheVariants as left
+use Rattle.operations.specs.operators.Operations.{disabler}
+
+-- What the left side of `and` or `or` says: a value, where the right side is left alone; `None`, where the right side decides.
+abbrev pub left_answer : Connective → Data → Result (Option Data) Refusal
+left_answer And (boolean false) = Ok (Some (boolean false))
+left_answer And (boolean true) = Ok None
+left_answer Or (boolean true) = Ok (Some (boolean true))
+left_answer Or (boolean false) = Ok None
+left_answer connective (object TheObject.Disabler) = Ok (Some disabler)
+left_answer connective d = Err refusal.Type
+
+-- what the right side of `and` or `or` gives, where it decides
+abbrev pub right_answer : Data → Result Data Refusal
+right_answer (boolean b) = Ok (boolean b)
+right_answer (object TheObject.Disabler) = Ok disabler
+right_answer d = Err refusal.Type
+
+-- the call says of the left side what is given: a value that stands for the whole, that the right side decides, or its refusal
+abbrev pub LeftAnswers : Connective → Data → Result Left Refusal → Type 0
+LeftAnswers connective d (Ok (left.Decides v)) = left_answer connective d ≡ Ok (Some (data_of v))
+LeftAnswers connective d (Ok left.Open) = left_answer connective d ≡ Ok None
+LeftAnswers connective d (Err r) = left_answer connective d ≡ Err r

@@ -1,0 +1,72 @@
+-- The operators. A first table says what an operator gives, a second one why it gives nothing.
+use Rattle.std.specs.Prelude.{Bool, true, false, not, ◌||◌, Option, Some, None, option_map, Result, Ok, Err, if◌then◌else◌}
+use Rattle.std.specs.Ordering.{is_lt, is_le, is_gt, is_ge}
+use Rattle.data.specs.declared.object.Object.TheVariants as TheObject
+use Rattle.data.specs.declared.refusal.Refusal.{Refusal}
+use Rattle.data.specs.declared.refusal.Refusal.TheVariants as refusal
+use Rattle.data.specs.Data.{Data, boolean, integer, object, is_disabler}
+use Rattle.data.specs.Limits.{within}
+use Rattle.operations.specs.declared.operators.operator.Unary.{Unary}
+use Rattle.operations.specs.declared.operators.operator.Unary.TheVariants.{Not, Negate}
+use Rattle.operations.specs.declared.operators.operator.Binary.{Binary}
+use Rattle.operations.specs.declared.operators.operator.Binary.TheVariants.{Add, Subtract, Multiply, Divide, Remainder, Equal, NotEqual}
+use Rattle.operations.specs.declared.operators.operator.Binary.TheVariants.{Less}
+use Rattle.operations.specs.declared.operators.operator.Binary.TheVariants.{LessOrEqual, Greater, GreaterOrEqual, In, NotIn}
+use Rattle.operations.specs.operators.Rows as rows
+
+abbrev pub unary_value : Unary → Data → Option Data
+unary_value Not d = rows.negation d
+unary_value Negate d = rows.opposite d
+
+abbrev pub binary_value : Binary → Data → Data → Option Data
+binary_value Add d e = rows.sum d e
+binary_value Subtract d e = rows.difference d e
+binary_value Multiply d e = rows.product d e
+binary_value Divide d e = rows.quotient d e
+binary_value Remainder d e = rows.remainder d e
+binary_value Equal d e = option_map boolean (rows.equality d e)
+binary_value NotEqual d e = option_map boolean (option_map not (rows.equality d e))
+binary_value Less d e = option_map boolean (option_map is_lt (rows.order d e))
+binary_value LessOrEqual d e = option_map boolean (option_map is_le (rows.order d e))
+binary_value Greater d e = option_map boolean (option_map is_gt (rows.order d e))
+binary_value GreaterOrEqual d e = option_map boolean (option_map is_ge (rows.order d e))
+binary_value In d e = option_map boolean (rows.membership d e)
+binary_value NotIn d e = option_map boolean (option_map not (rows.membership d e))
+
+-- an integer whose opposite is out of range, or else a wrong type
+abbrev pub unary_refusal : Unary → Data → Refusal
+unary_refusal Negate (integer z) = refusal.Range
+unary_refusal _ _ = refusal.Type
+
+-- integers whose result is out of range or whose divisor is zero, or else wrong types
+abbrev pub binary_refusal : Binary → Data → Data → Refusal
+binary_refusal In d e = refusal.Type
+binary_refusal NotIn d e = refusal.Type
+binary_refusal operator (integer x) (integer y) = refusal.Range
+binary_refusal operator d e = refusal.Type
+
+-- what an operation answers: a value within the limits, or why there is none
+abbrev pub answer : Option Data → Refusal → Result Data Refusal
+answer (Some d) otherwise = within d
+answer None otherwise = Err otherwise
+
+-- what both tables say together
+abbrev pub unary_outcome : Unary → Data → Result Data Refusal
+unary_outcome operator d = answer (unary_value operator d) (unary_refusal operator d)
+
+abbrev pub binary_outcome : Binary → Data → Data → Result Data Refusal
+binary_outcome operator d e = answer (binary_value operator d e) (binary_refusal operator d e)
+
+abbrev pub disabler : Data
+disabler = object TheObject.Disabler
+
+-- an operand that is a disabler gives a disabler
+abbrev pub unary_answer : Unary → Data → Result Data Refusal
+unary_answer operator d = if is_disabler d then Ok disabler else unary_outcome operator d
+
+abbrev pub binary_answer : Binary → Data → Data → Result Data Refusal
+binary_answer operator d e = if is_disabler d || is_disabler e then Ok disabler else binary_outcome operator d e
+
+abbrev pub are_integers : Data → Data → Bool
+are_integers (integer x) (integer y) = true
+are_integers _ _ = false

@@ -1,0 +1,51 @@
+//! The methods of booleans: the type `bool` of the page "Reference manual".
+
+ghost use Rattle.std.specs.Prelude.{map};
+ghost use Rattle.data.specs.Prelude.{data_of};
+ghost use Rattle.operations.specs.methods.Steps.{Gives};
+ghost use Rattle.operations.specs.methods.Booleans.{to_int, to_string, answer};
+
+use crate::methods::readers::none;
+use crate::methods::stop::Stop;
+use data::language_names::{BooleanMethod, MethodName};
+use data::{Refusal, Value};
+use std::alloc::Global;
+
+/// What the method with a name gives for a boolean.
+pub fn boolean_method(
+    alloc: Global,
+    boolean: bool,
+    name: &MethodName,
+    arguments: &[Value],
+) -> Result<Value, Stop>
+    ensures { Gives (answer boolean name.now (map data_of arguments.now)) result }
+{
+    let method = name.of_boolean().ok_or(Refusal::UnknownMethod)?;
+    match method {
+        BooleanMethod::ToInt => to_int(boolean, arguments),
+        BooleanMethod::ToString => to_string(alloc, boolean, arguments),
+    }
+}
+
+fn to_int(boolean: bool, arguments: &[Value]) -> Result<Value, Stop>
+    ensures { Gives (to_int boolean (map data_of arguments.now)) result }
+{
+    none(arguments)?;
+    Ok(Value::Integer(if boolean { 1 } else { 0 }))
+}
+
+fn to_string(alloc: Global, boolean: bool, arguments: &[Value]) -> Result<Value, Stop>
+    ensures { Gives (to_string boolean (map data_of arguments.now)) result }
+{
+    match arguments {
+        [] => {
+            let word = if boolean { "true" } else { "false" };
+            Ok(Value::of_str(alloc, word)??)
+        }
+        [Value::Text(yes), Value::Text(no)] => {
+            let word = if boolean { yes } else { no };
+            Ok(Value::Text(word.clone()?))
+        }
+        _ => Err(Stop::Refused(Refusal::Arguments)),
+    }
+}

@@ -1,0 +1,86 @@
+//! The methods of dictionaries: the type `dict` of the page "Reference manual".
+
+ghost use Rattle.std.specs.Prelude.{◌≡◌, [], map, IfOk};
+ghost use Rattle.data.specs.Data.{keys_in};
+ghost use Rattle.data.specs.Prelude.{data_of, items_of};
+ghost use Rattle.operations.specs.methods.Steps.{Gives};
+ghost use Rattle.operations.specs.methods.TextLists.{texts};
+ghost use Rattle.operations.specs.methods.Dictionaries.{get, has_key, keys, sorted_with, answer};
+
+use crate::methods::lists::found_or;
+use crate::methods::readers::{key_and_fallback, none, one, text};
+use crate::methods::stop::Stop;
+use crate::operators::list;
+use data::language_names::{DictionaryMethod, MethodName};
+use data::{Dictionary, Refusal, Text, Value};
+use std::alloc::{AllocError, Global};
+use std::collections::BTreeSet;
+
+/// What the method with a name gives for a dictionary.
+pub fn dictionary_method(
+    alloc: Global,
+    dictionary: &Dictionary,
+    name: &MethodName,
+    arguments: &[Value],
+) -> Result<Value, Stop>
+    ensures { Gives (answer dictionary.now name.now (map data_of arguments.now)) result }
+{
+    let method = name.of_dictionary().ok_or(Refusal::UnknownMethod)?;
+    match method {
+        DictionaryMethod::Get => get(dictionary, arguments),
+        DictionaryMethod::HasKey => has_key(dictionary, arguments),
+        DictionaryMethod::Keys => keys(alloc, dictionary, arguments),
+    }
+}
+
+fn get(dictionary: &Dictionary, arguments: &[Value]) -> Result<Value, Stop>
+    ensures { Gives (get dictionary.now (map data_of arguments.now)) result }
+{
+    let (key, fallback) = key_and_fallback(arguments)?;
+    let key = text(key)?;
+    found_or(dictionary.get(key), fallback)
+}
+
+fn has_key(dictionary: &Dictionary, arguments: &[Value]) -> Result<Value, Stop>
+    ensures { Gives (has_key dictionary.now (map data_of arguments.now)) result }
+{
+    let key = text(one(arguments)?)?;
+    Ok(Value::Boolean(dictionary.get(key).is_some()))
+}
+
+fn keys(alloc: Global, dictionary: &Dictionary, arguments: &[Value]) -> Result<Value, Stop>
+    ensures { Gives (keys dictionary.now (map data_of arguments.now)) result }
+{
+    none(arguments)?;
+    let keys = key_values(alloc, &sorted_keys(alloc, dictionary)?)?;
+    Ok(list(alloc, keys)??)
+}
+
+// The keys, in the order of their bytes.
+fn sorted_keys(alloc: Global, dictionary: &Dictionary) -> Result<Vec<&Text>, AllocError>
+    ensures { IfOk result (λ ks. map (λ k. k.now) ks.items ≡ sorted_with [] (keys_in dictionary.now)) }
+{
+    let sorted = key_set(alloc, dictionary.keys())?;
+    sorted.into_iter().collect(alloc)
+}
+
+fn key_set<'d>(alloc: Global, keys: &'d [Text]) -> Result<BTreeSet<&'d Text>, AllocError>
+    ensures { IfOk result (λ s. map (λ k. k.now) s.keys ≡ sorted_with [] keys.entry.now) }
+{
+    let mut sorted = BTreeSet::new(alloc);
+    for key in keys {
+        sorted.insert(key)?;
+    }
+    Ok(sorted)
+}
+
+// The keys as values. They are shared, and no byte is copied.
+fn key_values(alloc: Global, keys: &[&Text]) -> Result<Vec<Value>, AllocError>
+    ensures { IfOk result (λ vs. items_of vs.items ≡ texts (map (λ k. k.now) keys.now)) }
+{
+    let mut values = Vec::new(alloc);
+    for key in keys {
+        values.push(Value::Text((*key).clone()?))?;
+    }
+    Ok(values)
+}

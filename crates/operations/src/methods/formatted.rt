@@ -1,0 +1,110 @@
+//! Texts with places for values.
+
+ghost use Rattle.std.specs.Prelude.{◌≡◌, map, option_map, IfOk};
+ghost use Rattle.std.specs.List.{list_all, flat_map};
+ghost use Rattle.data.specs.Prelude.{Appends, data_of};
+ghost use Rattle.data.specs.printing.Printed.{is_printable};
+ghost use Rattle.data.specs.texts.Segments.{segment_data};
+ghost use Rattle.operations.specs.methods.Formatted.{formatted_text, has_value, value_at, filled};
+
+use data::printing::{is_printable, write};
+use data::texts::{Places, Segment, number_of, segments};
+use data::{Refusal, Text, Value};
+use std::alloc::{AllocError, Global};
+
+/// The text with the printed value of number N, counted from 0, at each place `@N@`: the method `format` of the type
+/// `str` of the page "Reference manual".
+///
+/// `Refusal::Arguments` where one of the values is an object or holds one, also where no place names it; then
+/// `Refusal::Absent` where there is no value for a place; and then `Refusal::Limit` where the result is longer than
+/// 16,777,216 bytes. A value that no place names is not printed.
+pub fn format_text(
+    alloc: Global,
+    text: &str,
+    values: &[Value],
+) -> Result<Result<Text, Refusal>, AllocError>
+    ensures { IfOk result (λ r. r ≡ formatted_text text.now (map data_of values.now)) }
+{
+    if !are_printable(values) {
+        return Ok(Err(Refusal::Arguments));
+    }
+    let segments = segments(alloc, Places::Numbers, text)?;
+    if !have_values(&segments, values) {
+        return Ok(Err(Refusal::Absent));
+    }
+    let mut made = Text::empty();
+    match write_segments(alloc, &mut made, &segments, values)? {
+        Ok(()) => Ok(Ok(made)),
+        Err(refusal) => Ok(Err(refusal)),
+    }
+}
+
+fn are_printable(values: &[Value]) -> bool
+    ensures { result ≡ list_all (λ v. is_printable (data_of v)) values.now }
+{
+    values.iter().all(|value| is_printable(value))
+}
+
+fn have_values(segments: &[Segment<'_>], values: &[Value]) -> bool
+    ensures { result ≡ list_all (has_value (map data_of values.now)) (map segment_data segments.now) }
+{
+    for segment in segments {
+        if !has_value(*segment, values) {
+            return false;
+        }
+    }
+    true
+}
+
+fn has_value(segment: Segment<'_>, values: &[Value]) -> bool
+    ensures { result ≡ has_value (map data_of values.now) (segment_data segment.entry) }
+{
+    match segment {
+        Segment::Text(_) => true,
+        Segment::Place(name) => value_at(name, values).is_some(),
+    }
+}
+
+fn value_at<'v>(name: &str, values: &'v [Value]) -> Option<&'v Value>
+    ensures { option_map (λ v. data_of v.now) result ≡ value_at (map data_of values.entry.now) name.now }
+{
+    let number = number_of(name)?;
+    values.get(number)
+}
+
+// Puts the segments behind a text, with values in their places.
+fn write_segments(
+    alloc: Global,
+    made: &mut Text,
+    segments: &[Segment<'_>],
+    values: &[Value],
+) -> Result<Result<(), Refusal>, AllocError>
+    ensures { IfOk result (λ r. Appends made.old (flat_map (filled (map data_of values.now)) (map segment_data segments.now))
+        made.new r) }
+{
+    let _within = made.as_str();
+    for segment in segments {
+        if let Err(refusal) = write_segment(alloc, made, *segment, values)? {
+            return Ok(Err(refusal));
+        }
+    }
+    Ok(Ok(()))
+}
+
+fn write_segment(
+    alloc: Global,
+    made: &mut Text,
+    segment: Segment<'_>,
+    values: &[Value],
+) -> Result<Result<(), Refusal>, AllocError>
+    ensures { IfOk result (λ r. Appends made.old (filled (map data_of values.now) (segment_data segment.entry))
+        made.new r) }
+{
+    match segment {
+        Segment::Text(text) => made.push(alloc, text),
+        Segment::Place(name) => match value_at(name, values) {
+            Some(value) => write(alloc, made, value),
+            None => made.push(alloc, ""),
+        },
+    }
+}

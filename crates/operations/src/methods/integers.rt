@@ -1,0 +1,53 @@
+//! The methods of integers: the type `int` of the page "Reference manual".
+
+ghost use Rattle.std.specs.Prelude.{map};
+ghost use Rattle.data.specs.Prelude.{data_of};
+ghost use Rattle.operations.specs.methods.Steps.{Gives};
+ghost use Rattle.operations.specs.methods.Integers.{is_even, is_odd, to_string, answer};
+
+use crate::methods::readers::none;
+use crate::methods::stop::Stop;
+use data::language_names::{IntegerMethod, MethodName};
+use data::printing::printed;
+use data::{Refusal, Value};
+use std::alloc::Global;
+
+/// What the method with a name gives for an integer.
+pub fn integer_method(
+    alloc: Global,
+    integer: i128,
+    name: &MethodName,
+    arguments: &[Value],
+) -> Result<Value, Stop>
+    ensures { Gives (answer integer name.now (map data_of arguments.now)) result }
+{
+    let method = name.of_integer().ok_or(Refusal::UnknownMethod)?;
+    match method {
+        IntegerMethod::IsEven => is_even(integer, arguments),
+        IntegerMethod::IsOdd => is_odd(integer, arguments),
+        IntegerMethod::ToString => to_string(alloc, integer, arguments),
+    }
+}
+
+fn is_even(integer: i128, arguments: &[Value]) -> Result<Value, Stop>
+    ensures { Gives (is_even integer (map data_of arguments.now)) result }
+{
+    none(arguments)?;
+    Ok(Value::Boolean(integer.unsigned_abs() % 2 == 0))
+}
+
+fn is_odd(integer: i128, arguments: &[Value]) -> Result<Value, Stop>
+    ensures { Gives (is_odd integer (map data_of arguments.now)) result }
+{
+    none(arguments)?;
+    Ok(Value::Boolean(integer.unsigned_abs() % 2 != 0))
+}
+
+fn to_string(alloc: Global, integer: i128, arguments: &[Value]) -> Result<Value, Stop>
+    ensures { Gives (to_string integer (map data_of arguments.now)) result }
+{
+    none(arguments)?;
+    let text = printed(alloc, &Value::Integer(integer))??;
+    let _within = text.as_str();
+    Ok(Value::Text(text))
+}

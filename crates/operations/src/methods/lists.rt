@@ -1,0 +1,82 @@
+//! The methods of lists: the type `list` of the page "Reference manual".
+
+ghost use Rattle.std.specs.Prelude.{◌≡◌, map, option_map};
+ghost use Rattle.data.specs.Prelude.{data_of, items_of};
+ghost use Rattle.operations.specs.methods.Steps.{Gives};
+ghost use Rattle.operations.specs.methods.Lists.{stands_in, stands_inside, contains, get, found_or, len, answer};
+
+use crate::methods::readers::{integer, key_and_fallback, none, one};
+use crate::methods::stop::Stop;
+use crate::operators::indexed_item;
+use data::language_names::{ListMethod, MethodName};
+use data::{List, Refusal, Value, is_equal};
+
+/// What the method with a name gives for a list.
+pub fn list_method(list: &List, name: &MethodName, arguments: &[Value]) -> Result<Value, Stop>
+    ensures { Gives (answer list.now name.now (map data_of arguments.now)) result }
+{
+    let method = name.of_list().ok_or(Refusal::UnknownMethod)?;
+    match method {
+        ListMethod::Contains => contains(list, arguments),
+        ListMethod::Get => get(list, arguments),
+        ListMethod::Length => len(list, arguments),
+    }
+}
+
+fn contains(list: &List, arguments: &[Value]) -> Result<Value, Stop>
+    ensures { Gives (contains list.now (map data_of arguments.now)) result }
+{
+    let value = one(arguments)?;
+    Ok(Value::Boolean(stands_in(value, list.items())))
+}
+
+// Whether a value is one of the items, or stands in one that is a list, at any depth.
+#[cycle(depths)]
+fn stands_in(value: &Value, items: &[Value]) -> bool
+    ensures { result ≡ stands_in (data_of value.now) (items_of items.now) }
+{
+    for item in items {
+        if is_equal(value, item) || stands_inside(value, item) {
+            return true;
+        }
+    }
+    false
+}
+
+#[cycle(depths)]
+fn stands_inside(value: &Value, whole: &Value) -> bool
+    ensures { result ≡ stands_inside (data_of value.now) (data_of whole.now) }
+{
+    match whole {
+        Value::List(list) => stands_in(value, list.items()),
+        _ => false,
+    }
+}
+
+fn get(list: &List, arguments: &[Value]) -> Result<Value, Stop>
+    ensures { Gives (get list.now (map data_of arguments.now)) result }
+{
+    let (index, fallback) = key_and_fallback(arguments)?;
+    let index = integer(index)?;
+    found_or(indexed_item(list, index), fallback)
+}
+
+/// What was found, or else the value in its place.
+pub fn found_or(found: Option<&Value>, fallback: Option<&Value>) -> Result<Value, Stop>
+    ensures { Gives (found_or (option_map (λ v. data_of v.now) found.entry) (option_map (λ v. data_of v.now) fallback.entry)) result }
+{
+    if let Some(value) = found {
+        return Ok(value.clone()?);
+    }
+    match fallback {
+        Some(value) => Ok(value.clone()?),
+        None => Err(Stop::Refused(Refusal::Absent)),
+    }
+}
+
+fn len(list: &List, arguments: &[Value]) -> Result<Value, Stop>
+    ensures { Gives (len list.now (map data_of arguments.now)) result }
+{
+    none(arguments)?;
+    Ok(Value::Integer(list.len() as i128))
+}

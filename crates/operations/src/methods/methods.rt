@@ -1,0 +1,56 @@
+//! The methods, by the type of the receiver.
+
+ghost use Rattle.std.specs.Prelude.{◌≡◌, IfOk, map};
+ghost use Rattle.data.specs.Prelude.{Answers, data_of};
+ghost use Rattle.operations.specs.methods.Methods.{answer, has_name};
+
+use crate::methods::booleans::boolean_method;
+use crate::methods::dictionaries::dictionary_method;
+use crate::methods::integers::integer_method;
+use crate::methods::lists::list_method;
+use crate::methods::stop::Stop;
+use crate::methods::text_methods::text_method;
+use data::language_names::MethodName;
+use data::{Refusal, Value};
+use std::alloc::{AllocError, Global};
+
+/// What the method with a name gives for a receiver and arguments.
+///
+/// Refusals come in this order: E8 where the receiver's type has no method of the name, E9 for a wrong count or type
+/// of the arguments, and then those of the method: E7, E9, E10 and E22. Objects have no methods here.
+pub fn method(
+    alloc: Global,
+    receiver: &Value,
+    name: &MethodName,
+    arguments: &[Value],
+) -> Result<Result<Value, Refusal>, AllocError>
+    ensures { IfOk result (λ r. Answers (answer (data_of receiver.now) name.now (map data_of arguments.now)) r) }
+{
+    let answer = match receiver {
+        Value::Boolean(boolean) => boolean_method(alloc, *boolean, name, arguments),
+        Value::Integer(integer) => integer_method(alloc, *integer, name, arguments),
+        Value::List(list) => list_method(list, name, arguments),
+        Value::Dictionary(dictionary) => dictionary_method(alloc, dictionary, name, arguments),
+        Value::Text(text) => text_method(alloc, text.as_str(), name, arguments),
+        Value::Object(_) => Err(Stop::Refused(Refusal::UnknownMethod)),
+    };
+    match answer {
+        Ok(value) => Ok(Ok(value)),
+        Err(Stop::Refused(refusal)) => Ok(Err(refusal)),
+        Err(Stop::Memory(error)) => Err(error),
+    }
+}
+
+/// Whether the type of a receiver has a method with a name. It takes no memory.
+pub fn has_method(receiver: &Value, name: &MethodName) -> bool
+    ensures { result ≡ has_name (data_of receiver.now) name.now }
+{
+    match receiver {
+        Value::Boolean(_) => name.of_boolean().is_some(),
+        Value::Integer(_) => name.of_integer().is_some(),
+        Value::List(_) => name.of_list().is_some(),
+        Value::Dictionary(_) => name.of_dictionary().is_some(),
+        Value::Text(_) => name.of_text().is_some(),
+        Value::Object(_) => false,
+    }
+}

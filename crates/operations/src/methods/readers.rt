@@ -1,0 +1,99 @@
+//! What the arguments of a call are, where they have the count and the types that it asks for; else `Refusal::Arguments`.
+
+ghost use Rattle.std.specs.Prelude.{◌≡◌, MatchResult, Ok, Err, Some, None, option_map, map};
+ghost use Rattle.data.specs.Prelude.{data_of};
+ghost use Rattle.operations.specs.methods.Arguments.{no_arguments, one_argument, key_and_fallback, text_argument, integer_argument};
+ghost use Rattle.operations.specs.methods.Arguments.{one_text, two_texts, bounds};
+
+use data::{Refusal, Text, Value};
+
+/// That there are none.
+pub fn none(arguments: &[Value]) -> Result<(), Refusal>
+    ensures { result ≡ no_arguments (map data_of arguments.now) }
+{
+    if arguments.is_empty() {
+        Ok(())
+    } else {
+        Err(Refusal::Arguments)
+    }
+}
+
+/// The only argument.
+pub fn one(arguments: &[Value]) -> Result<&Value, Refusal>
+    ensures { MatchResult result
+        (λ v. one_argument (map data_of arguments.now) ≡ Ok (data_of v.now))
+        (λ e. one_argument (map data_of arguments.now) ≡ Err e) }
+{
+    match arguments {
+        [argument] => Ok(argument),
+        _ => Err(Refusal::Arguments),
+    }
+}
+
+/// A key or an index, and a value in its place that may be left out.
+pub fn key_and_fallback(arguments: &[Value]) -> Result<(&Value, Option<&Value>), Refusal>
+    ensures { MatchResult result
+        (λ p. key_and_fallback (map data_of arguments.now) ≡ Ok (data_of p.0.now, option_map (λ v. data_of v.now) p.1))
+        (λ e. key_and_fallback (map data_of arguments.now) ≡ Err e) }
+{
+    match arguments {
+        [key] => Ok((key, None)),
+        [key, fallback] => Ok((key, Some(fallback))),
+        _ => Err(Refusal::Arguments),
+    }
+}
+
+/// The text that an argument is.
+pub fn text(argument: &Value) -> Result<&Text, Refusal>
+    ensures { MatchResult result
+        (λ t. text_argument (data_of argument.now) ≡ Ok t.now)
+        (λ e. text_argument (data_of argument.now) ≡ Err e) }
+{
+    match argument {
+        Value::Text(text) => Ok(text),
+        _ => Err(Refusal::Arguments),
+    }
+}
+
+/// The integer that an argument is.
+pub fn integer(argument: &Value) -> Result<i128, Refusal>
+    ensures { result ≡ integer_argument (data_of argument.now) }
+{
+    match argument {
+        Value::Integer(integer) => Ok(*integer),
+        _ => Err(Refusal::Arguments),
+    }
+}
+
+/// The text that the only argument is.
+pub fn one_text(arguments: &[Value]) -> Result<&Text, Refusal>
+    ensures { MatchResult result
+        (λ t. one_text (map data_of arguments.now) ≡ Ok t.now)
+        (λ e. one_text (map data_of arguments.now) ≡ Err e) }
+{
+    text(one(arguments)?)
+}
+
+/// The texts that the only two arguments are.
+pub fn two_texts(arguments: &[Value]) -> Result<(&Text, &Text), Refusal>
+    ensures { MatchResult result
+        (λ p. two_texts (map data_of arguments.now) ≡ Ok (p.0.now, p.1.now))
+        (λ e. two_texts (map data_of arguments.now) ≡ Err e) }
+{
+    match arguments {
+        [first, second] => Ok((text(first)?, text(second)?)),
+        _ => Err(Refusal::Arguments),
+    }
+}
+
+/// Two integers, of which the second or both may be left out.
+pub fn bounds(arguments: &[Value]) -> Result<(Option<i128>, Option<i128>), Refusal>
+    ensures { result ≡ bounds (map data_of arguments.now) }
+{
+    match arguments {
+        [] => Ok((None, None)),
+        [from] => Ok((Some(integer(from)?), None)),
+        [from, to] => Ok((Some(integer(from)?), Some(integer(to)?))),
+        _ => Err(Refusal::Arguments),
+    }
+}

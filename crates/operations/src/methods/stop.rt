@@ -1,0 +1,43 @@
+//! Why a call gives no value.
+
+ghost use Rattle.std.specs.Prelude.{◌≡◌, alloc_error};
+
+use data::Refusal;
+use std::alloc::{AllocError, AllocFailed};
+
+/// Why a call gives no value.
+#[derive(Drop)]
+pub enum Stop {
+    Refused(Refusal),
+    Memory(AllocError),
+}
+
+impl From<Refusal> for Stop {
+    ghost use Rattle.operations.specs.declared.methods.stop.Stop.TheVariants.{Refused};
+
+    ghost from_gives = { λ r s. s ≡ Refused r };
+
+    fn from(refusal: Refusal) -> Stop {
+        Stop::Refused(refusal)
+    }
+}
+
+impl From<AllocError> for Stop {
+    ghost use Rattle.operations.specs.declared.methods.stop.Stop.TheVariants.{Memory};
+
+    ghost from_gives = { λ e s. s ≡ Memory e };
+
+    fn from(error: AllocError) -> Stop {
+        Stop::Memory(error)
+    }
+}
+
+impl<T: Drop> From<AllocFailed<T>> for Stop {
+    ghost use Rattle.operations.specs.declared.methods.stop.Stop.TheVariants.{Memory};
+
+    ghost from_gives = { λ _ s. s ≡ Memory alloc_error };
+
+    fn from(failed: AllocFailed<T>) -> Stop {
+        Stop::Memory(AllocError::from(failed))
+    }
+}

@@ -1,0 +1,185 @@
+//! The methods of texts: the type `str` of the page "Reference manual".
+
+ghost use Rattle.std.specs.Prelude.{map, string_bytes};
+ghost use Rattle.data.specs.Data.{text as text_data};
+ghost use Rattle.data.specs.Prelude.{data_of, within};
+ghost use Rattle.operations.specs.methods.Steps.{Gives};
+ghost use Rattle.operations.specs.methods.TextMethods.{answer, contains, starts_with, ends_with, format, join, replace, split};
+ghost use Rattle.operations.specs.methods.TextMethods.{split_lines, strip, substring, to_int, to_lower, to_upper, underscorify};
+ghost use Rattle.operations.specs.methods.TextMethods.{version_compare};
+
+use crate::methods::flattening::flat_texts;
+use crate::methods::formatted::format_text;
+use crate::methods::readers::{bounds, none, one_text, two_texts};
+use crate::methods::stop::Stop;
+use crate::operators::text_list;
+use data::language_names::{MethodName, TextMethod};
+use data::{Refusal, Text, Value};
+use std::alloc::Global;
+
+/// What the method with a name gives for a text.
+pub fn text_method(
+    alloc: Global,
+    text: &str,
+    name: &MethodName,
+    arguments: &[Value],
+) -> Result<Value, Stop>
+    ensures { Gives (answer text.now name.now (map data_of arguments.now)) result }
+{
+    let method = name.of_text().ok_or(Refusal::UnknownMethod)?;
+    match method {
+        TextMethod::Contains => contains(text, arguments),
+        TextMethod::StartsWith => starts_with(text, arguments),
+        TextMethod::EndsWith => ends_with(text, arguments),
+        TextMethod::Format => format(alloc, text, arguments),
+        TextMethod::Join => join(alloc, text, arguments),
+        TextMethod::Replace => replace(alloc, text, arguments),
+        TextMethod::Split => split(alloc, text, arguments),
+        TextMethod::SplitLines => split_lines(alloc, text, arguments),
+        TextMethod::Strip => strip(alloc, text, arguments),
+        TextMethod::Substring => substring(alloc, text, arguments),
+        TextMethod::ToInt => to_int(text, arguments),
+        TextMethod::ToLower => to_lower(alloc, text, arguments),
+        TextMethod::ToUpper => to_upper(alloc, text, arguments),
+        TextMethod::Underscorify => underscorify(alloc, text, arguments),
+        TextMethod::VersionCompare => version_compare(text, arguments),
+    }
+}
+
+fn contains(text: &str, arguments: &[Value]) -> Result<Value, Stop>
+    ensures { Gives (contains text.now (map data_of arguments.now)) result }
+{
+    let part = one_text(arguments)?;
+    Ok(Value::Boolean(data::texts::contains(text, part.as_str())))
+}
+
+fn starts_with(text: &str, arguments: &[Value]) -> Result<Value, Stop>
+    ensures { Gives (starts_with text.now (map data_of arguments.now)) result }
+{
+    let part = one_text(arguments)?;
+    Ok(Value::Boolean(data::texts::starts_with(text, part.as_str())))
+}
+
+fn ends_with(text: &str, arguments: &[Value]) -> Result<Value, Stop>
+    ensures { Gives (ends_with text.now (map data_of arguments.now)) result }
+{
+    let part = one_text(arguments)?;
+    Ok(Value::Boolean(data::texts::ends_with(text, part.as_str())))
+}
+
+fn format(alloc: Global, text: &str, arguments: &[Value]) -> Result<Value, Stop>
+    ensures { Gives (format text.now (map data_of arguments.now)) result }
+{
+    let formatted = format_text(alloc, text, arguments)??;
+    value_of_text(formatted)
+}
+
+fn join(alloc: Global, text: &str, arguments: &[Value]) -> Result<Value, Stop>
+    ensures { Gives (join text.now (map data_of arguments.now)) result }
+{
+    let pieces = flat_texts(alloc, arguments)??;
+    let joined = data::texts::join(alloc, text, &pieces)??;
+    value_of_text(joined)
+}
+
+fn replace(alloc: Global, text: &str, arguments: &[Value]) -> Result<Value, Stop>
+    ensures { Gives (replace text.now (map data_of arguments.now)) result }
+{
+    let (old, new) = two_texts(arguments)?;
+    let replaced = data::texts::replace(alloc, text, old.as_str(), new.as_str())??;
+    value_of_text(replaced)
+}
+
+fn split(alloc: Global, text: &str, arguments: &[Value]) -> Result<Value, Stop>
+    ensures { Gives (split text.now (map data_of arguments.now)) result }
+{
+    if arguments.is_empty() {
+        let words = data::texts::split_blank(alloc, text)??;
+        return Ok(text_list(alloc, &words)??);
+    }
+    let separator = one_text(arguments)?;
+    let parts = data::texts::split_at(alloc, text, separator.as_str())??;
+    Ok(text_list(alloc, &parts)??)
+}
+
+fn split_lines(alloc: Global, text: &str, arguments: &[Value]) -> Result<Value, Stop>
+    ensures { Gives (split_lines text.now (map data_of arguments.now)) result }
+{
+    none(arguments)?;
+    let lines = data::texts::split_lines(alloc, text)??;
+    Ok(text_list(alloc, &lines)??)
+}
+
+fn strip(alloc: Global, text: &str, arguments: &[Value]) -> Result<Value, Stop>
+    ensures { Gives (strip text.now (map data_of arguments.now)) result }
+{
+    if arguments.is_empty() {
+        return value_of_slice(alloc, data::texts::strip(text));
+    }
+    let set = one_text(arguments)?;
+    value_of_slice(alloc, data::texts::strip_of(alloc, text, set.as_str())?)
+}
+
+fn substring(alloc: Global, text: &str, arguments: &[Value]) -> Result<Value, Stop>
+    ensures { Gives (substring text.now (map data_of arguments.now)) result }
+{
+    let (from, to) = bounds(arguments)?;
+    value_of_slice(alloc, data::texts::substring(text, from, to))
+}
+
+fn to_int(text: &str, arguments: &[Value]) -> Result<Value, Stop>
+    ensures { Gives (to_int text.now (map data_of arguments.now)) result }
+{
+    none(arguments)?;
+    let integer = data::texts::to_int(text)?;
+    Ok(Value::Integer(integer))
+}
+
+fn to_lower(alloc: Global, text: &str, arguments: &[Value]) -> Result<Value, Stop>
+    ensures { Gives (to_lower text.now (map data_of arguments.now)) result }
+{
+    none(arguments)?;
+    value_of(alloc, data::texts::to_lower(alloc, text)?)
+}
+
+fn to_upper(alloc: Global, text: &str, arguments: &[Value]) -> Result<Value, Stop>
+    ensures { Gives (to_upper text.now (map data_of arguments.now)) result }
+{
+    none(arguments)?;
+    value_of(alloc, data::texts::to_upper(alloc, text)?)
+}
+
+fn underscorify(alloc: Global, text: &str, arguments: &[Value]) -> Result<Value, Stop>
+    ensures { Gives (underscorify text.now (map data_of arguments.now)) result }
+{
+    none(arguments)?;
+    value_of(alloc, data::texts::underscorify(alloc, text)?)
+}
+
+fn version_compare(text: &str, arguments: &[Value]) -> Result<Value, Stop>
+    ensures { Gives (version_compare text.now (map data_of arguments.now)) result }
+{
+    let condition = one_text(arguments)?;
+    Ok(Value::Boolean(data::texts::version_compare(text, condition.as_str())))
+}
+
+fn value_of_text(text: Text) -> Result<Value, Stop>
+    ensures { Gives (within (text_data text)) result }
+{
+    let _within = text.as_str();
+    Ok(Value::Text(text))
+}
+
+fn value_of(alloc: Global, string: String) -> Result<Value, Stop>
+    ensures { Gives (within (text_data (string_bytes string))) result }
+{
+    let value = Value::of_string(alloc, string)??;
+    Ok(value)
+}
+
+fn value_of_slice(alloc: Global, text: &str) -> Result<Value, Stop>
+    ensures { Gives (within (text_data text.now)) result }
+{
+    let value = Value::of_str(alloc, text)??;
+    Ok(value)
+}

@@ -1,0 +1,132 @@
+//! Literals of lists and dictionaries, and lists of texts.
+
+ghost use Rattle.std.specs.Prelude.{◌≡◌, ◌+◌, ◌<◌, ◌≤◌, ◌^◌, IfOk, MatchResult, Ok, Err, map};
+ghost use Rattle.data.specs.Data.{no_entries, no_items, list as list_data};
+ghost use Rattle.data.specs.Prelude.{Answers, data_of, items_of, within};
+ghost use Rattle.data.specs.Weight.{entries_weight};
+ghost use Rattle.operations.specs.operators.TextLists.{PutsText, items_in, text_list, texts_behind};
+ghost use Rattle.operations.specs.operators.Literal.{with_entry, with_entries, literal_answer, pairs_of, Makes};
+
+use data::{DictionaryBuilder, List, Refusal, Text, Value};
+use std::alloc::{AllocError, Global};
+
+/// Why keys and values make no dictionary.
+#[derive(Drop)]
+pub enum LiteralRefusal {
+    /// This key stands before it already.
+    Twice(Text),
+    /// A key is no text, or the dictionary is past a limit.
+    Refused(Refusal),
+}
+
+/// The list of a literal's items, or E22 where it is past a limit.
+pub fn list(alloc: Global, items: Vec<Value>) -> Result<Result<Value, Refusal>, AllocError>
+    ensures { IfOk result (λ r. Answers (within (list_data (items_of items.items))) r) }
+{
+    match List::from_items(items) {
+        Ok(list) => Ok(Ok(Value::of_list(alloc, list)?)),
+        Err(refusal) => Ok(Err(refusal)),
+    }
+}
+
+// Puts a text behind the values. It is put together where it is to lie, as a short text that is moved waits for its bytes.
+fn push_text(
+    alloc: Global,
+    values: &mut Vec<Value>,
+    text: &str,
+) -> Result<Result<(), Refusal>, AllocError>
+    ensures { IfOk result (λ r. PutsText values.old.items text.now values.new.items r) }
+{
+    let at = values.len();
+    values.push(Value::Text(Text::empty()))?;
+    let put = match &mut values[at] {
+        Value::Text(made) => made.push(alloc, text)?,
+        _ => unreachable!(),
+    };
+    Ok(put)
+}
+
+// These texts as values, or `Refusal::Limit` where one is too long.
+fn text_values(alloc: Global, texts: &[&str]) -> Result<Result<Vec<Value>, Refusal>, AllocError>
+    ensures { IfOk result (λ r. items_in r ≡ texts_behind no_items (map (λ t. t.now) texts.now)) }
+{
+    let mut values = Vec::with_capacity(alloc, texts.len())?;
+    for text in texts {
+        if let Err(refusal) = push_text(alloc, &mut values, text)? {
+            return Ok(Err(refusal));
+        }
+    }
+    Ok(Ok(values))
+}
+
+/// The list of these texts, or `Refusal::Limit` where one of them or the list passes a limit.
+pub fn text_list(alloc: Global, texts: &[&str]) -> Result<Result<Value, Refusal>, AllocError>
+    ensures { IfOk result (λ r. Answers (text_list (map (λ t. t.now) texts.now)) r) }
+{
+    match text_values(alloc, texts)? {
+        Ok(values) => list(alloc, values),
+        Err(refusal) => Ok(Err(refusal)),
+    }
+}
+
+/// The dictionary of a literal's keys and values, in order.
+///
+/// The first key that is no text (E6) or equal to an earlier one (E11) decides; then E22, where it is past a limit.
+pub fn dictionary(
+    alloc: Global,
+    entries: Vec<(Value, Value)>,
+) -> Result<Result<Value, LiteralRefusal>, AllocError>
+    ensures { IfOk result (λ r. Makes (literal_answer (pairs_of entries.items)) r) }
+{
+    let mut builder = DictionaryBuilder::new(alloc);
+    if let Err(refusal) = put_entries(&mut builder, entries)? {
+        return Ok(Err(refusal));
+    }
+    match builder.finish() {
+        Ok(dictionary) => Ok(Ok(Value::of_dictionary(alloc, dictionary)?)),
+        Err(refusal) => Ok(Err(LiteralRefusal::Refused(refusal))),
+    }
+}
+
+// Puts the entries of a literal, of which none is there yet, unless one is refused.
+fn put_entries(
+    builder: &mut DictionaryBuilder,
+    entries: Vec<(Value, Value)>,
+) -> Result<Result<(), LiteralRefusal>, AllocError>
+    requires { builder.old ≡ no_entries }
+    ensures { IfOk result (λ r. MatchResult r
+        (λ _. with_entries no_entries (pairs_of entries.items) ≡ Ok builder.new)
+        (λ e. with_entries no_entries (pairs_of entries.items) ≡ Err e)) }
+{
+    for (key, value) in entries {
+        if let Err(refusal) = put_entry(builder, key, value)? {
+            return Ok(Err(refusal));
+        }
+    }
+    Ok(Ok(()))
+}
+
+// Puts one more entry, unless its key is refused.
+fn put_entry(
+    builder: &mut DictionaryBuilder,
+    key: Value,
+    value: Value,
+) -> Result<Result<(), LiteralRefusal>, AllocError>
+    requires { entries_weight builder.old < 2 ^ 100 }
+    ensures put { IfOk result (λ r. MatchResult r
+        (λ _. with_entry builder.old (data_of key) (data_of value) ≡ Ok builder.new)
+        (λ e. with_entry builder.old (data_of key) (data_of value) ≡ Err e)) }
+    ensures light { IfOk result (λ _. entries_weight builder.new ≤ entries_weight builder.old + 2 ^ 26) }
+{
+    let Value::Text(key) = key else {
+        return Ok(Err(LiteralRefusal::Refused(Refusal::Type)));
+    };
+    if builder.contains_key(&key) {
+        return Ok(Err(LiteralRefusal::Twice(key)));
+    }
+    // neither weighs so much that the sum could overflow
+    let _key = key.as_str();
+    let _weight = value.weight();
+    builder.put(key, value)?;
+    Ok(Ok(()))
+}

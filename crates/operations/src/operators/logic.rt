@@ -1,0 +1,63 @@
+//! `and`, `or` and `not`.
+
+ghost use Rattle.data.specs.Prelude.{Answers, data_of};
+ghost use Rattle.operations.specs.operators.Operations.{unary_outcome};
+ghost use Rattle.operations.specs.operators.Logic.{LeftAnswers, right_answer};
+ghost use Rattle.operations.specs.declared.operators.operator.Unary.TheVariants.{Not};
+
+use crate::operators::operator::Connective;
+use data::{Refusal, Value};
+
+/// What the left side of `and` or `or` says.
+#[derive(Drop)]
+pub enum Left {
+    /// The value of the whole. The right side is left alone.
+    Decides(Value),
+    /// The right side decides.
+    Open,
+}
+
+/// `not operand`
+pub fn negation(operand: &Value) -> Result<Value, Refusal>
+    ensures { Answers (unary_outcome Not (data_of operand.now)) result }
+{
+    match operand {
+        Value::Boolean(boolean) => Ok(Value::Boolean(!*boolean)),
+        _ => Err(Refusal::Type),
+    }
+}
+
+/// Whether the left side of `and` or `or` decides: `false and`, `true or` and a disabler do. E6 for any other
+/// value that is no boolean.
+pub fn left_side(connective: Connective, left: Value) -> Result<Left, Refusal>
+    ensures { LeftAnswers connective (data_of left) result }
+{
+    match (connective, &left) {
+        (Connective::And, Value::Boolean(true)) => Ok(Left::Open),
+        (Connective::Or, Value::Boolean(false)) => Ok(Left::Open),
+        (_, Value::Boolean(_)) => Ok(Left::Decides(left)),
+        _ => {
+            if left.is_disabler() {
+                Ok(Left::Decides(left))
+            } else {
+                Err(Refusal::Type)
+            }
+        }
+    }
+}
+
+/// The value of `and` or `or` where the right side decides: a boolean or a disabler, else E6.
+pub fn right_side(right: Value) -> Result<Value, Refusal>
+    ensures { Answers (right_answer (data_of right)) result }
+{
+    match right {
+        Value::Boolean(boolean) => Ok(Value::Boolean(boolean)),
+        _ => {
+            if right.is_disabler() {
+                Ok(right)
+            } else {
+                Err(Refusal::Type)
+            }
+        }
+    }
+}

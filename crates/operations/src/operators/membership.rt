@@ -1,0 +1,39 @@
+//! What is in a list, a dictionary or a text.
+
+ghost use Rattle.std.specs.Prelude.{◌≡◌, not, option_map};
+ghost use Rattle.data.specs.Prelude.{data_of};
+ghost use Rattle.operations.specs.operators.Rows.{is_item, membership as membership_row};
+
+use data::texts::contains;
+use data::{List, Value, is_equal};
+
+/// Whether a value is an item of a list, a text a key of a dictionary, a text in another.
+pub fn membership(value: &Value, whole: &Value) -> Option<bool>
+    ensures { result ≡ membership_row (data_of value.now) (data_of whole.now) }
+{
+    match (value, whole) {
+        (_, Value::List(list)) => Some(is_item(value, list)),
+        (Value::Text(key), Value::Dictionary(dictionary)) => Some(dictionary.get(key).is_some()),
+        (Value::Text(text), Value::Text(whole)) => Some(contains(whole.as_str(), text.as_str())),
+        _ => None,
+    }
+}
+
+/// Whether it is not.
+pub fn absence(value: &Value, whole: &Value) -> Option<bool>
+    ensures { result ≡ option_map not (membership_row (data_of value.now) (data_of whole.now)) }
+{
+    Some(!membership(value, whole)?)
+}
+
+fn is_item(value: &Value, list: &List) -> bool
+    ensures { result ≡ is_item (data_of value.now) list.now }
+{
+    let items = list.items();
+    for item in items {
+        if is_equal(value, item) {
+            return true;
+        }
+    }
+    false
+}

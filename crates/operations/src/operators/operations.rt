@@ -1,0 +1,150 @@
+//! The operators, by the types of their operands.
+
+ghost use Rattle.std.specs.Prelude.{◌≡◌, ◌≢◌, IfOk, false, option_map};
+ghost use Rattle.data.specs.Data.{boolean as boolean_data};
+ghost use Rattle.data.specs.declared.refusal.Refusal.TheVariants as refusal;
+ghost use Rattle.data.specs.Prelude.{Answers, data_of};
+ghost use Rattle.operations.specs.operators.Operations.{answer, are_integers, binary_outcome, unary_answer, binary_answer};
+ghost use Rattle.operations.specs.declared.operators.operator.Binary.TheVariants.{Add, Divide};
+
+use crate::operators::arithmetic::{of_integers, opposite};
+use crate::operators::lists::{append, append_all, merge};
+use crate::operators::logic::negation;
+use crate::operators::membership::{absence, membership};
+use crate::operators::operator::{Binary, Unary};
+use crate::operators::relations::{
+    equality, inequality, is_greater, is_greater_or_equal, is_less, is_less_or_equal,
+};
+use crate::operators::text_sums::{concatenate, path_text};
+use data::{Refusal, Value};
+use std::alloc::{AllocError, Global};
+
+/// What an operator gives for one operand, or E6 for a wrong type and E7 for an integer out of range.
+pub fn unary(operator: Unary, operand: Value) -> Result<Value, Refusal>
+    ensures { Answers (unary_answer operator (data_of operand)) result }
+{
+    if operand.is_disabler() {
+        return Ok(operand);
+    }
+    match operator {
+        Unary::Not => negation(&operand),
+        Unary::Negate => opposite(&operand),
+    }
+}
+
+/// What an operator gives for two operands: a disabler where one of them is a disabler, else by their types.
+///
+/// Refusals are E6 for types that the operator does not take, E7 for an integer out of range or a divisor of
+/// zero, and E22 for a value past a limit. A list or dictionary that nobody else holds is added to in place.
+#[inline(always)]
+pub fn binary(
+    alloc: Global,
+    operator: Binary,
+    left: Value,
+    right: Value,
+) -> Result<Result<Value, Refusal>, AllocError>
+    ensures { IfOk result (λ r. Answers (binary_answer operator (data_of left) (data_of right)) r) }
+{
+    if let (Value::Integer(x), Value::Integer(y)) = (&left, &right) {
+        return Ok(of_integers(operator, *x, *y));
+    }
+    of_others(alloc, operator, left, right)
+}
+
+// The same, where one of them is no integer.
+fn of_others(
+    alloc: Global,
+    operator: Binary,
+    left: Value,
+    right: Value,
+) -> Result<Result<Value, Refusal>, AllocError>
+    requires { are_integers (data_of left) (data_of right) ≡ false }
+    ensures { IfOk result (λ r. Answers (binary_answer operator (data_of left) (data_of right)) r) }
+{
+    if left.is_disabler() {
+        return Ok(Ok(left));
+    }
+    if right.is_disabler() {
+        return Ok(Ok(right));
+    }
+    match operator {
+        Binary::Add => sum(alloc, left, right),
+        _ => examined(alloc, operator, &left, &right),
+    }
+}
+
+// What an operator other than `+` gives for two operands that are no disablers.
+fn examined(
+    alloc: Global,
+    operator: Binary,
+    left: &Value,
+    right: &Value,
+) -> Result<Result<Value, Refusal>, AllocError>
+    requires other { operator ≢ Add }
+    requires few { are_integers (data_of left.now) (data_of right.now) ≡ false }
+    ensures { IfOk result (λ r. Answers (binary_outcome operator (data_of left.now) (data_of right.now)) r) }
+{
+    match operator {
+        Binary::Add => unreachable!(),
+        Binary::Subtract | Binary::Multiply | Binary::Remainder => Ok(Err(Refusal::Type)),
+        Binary::Divide => quotient(alloc, left, right),
+        Binary::Equal => Ok(boolean(equality(left, right))),
+        Binary::NotEqual => Ok(boolean(inequality(left, right))),
+        Binary::Less => Ok(boolean(is_less(left, right))),
+        Binary::LessOrEqual => Ok(boolean(is_less_or_equal(left, right))),
+        Binary::Greater => Ok(boolean(is_greater(left, right))),
+        Binary::GreaterOrEqual => Ok(boolean(is_greater_or_equal(left, right))),
+        Binary::In => Ok(boolean(membership(left, right))),
+        Binary::NotIn => Ok(boolean(absence(left, right))),
+    }
+}
+
+// The value of a test that the operands have.
+fn boolean(test: Option<bool>) -> Result<Value, Refusal>
+    ensures { Answers (answer (option_map boolean_data test) refusal.Type) result }
+{
+    match test {
+        Some(boolean) => Ok(Value::Boolean(boolean)),
+        None => Err(Refusal::Type),
+    }
+}
+
+// `left + right`
+fn sum(alloc: Global, left: Value, right: Value) -> Result<Result<Value, Refusal>, AllocError>
+    requires { are_integers (data_of left) (data_of right) ≡ false }
+    ensures { IfOk result (λ r. Answers (binary_outcome Add (data_of left) (data_of right)) r) }
+{
+    match left {
+        Value::Text(s) => match right {
+            Value::Text(t) => concatenate(alloc, s, t.as_str()),
+            _ => Ok(Err(Refusal::Type)),
+        },
+        Value::List(list) => match right {
+            Value::List(others) => append_all(alloc, list, &others),
+            value => append(alloc, list, value),
+        },
+        Value::Dictionary(dictionary) => match right {
+            Value::Dictionary(others) => merge(alloc, dictionary, &others),
+            _ => Ok(Err(Refusal::Type)),
+        },
+        Value::Boolean(_) | Value::Integer(_) | Value::Object(_) => Ok(Err(Refusal::Type)),
+    }
+}
+
+// `left / right`
+fn quotient(
+    alloc: Global,
+    left: &Value,
+    right: &Value,
+) -> Result<Result<Value, Refusal>, AllocError>
+    requires { are_integers (data_of left.now) (data_of right.now) ≡ false }
+    ensures { IfOk result (λ r. Answers (binary_outcome Divide (data_of left.now) (data_of right.now)) r) }
+{
+    match (left, right) {
+        (Value::Text(s), Value::Text(t)) => match path_text(alloc, s.as_str(), t.as_str())? {
+            Ok(path) => Ok(Ok(Value::Text(path))),
+            Err(refusal) => Ok(Err(refusal)),
+        },
+        _ => Ok(Err(Refusal::Type)),
+    }
+}

@@ -1,0 +1,122 @@
+//! Parts of values, by their index or key.
+
+ghost use Rattle.std.specs.Prelude.{◌≡◌, IfOk, length, option_map, ok_or, slice_get};
+ghost use Rattle.std.specs.Str.{chars};
+ghost use Rattle.data.specs.declared.refusal.Refusal.TheVariants as refusal;
+ghost use Rattle.data.specs.Prelude.{Answers, data_of};
+ghost use Rattle.operations.specs.operators.Index.{place, indexed_item, indexed_char, index_answer, char_text, output_outcome};
+
+use data::{List, Object, Refusal, Value};
+use std::alloc::{AllocError, Global};
+
+/// `whole[index]`: an item of a list, a character of a text as a text, the value at a key of a dictionary, or an
+/// output of a custom target. Negative integers count from the end.
+///
+/// Refusals are E6 for types that are not indexed so, and E10 where no such part is there. A disabler, as the
+/// whole or as the index, gives a disabler.
+pub fn index(
+    alloc: Global,
+    whole: &Value,
+    index: &Value,
+) -> Result<Result<Value, Refusal>, AllocError>
+    ensures { IfOk result (λ r. Answers (index_answer (data_of whole.now) (data_of index.now)) r) }
+{
+    if whole.is_disabler() {
+        return Ok(Ok(whole.clone()?));
+    }
+    if index.is_disabler() {
+        return Ok(Ok(index.clone()?));
+    }
+    match (whole, index) {
+        (Value::List(list), Value::Integer(index)) => found(indexed_item(list, *index)),
+        (Value::Text(text), Value::Integer(index)) => text_of(
+            alloc,
+            indexed_char(text.as_str(), *index),
+        ),
+        (Value::Dictionary(dictionary), Value::Text(key)) => found(dictionary.get(key)),
+        (Value::Object(object), Value::Integer(index)) => match indexed_output(object, *index) {
+            Ok(output) => Ok(Ok(Value::of_object(alloc, output)?)),
+            Err(refusal) => Ok(Err(refusal)),
+        },
+        _ => Ok(Err(Refusal::Type)),
+    }
+}
+
+// The place that an index means among so many parts.
+fn place(index: i128, len: usize) -> Option<usize>
+    ensures { result ≡ place index len }
+{
+    let len = len as i128;
+    let place = if index < 0 { index + len } else { index };
+    if 0 <= place && place < len {
+        Some(place as usize)
+    } else {
+        None
+    }
+}
+
+/// The item of a list that an index means. Negative ones count from the end.
+pub fn indexed_item(list: &List, index: i128) -> Option<&Value>
+    ensures { option_map (λ v. data_of v.now) result ≡ indexed_item list.now index }
+{
+    let at = place(index, list.len())?;
+    list.items().get(at)
+}
+
+fn indexed_char(text: &str, index: i128) -> Option<char>
+    ensures { result ≡ indexed_char text.now index }
+{
+    let at = place(index, char_count(text))?;
+    char_at(text, at)
+}
+
+fn char_count(text: &str) -> usize
+    ensures { result ≡ length (chars text.now) }
+{
+    text.chars().count()
+}
+
+fn char_at(text: &str, at: usize) -> Option<char>
+    ensures { result ≡ slice_get (chars text.now) at }
+{
+    text.chars().nth(at)
+}
+
+fn indexed_output(object: &Object, index: i128) -> Result<Object, Refusal>
+    ensures { output_outcome object.now index ≡ result }
+{
+    match object {
+        Object::CustomTarget { number, outputs } => {
+            let output = place(index, *outputs).ok_or(Refusal::Absent)?;
+            Ok(Object::CustomOutput {
+                target: *number,
+                output,
+            })
+        }
+        _ => Err(Refusal::Type),
+    }
+}
+
+// The value itself, where one was found.
+fn found(value: Option<&Value>) -> Result<Result<Value, Refusal>, AllocError>
+    ensures { IfOk result (λ r. Answers (ok_or (option_map (λ v. data_of v.now) value.entry) refusal.Absent) r) }
+{
+    let Some(value) = value else {
+        return Ok(Err(Refusal::Absent));
+    };
+    Ok(Ok(value.clone()?))
+}
+
+// The text of a character, where one was found.
+fn text_of(alloc: Global, character: Option<char>) -> Result<Result<Value, Refusal>, AllocError>
+    ensures { IfOk result (λ r. Answers (ok_or (char_text character) refusal.Absent) r) }
+{
+    match character {
+        Some(character) => {
+            let mut text = String::new(alloc);
+            text.push(character)?;
+            Value::of_string(alloc, text)
+        }
+        None => Ok(Err(Refusal::Absent)),
+    }
+}

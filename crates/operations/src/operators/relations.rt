@@ -1,0 +1,107 @@
+//! Equality and order.
+
+ghost use Rattle.std.specs.Prelude.{◌≡◌, false, not, option_map};
+ghost use Rattle.std.specs.Ordering.{is_lt, is_le, is_gt, is_ge};
+ghost use Rattle.data.specs.Prelude.{data_of};
+ghost use Rattle.operations.specs.operators.Operations.{are_integers};
+ghost use Rattle.operations.specs.operators.Types.{is_one_kind, is_one_type};
+ghost use Rattle.operations.specs.operators.Rows.{equality as equality_row, order as order_row};
+
+use data::{Object, Value, is_equal};
+use std::cmp::Ordering;
+
+/// Whether two values of one type are equal by structure.
+pub fn equality(left: &Value, right: &Value) -> Option<bool>
+    ensures { result ≡ equality_row (data_of left.now) (data_of right.now) }
+{
+    if is_one_type(left, right) {
+        Some(is_equal(left, right))
+    } else {
+        None
+    }
+}
+
+/// Whether two values of one type differ.
+pub fn inequality(left: &Value, right: &Value) -> Option<bool>
+    ensures { result ≡ option_map not (equality_row (data_of left.now) (data_of right.now)) }
+{
+    Some(!equality(left, right)?)
+}
+
+/// Whether a text is below another.
+pub fn is_less(left: &Value, right: &Value) -> Option<bool>
+    requires { are_integers (data_of left.now) (data_of right.now) ≡ false }
+    ensures { result ≡ option_map is_lt (order_row (data_of left.now) (data_of right.now)) }
+{
+    Some(order(left, right)?.is_lt())
+}
+
+/// Whether a text is not above another.
+pub fn is_less_or_equal(left: &Value, right: &Value) -> Option<bool>
+    requires { are_integers (data_of left.now) (data_of right.now) ≡ false }
+    ensures { result ≡ option_map is_le (order_row (data_of left.now) (data_of right.now)) }
+{
+    Some(order(left, right)?.is_le())
+}
+
+/// Whether a text is above another.
+pub fn is_greater(left: &Value, right: &Value) -> Option<bool>
+    requires { are_integers (data_of left.now) (data_of right.now) ≡ false }
+    ensures { result ≡ option_map is_gt (order_row (data_of left.now) (data_of right.now)) }
+{
+    Some(order(left, right)?.is_gt())
+}
+
+/// Whether a text is not below another.
+pub fn is_greater_or_equal(left: &Value, right: &Value) -> Option<bool>
+    requires { are_integers (data_of left.now) (data_of right.now) ≡ false }
+    ensures { result ≡ option_map is_ge (order_row (data_of left.now) (data_of right.now)) }
+{
+    Some(order(left, right)?.is_ge())
+}
+
+// How two texts are ordered, by their bytes. Two integers are told before.
+fn order(left: &Value, right: &Value) -> Option<Ordering>
+    requires { are_integers (data_of left.now) (data_of right.now) ≡ false }
+    ensures { result ≡ order_row (data_of left.now) (data_of right.now) }
+{
+    match (left, right) {
+        (Value::Text(s), Value::Text(t)) => Some(s.as_str().cmp(t.as_str())),
+        _ => None,
+    }
+}
+
+fn is_one_type(left: &Value, right: &Value) -> bool
+    ensures { result ≡ is_one_type (data_of left.now) (data_of right.now) }
+{
+    match (left, right) {
+        (Value::Boolean(_), Value::Boolean(_)) => true,
+        (Value::Integer(_), Value::Integer(_)) => true,
+        (Value::Text(_), Value::Text(_)) => true,
+        (Value::List(_), Value::List(_)) => true,
+        (Value::Dictionary(_), Value::Dictionary(_)) => true,
+        (Value::Object(object), Value::Object(other)) => is_one_kind(object, other),
+        _ => false,
+    }
+}
+
+fn is_one_kind(object: &Object, other: &Object) -> bool
+    ensures { result ≡ is_one_kind object.now other.now }
+{
+    match object {
+        Object::Feature(_) => matches!(other, Object::Feature(_)),
+        Object::Dependency(_) => matches!(other, Object::Dependency(_)),
+        Object::Program(_) => matches!(other, Object::Program(_)),
+        Object::BuildTarget(_) | Object::CustomTarget { .. } => {
+            matches!(other, Object::BuildTarget(_) | Object::CustomTarget { .. })
+        }
+        Object::CustomOutput { .. } => matches!(other, Object::CustomOutput { .. }),
+        Object::File { .. } => matches!(other, Object::File { .. }),
+        Object::IncludeDirectories(_) => matches!(other, Object::IncludeDirectories(_)),
+        Object::Machine => matches!(other, Object::Machine),
+        Object::Meson => matches!(other, Object::Meson),
+        Object::Compiler => matches!(other, Object::Compiler),
+        Object::ConfigurationData(_) => matches!(other, Object::ConfigurationData(_)),
+        Object::Disabler => matches!(other, Object::Disabler),
+    }
+}

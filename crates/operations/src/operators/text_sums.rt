@@ -1,0 +1,37 @@
+//! Sums of texts, and paths.
+
+ghost use Rattle.std.specs.Prelude.{◌≡◌, ◌++◌, IfOk};
+ghost use Rattle.data.specs.Data.{text as text_data};
+ghost use Rattle.data.specs.Prelude.{Answers, within, within_bytes};
+ghost use Rattle.paths.specs.Below.{path_below};
+
+use data::texts::join;
+use data::{Refusal, Text, Value};
+use paths::before_path;
+use std::alloc::{AllocError, Global};
+
+/// One text and then another. It grows in place where nobody else holds it.
+pub fn concatenate(
+    alloc: Global,
+    mut first: Text,
+    second: &str,
+) -> Result<Result<Value, Refusal>, AllocError>
+    ensures { IfOk result (λ r. Answers (within (text_data (first ++ second.now))) r) }
+{
+    match first.push(alloc, second)? {
+        Ok(()) => Ok(Ok(Value::Text(first))),
+        Err(refusal) => Ok(Err(refusal)),
+    }
+}
+
+/// The text of a path and one below it, or `Refusal::Limit` where that is too long. A short one needs no memory of its own.
+pub fn path_text(
+    alloc: Global,
+    folder: &str,
+    path: &str,
+) -> Result<Result<Text, Refusal>, AllocError>
+    ensures { IfOk result (λ r. r ≡ within_bytes (path_below folder.now path.now)) }
+{
+    let (before, slash) = before_path(folder, path);
+    join(alloc, slash, &[before, path])
+}

@@ -1,9 +1,0 @@
-use Rattle.std.proofs.Common.{◌≡◌, drop, map}
-use Rattle.grammar.specs.ExpressionTree.{expression_of, expressions}
-use Rattle.option_file.specs.Given.{items_given}
-use Rattle.option_file.proofs.Items.{found}
-use Rattle.option_file.proofs.given.items_given.Given as goal
-
--- all items are those so far and those that are left
-abbrev pub invariant-loop-item : goal.invariant-loop-item
-invariant-loop-item l = items_given (expressions (map expression_of l.items)) ≡ found l.all.items (drop l.item-index l.items)

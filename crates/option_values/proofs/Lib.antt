@@ -1,8 +1,0 @@
-pub mod Cutting
-pub mod Items
-pub mod Parsing
-pub mod Shell
-pub mod Known
-pub mod BuiltInRows
-pub mod EveryText
-pub mod Lookups

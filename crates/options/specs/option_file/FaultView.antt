@@ -1,0 +1,7 @@
+-- A fault of an option file, without where it lies in memory.
+use Rattle.std.specs.Prelude.{string_bytes}
+use Rattle.options.specs.option_file.Fault.{DeclareFaultData}
+use Rattle.options.specs.declared.option_file.fault.DeclareFault.{DeclareFault}
+
+abbrev pub fault_in : DeclareFault → DeclareFaultData
+fault_in f = record { refusal = f.refusal; line = f.line; detail = string_bytes f.detail }

@@ -1,0 +1,93 @@
+-- The keywords of a call of `option`, and what they give.
+use Rattle.std.specs.Prelude.{ℕ, ℤ, Bool, List, [], ◌∷◌, Option, Some, None, codes, bytes_eq, if◌then◌else◌}
+use Rattle.std.specs.Option.{option_map}
+use Rattle.machine.specs.option_values.Kinds as kinds
+use Rattle.machine.specs.option_values.Kinds.{Kind}
+use Rattle.options.specs.declared.option_file.keyword.Keyword.{Keyword}
+use Rattle.options.specs.declared.option_file.keyword.Keyword.TheVariants as words
+use Rattle.machine.specs.declared.option_values.kind.OptionType.{OptionType}
+use Rattle.machine.specs.declared.option_values.kind.OptionType.TheVariants as types
+use Rattle.machine.specs.option_values.Types.{type_named}
+use Rattle.options.specs.option_file.Given.{Given, Text, Integer, Texts}
+use Rattle.basics.specs.Among.{is_among}
+
+-- what the keywords up to some place give; a type, choices and bounds are what they have to be
+pub record Keywords : Type 0 where
+  pub kind : Option OptionType
+  pub value : Option Given
+  pub choices : Option (List (List ℕ))
+  pub least : Option ℤ
+  pub greatest : Option ℤ
+
+abbrev pub nothing_given : Keywords
+nothing_given = record { kind = None; value = None; choices = None; least = None; greatest = None }
+
+-- the keywords that there are; a description and `yield` have no effect
+unfoldable pub keyword_named : List ℕ → Option Keyword
+keyword_named name =
+    if bytes_eq name (codes "type") then Some words.Kind
+    else (if bytes_eq name (codes "value") then Some words.Value
+    else (if bytes_eq name (codes "choices") then Some words.Choices
+    else (if bytes_eq name (codes "min") then Some words.Min
+    else (if bytes_eq name (codes "max") then Some words.Max
+    else (if bytes_eq name (codes "description") then Some words.NoEffect
+    else (if bytes_eq name (codes "yield") then Some words.NoEffect
+    else None))))))
+
+-- the keywords of functions that are left out
+abbrev pub is_left_out : List ℕ → Bool
+is_left_out = is_among (codes "kwargs" ∷ codes "fallback" ∷ codes "deprecated" ∷ [])
+
+-- a type is the name of one, as a text
+abbrev pub type_in : Given → Option OptionType
+type_in (Text name) = type_named name
+type_in _ = None
+
+-- choices are a list of texts
+abbrev pub choices_in : Given → Option (List (List ℕ))
+choices_in (Texts items) = Some items
+choices_in _ = None
+
+-- a bound is an integer of 64 bits
+abbrev pub bound_in : Given → Option ℤ
+bound_in (Integer n) = Some n
+bound_in _ = None
+
+-- one more keyword, and what it gives; nothing where it may not give this
+abbrev pub noted : Keywords → Keyword → Given → Option Keywords
+noted k words.Kind g = option_map (λ t. record k { kind = Some t }) (type_in g)
+noted k words.Value g = Some (record k { value = Some g })
+noted k words.Choices g = option_map (λ c. record k { choices = Some c }) (choices_in g)
+noted k words.Min g = option_map (λ n. record k { least = Some n }) (bound_in g)
+noted k words.Max g = option_map (λ n. record k { greatest = Some n }) (bound_in g)
+noted k words.NoEffect g = Some k
+
+-- a combo has at least one choice
+abbrev pub combo_of : Option (List (List ℕ)) → Option Kind
+combo_of (Some (first ∷ others)) = Some (kinds.Combo (first ∷ others))
+combo_of _ = None
+
+-- an integer has a value of its own
+abbrev pub integer_of : Option Given → Option ℤ → Option ℤ → Option Kind
+integer_of (Some g) least greatest = Some (kinds.Integer least greatest)
+integer_of None least greatest = None
+
+abbrev pub kind_of_type : Keywords → OptionType → Option Kind
+kind_of_type k types.Text = Some kinds.Text
+kind_of_type k types.Boolean = Some kinds.Boolean
+kind_of_type k types.Combo = combo_of k.choices
+kind_of_type k types.Integer = integer_of k.value k.least k.greatest
+kind_of_type k types.Array = Some (kinds.Array k.choices)
+kind_of_type k types.Feature = Some kinds.Feature
+
+abbrev pub kind_with : Keywords → Option OptionType → Option Kind
+kind_with k None = None
+kind_with k (Some t) = kind_of_type k t
+
+-- what an option with these keywords takes; nothing where a keyword is missing that it needs
+abbrev pub kind_of : Keywords → Option Kind
+kind_of k = kind_with k k.kind
+
+-- what an option with these keywords takes, and the default that it is given
+abbrev pub asked_by : Keywords → Option (Kind × Option Given)
+asked_by k = option_map (λ kind. (kind, k.value)) (kind_of k)

@@ -1,0 +1,24 @@
+-- What the keywords of a call stand for.
+use Rattle.std.specs.Prelude.{Option}
+use Rattle.std.specs.Option.{option_map}
+use Rattle.machine.specs.declared.option_values.kind.OptionKind.{OptionKind}
+use Rattle.machine.specs.option_values.Kinds.{Kind}
+use Rattle.machine.specs.option_values.View.{choices_in, kind_in}
+use Rattle.options.specs.declared.option_file.declaration.Given.{Given}
+use Rattle.options.specs.declared.option_file.keyword.Keywords.{Keywords}
+use Rattle.options.specs.option_file.Given as given
+use Rattle.options.specs.option_file.Keywords as plain
+use Rattle.options.specs.option_file.View.{given_in}
+
+abbrev pub keywords_in : Keywords → plain.Keywords
+keywords_in k = record {
+  kind = k.kind;
+  value = option_map given_in k.value;
+  choices = choices_in k.choices;
+  least = k.min;
+  greatest = k.max;
+}
+
+-- what an option takes, and the default that it is given
+abbrev pub asked_in : OptionKind × Option Given → Kind × Option given.Given
+asked_in a = (kind_in a.0, option_map given_in a.1)

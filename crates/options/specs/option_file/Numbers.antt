@@ -1,0 +1,13 @@
+-- Which numbers an option file may hold.
+use Rattle.std.specs.Prelude.{ℕ, ℤ, ◌^◌, Bool, List, Option, Some, None, nat_lt, if◌then◌else◌}
+use Rattle.lexer.specs.Numerals.{magnitude}
+use Rattle.machine.specs.machine_file.Numbers.{integer_of}
+
+-- the least number that is out of the range of the language's integers
+unfoldable pub past_integers : ℕ
+past_integers = 2 ^ 127
+
+-- the number behind a minus or not, where 64 bits hold it; nothing where its digits are out of range
+unfoldable pub number_of : Bool → List ℕ → Option (Option ℤ)
+number_of negative digits =
+    if nat_lt (magnitude digits) past_integers then Some (integer_of negative (magnitude digits)) else None

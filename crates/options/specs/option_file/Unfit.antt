@@ -1,0 +1,75 @@
+-- Why a call of `option` declares none: the first thing that is wrong with its arguments, in their order.
+use Rattle.std.specs.Prelude.{ℕ, Bool, not, List, [], ◌∷◌, Option, Some, None, codes, is_some, if◌then◌else◌}
+use Rattle.grammar.specs.ExpressionTree.{ArgumentTree, ArgumentTrees, MoreArguments, NoArgument}
+use Rattle.machine.specs.option_values.BuiltIns.{is_built_in}
+use Rattle.machine.specs.declared.option_values.kind.OptionType.{OptionType}
+use Rattle.machine.specs.declared.option_values.kind.OptionType.TheVariants as types
+use Rattle.options.specs.option_file.Given.{Given, Text, given}
+use Rattle.options.specs.option_file.Keywords.{Keywords, bound_in, choices_in, keyword_named, type_in}
+use Rattle.options.specs.option_file.Misfits.{MisfitData, RefusedData, Nameless, NoName, BuiltIn, TooMany, Unknown}
+use Rattle.options.specs.option_file.Misfits.{NoPlain, NoType, NoChoices, NoBound, Missing, refused_as}
+use Rattle.options.specs.option_file.Names.{is_name}
+use Rattle.options.specs.declared.option_file.keyword.Keyword.{Keyword}
+use Rattle.options.specs.declared.option_file.keyword.Keyword.TheVariants as words
+
+-- arguments one after another
+abbrev pub listed : ArgumentTrees → List ArgumentTree
+listed NoArgument = []
+listed (MoreArguments key e more) = (key, e) ∷ listed more
+
+abbrev pub or_later : Option RefusedData → Option RefusedData → Option RefusedData
+or_later (Some r) later = Some r
+or_later None later = later
+
+abbrev pub or_last : Option RefusedData → RefusedData → RefusedData
+or_last (Some r) last = r
+or_last None last = last
+
+abbrev pub unless : Bool → MisfitData → Option RefusedData
+unless is_so m = if is_so then None else Some (refused_as m)
+
+-- ---- the name
+
+abbrev pub name_refused : List ℕ → Option RefusedData
+name_refused name = if is_name name then unless (not (is_built_in name)) (BuiltIn name) else Some (refused_as (NoName name))
+
+abbrev pub given_refused : Option Given → Option RefusedData
+given_refused (Some (Text name)) = name_refused name
+given_refused _ = Some (refused_as Nameless)
+
+-- ---- the others, each by its keyword
+
+abbrev pub noted_refused : List ℕ → Keyword → Given → Option RefusedData
+noted_refused key words.Kind g = unless (is_some (type_in g)) (NoType key)
+noted_refused key words.Choices g = unless (is_some (choices_in g)) (NoChoices key)
+noted_refused key words.Min g = unless (is_some (bound_in g)) (NoBound key)
+noted_refused key words.Max g = unless (is_some (bound_in g)) (NoBound key)
+noted_refused key words.Value g = None
+noted_refused key words.NoEffect g = None
+
+abbrev pub plain_refused : List ℕ → Keyword → Option Given → Option RefusedData
+plain_refused key keyword None = Some (refused_as (NoPlain key))
+plain_refused key keyword (Some g) = noted_refused key keyword g
+
+abbrev pub keyword_refused : List ℕ → Option Keyword → Option Given → Option RefusedData
+keyword_refused key None g = Some (refused_as (Unknown key))
+keyword_refused key (Some keyword) g = plain_refused key keyword g
+
+abbrev pub argument_refused : ArgumentTree → Option RefusedData
+argument_refused (None, e) = Some (refused_as TooMany)
+argument_refused (Some key, e) = keyword_refused key (keyword_named key) (given e)
+
+abbrev pub first_refused : List ArgumentTree → Option RefusedData
+first_refused [] = None
+first_refused (a ∷ others) = or_later (argument_refused a) (first_refused others)
+
+-- ---- a keyword that is needed
+
+abbrev pub needed_by : Option OptionType → MisfitData
+needed_by None = Missing (codes "type")
+needed_by (Some types.Combo) = Missing (codes "choices")
+needed_by (Some t) = Missing (codes "value")
+
+abbrev pub lacking : Option Keywords → RefusedData
+lacking None = refused_as Nameless
+lacking (Some k) = refused_as (needed_by k.kind)

@@ -1,0 +1,230 @@
+//! Calls of `option`.
+
+ghost use Rattle.std.specs.Prelude.{◌≡◌, ◌++◌, [], ◌∷◌, IfOk, IsTrue, false, map, not, string_bytes};
+ghost use Rattle.std.specs.List.{list_any};
+ghost use Rattle.std.specs.Option.{option_map};
+ghost use Rattle.grammar.specs.ExpressionTree.{argument_of, argument_trees};
+ghost use Rattle.basics.specs.Among.{is_among};
+ghost use Rattle.machine.specs.option_values.View.{strings_in};
+ghost use Rattle.options.specs.option_file.Calls.{stands_key, with_key, gives_twice, is_left_out_key, is_free_name, name_in, with_argument};
+ghost use Rattle.options.specs.option_file.Calls.{first_left_out, first_twice, key_said, keywords_from, option_of, call_declares};
+ghost use Rattle.options.specs.option_file.Keywords.{nothing_given};
+ghost use Rattle.options.specs.option_file.KeywordsView.{keywords_in};
+ghost use Rattle.options.specs.option_file.View.{given_in, entry_in, call_in};
+
+use crate::option_file::declaration::{Declaration, Given};
+use crate::option_file::given::given;
+use crate::option_file::keyword::{Keyword, Keywords, is_left_out};
+use crate::option_file::misfit::{Misfit, Refused};
+use crate::option_file::names::is_name;
+use crate::option_file::unfit::unfit;
+use basics::tables::{Held, SipSet, new_set};
+use grammar::tree::Argument;
+use machine::option_values::is_built_in;
+use std::alloc::{AllocError, Global};
+
+// Puts a key behind the others; false where it stands among them.
+fn put_new(keys: &mut SipSet<String>, key: String) -> Result<bool, AllocError>
+    ensures tested { IfOk result (λ new. new ≡ not (is_among (strings_in keys.old.keys) (string_bytes key))) }
+    ensures added { IfOk result (λ new. IsTrue new → strings_in keys.new.keys ≡ strings_in keys.old.keys ++ string_bytes key ∷ []) }
+{
+    let new = keys.insert(key)?;
+    Ok(new)
+}
+
+// Whether an argument's key stands among these; else it is put behind them.
+fn comes_again(
+    alloc: Global,
+    keys: &mut SipSet<String>,
+    argument: &Argument<'_>,
+) -> Result<bool, AllocError>
+    ensures tested { IfOk result (λ again. again ≡ stands_key (strings_in keys.old.keys) (argument_of argument.now).0) }
+    ensures added { IfOk result (λ again. again ≡ false
+        → strings_in keys.new.keys ≡ with_key (strings_in keys.old.keys) (argument_of argument.now).0) }
+{
+    let Some(key) = argument.name else {
+        return Ok(false);
+    };
+    let key = String::from_str(alloc, key)?;
+    let new = put_new(keys, key)?;
+    Ok(!new)
+}
+
+// Whether a keyword comes twice.
+fn gives_twice(alloc: Global, arguments: &[Argument<'_>]) -> Result<bool, AllocError>
+    ensures { IfOk result (λ twice. twice ≡ gives_twice [] (argument_trees arguments.now)) }
+{
+    let mut keys = Held {
+        table: new_set(alloc),
+    };
+    for argument in arguments {
+        if comes_again(alloc, &mut keys.table, argument)? {
+            return Ok(true);
+        }
+    }
+    Ok(false)
+}
+
+fn key_said<'a>(argument: &Argument<'a>) -> &'a str
+    ensures { result.now ≡ key_said (argument_of argument.now).0 }
+{
+    match argument.name {
+        Some(key) => key,
+        None => "",
+    }
+}
+
+// The first keyword that comes twice.
+fn first_twice<'a>(alloc: Global, arguments: &[Argument<'a>]) -> Result<&'a str, AllocError>
+    ensures { IfOk result (λ key. key.now ≡ first_twice [] (map argument_of arguments.now)) }
+{
+    let mut keys = Held {
+        table: new_set(alloc),
+    };
+    for argument in arguments {
+        if comes_again(alloc, &mut keys.table, argument)? {
+            return Ok(key_said(argument));
+        }
+    }
+    Ok("")
+}
+
+fn is_left_out_key(argument: &Argument<'_>) -> bool
+    ensures { result ≡ is_left_out_key (argument_of argument.now).0 }
+{
+    match argument.name {
+        Some(key) => is_left_out(key),
+        None => false,
+    }
+}
+
+// Whether a keyword of those that are left out comes.
+fn gives_left_out(arguments: &[Argument<'_>]) -> bool
+    ensures { result ≡ list_any (λ a. is_left_out_key (argument_of a).0) arguments.now }
+{
+    arguments.iter().any(|argument| is_left_out_key(argument))
+}
+
+// The first keyword of those that are left out.
+fn first_left_out<'a>(arguments: &[Argument<'a>]) -> &'a str
+    ensures { result.now ≡ first_left_out (map argument_of arguments.now) }
+{
+    for argument in arguments {
+        if is_left_out_key(argument) {
+            return key_said(argument);
+        }
+    }
+    ""
+}
+
+// Whether a project may give an option this name.
+fn is_free_name(name: &str) -> bool
+    ensures { result ≡ is_free_name name.now }
+{
+    is_name(name) && !is_built_in(name)
+}
+
+// The name that is given, if it is one that an option may have.
+fn name_in(given: Option<Given>) -> Option<String>
+    ensures { option_map string_bytes result ≡ name_in (option_map given_in given) }
+{
+    let Given::Text(name) = given? else {
+        return None;
+    };
+    if is_free_name(name.as_str()) {
+        Some(name)
+    } else {
+        None
+    }
+}
+
+// One more argument, which a keyword gives.
+fn with_argument(
+    alloc: Global,
+    keywords: Keywords,
+    argument: &Argument<'_>,
+) -> Result<Option<Keywords>, AllocError>
+    ensures { IfOk result (λ k. option_map keywords_in k ≡ with_argument (keywords_in keywords) (argument_of argument.now)) }
+{
+    let Some(key) = argument.name else {
+        return Ok(None);
+    };
+    let Some(keyword) = Keyword::named(key) else {
+        return Ok(None);
+    };
+    let Some(given) = given(alloc, &argument.value)? else {
+        return Ok(None);
+    };
+    keywords.noted(alloc, keyword, given)
+}
+
+/// What these arguments give, where keywords give them all.
+pub(crate) fn keywords_from(
+    alloc: Global,
+    arguments: &[Argument<'_>],
+) -> Result<Option<Keywords>, AllocError>
+    ensures { IfOk result (λ k. option_map keywords_in k ≡ keywords_from nothing_given (argument_trees arguments.now)) }
+{
+    let mut keywords = Keywords::new();
+    for argument in arguments {
+        let Some(next) = with_argument(alloc, keywords, argument)? else {
+            return Ok(None);
+        };
+        keywords = next;
+    }
+    Ok(Some(keywords))
+}
+
+// The option that these arguments declare on this line: its name, and then keywords.
+fn option_of(
+    alloc: Global,
+    line: usize,
+    arguments: &[Argument<'_>],
+) -> Result<Option<(String, Declaration)>, AllocError>
+    ensures { IfOk result (λ option. option_map entry_in option ≡ option_of line (argument_trees arguments.now)) }
+{
+    let Some((first, others)) = arguments.split_first() else {
+        return Ok(None);
+    };
+    if first.is_named() {
+        return Ok(None);
+    }
+    let Some(name) = name_in(given(alloc, first.value())?) else {
+        return Ok(None);
+    };
+    let Some(keywords) = keywords_from(alloc, others)? else {
+        return Ok(None);
+    };
+    let Some((kind, value)) = keywords.finished() else {
+        return Ok(None);
+    };
+    Ok(Some((name, Declaration { kind, value, line })))
+}
+
+/// The option that a call of `option` declares, with its name, or what is wrong with the call: a keyword that comes twice is
+/// found first, then one that is left out, and then all else.
+pub fn call_declares(
+    alloc: Global,
+    line: usize,
+    arguments: &[Argument<'_>],
+) -> Result<Result<(String, Declaration), Refused>, AllocError>
+    ensures { IfOk result (λ option. call_in option ≡ call_declares line (argument_trees arguments.now)) }
+{
+    if gives_twice(alloc, arguments)? {
+        let key = first_twice(alloc, arguments)?;
+        let refused = Misfit::Twice(key).refused(alloc)?;
+        return Ok(Err(refused));
+    }
+    if gives_left_out(arguments) {
+        let key = first_left_out(arguments);
+        let refused = Misfit::LeftOut(key).refused(alloc)?;
+        return Ok(Err(refused));
+    }
+    match option_of(alloc, line, arguments)? {
+        Some(option) => Ok(Ok(option)),
+        None => {
+            let refused = unfit(alloc, arguments)?;
+            Ok(Err(refused))
+        }
+    }
+}

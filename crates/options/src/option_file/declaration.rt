@@ -1,0 +1,128 @@
+//! Options as an option file declares them.
+
+ghost use Rattle.std.specs.Prelude.{◌≡◌, ◌==◌, ◌++◌, [], ◌∷◌, true, length, slice_get, string_bytes, IfOk};
+ghost use Rattle.std.specs.Option.{option_map};
+ghost use Rattle.options.specs.option_file.Entries.{entries_in};
+ghost use Rattle.options.specs.option_file.Lookups.{are_new};
+
+use basics::tables::{SipMap, new_map};
+use machine::option_values::OptionKind;
+use std::alloc::{AllocError, Global};
+
+/// What an argument gives, as it is written. Of `value:` only its form is known: whether it is a value of the option is found
+/// when the options are resolved.
+#[derive(Drop)]
+pub enum Given {
+    /// A plain or a raw string, after its escapes.
+    Text(String),
+    Boolean(bool),
+    /// A number that 64 bits hold.
+    Integer(i64),
+    /// A list of texts.
+    Texts(Vec<String>),
+    /// What no option takes: a number that 64 bits do not hold, or a list of other things than texts.
+    Other,
+}
+
+/// An option as its call declares it.
+pub struct Declaration {
+    pub kind: OptionKind,
+    /// The default that the call gives.
+    pub value: Option<Given>,
+    /// The line, from 1, of its statement.
+    pub line: usize,
+}
+
+impl Drop for Declaration {
+    fn drop(self) {
+        let Declaration {
+            kind: _,
+            value: _,
+            line: _,
+        } = self;
+    }
+}
+
+/// The options of an option file, in the order of their calls. Their names differ, and none is that of an option that every
+/// project has.
+pub struct Declared {
+    pub(crate) options: SipMap<String, Declaration>,
+    ghost differ: { are_new (entries_in options.entries) ≡ true },
+}
+
+impl Drop for Declared {
+    fn drop(self) {
+        let Declared { options: _ } = self;
+    }
+}
+
+impl Declared {
+    ghost use Rattle.options.specs.option_file.Lookups.{is_new, is_used, option_named};
+    ghost use Rattle.options.specs.option_file.View.{option_in, options_in, shown_in};
+
+    /// What a project without an option file declares: nothing.
+    pub fn empty(alloc: Global) -> Declared
+        ensures { options_in result ≡ [] }
+    {
+        Declared {
+            options: new_map(alloc),
+        }
+    }
+
+    // Whether an option has this name.
+    pub(crate) fn has(&self, name: &str) -> bool
+        ensures { result ≡ is_used name.now (options_in self.now) }
+    {
+        self.options.contains_key(name)
+    }
+
+    // With one more option behind the others; its name is new.
+    pub(crate) fn with(self, name: String, declaration: Declaration) -> Result<Declared, AllocError>
+        requires { is_new (string_bytes name) (options_in self) ≡ true }
+        ensures { IfOk result (λ more. options_in more ≡ options_in self ++ option_in (string_bytes name) declaration ∷ []) }
+    {
+        let Declared { mut options } = self;
+        options.insert(name, declaration)?;
+        Ok(Declared { options })
+    }
+
+    /// How many options there are.
+    pub fn len(&self) -> usize
+        ensures { result ≡ length (options_in self.now) }
+    {
+        self.options.len()
+    }
+
+    /// Whether there is no option.
+    pub fn is_empty(&self) -> bool
+        ensures { result ≡ (length (options_in self.now) == 0) }
+    {
+        self.options.is_empty()
+    }
+
+    /// The i-th option, in the order of the calls, and its name.
+    pub fn at(&self, i: usize) -> Option<(&str, &Declaration)>
+        ensures { option_map shown_in result ≡ slice_get (options_in self.now) i }
+    {
+        let (name, declaration) = self.options.get_index(i)?;
+        Some((name.as_str(), declaration))
+    }
+
+    /// The option of this name. The i-th is looked at first, which costs no hash: a caller knows that it often is the one. Whatever `i` is,
+    /// the answer is that of `get`.
+    pub fn get_near(&self, i: usize, name: &str) -> Option<&Declaration>
+        ensures { option_map (λ d. option_in name.now d.now) result ≡ option_named (options_in self.now) name.now }
+    {
+        match self.at(i) {
+            Some((own, declaration)) if own == name => Some(declaration),
+            _ => self.get(name),
+        }
+    }
+
+    /// The option of this name. It takes no memory and never fails.
+    pub fn get(&self, name: &str) -> Option<&Declaration>
+        ensures { option_map (λ d. option_in name.now d.now) result ≡ option_named (options_in self.now) name.now }
+    {
+        self.options.get(name)
+    }
+}

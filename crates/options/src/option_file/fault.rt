@@ -1,0 +1,28 @@
+//! Why a file is no option file.
+
+ghost use Rattle.std.specs.Prelude.{◌≡◌, IfOk};
+ghost use Rattle.basics.specs.View.{fault_view};
+ghost use Rattle.options.specs.option_file.Fault.{told_in};
+ghost use Rattle.options.specs.option_file.FaultView.{fault_in};
+
+use basics::faults::{Fault, Refusal};
+use std::alloc::{AllocError, Global};
+
+/// What is wrong with an option file, and the line, from 1, of the statement: E15, where it declares no option, or E23, where it
+/// has a keyword that is left out.
+#[derive(Drop)]
+pub struct DeclareFault {
+    pub refusal: Refusal,
+    pub line: usize,
+    /// What it is about, in words.
+    pub detail: String,
+}
+
+impl DeclareFault {
+    /// The fault as a run tells it, in the option file with this path.
+    pub fn told_in(self, alloc: Global, path: &str) -> Result<Fault, AllocError>
+        ensures { IfOk result (λ fault. fault_view fault ≡ told_in path.now (fault_in self)) }
+    {
+        Fault::new(alloc, path, self.line, self.refusal, &self.detail)
+    }
+}

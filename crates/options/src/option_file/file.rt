@@ -1,0 +1,131 @@
+//! Reads an option file, statement by statement.
+
+ghost use Rattle.std.specs.Prelude.{◌≡◌, IfOk};
+ghost use Rattle.grammar.specs.ExpressionTree.{argument_trees, expression_of};
+ghost use Rattle.grammar.specs.Tree.{file_of, statement_of};
+ghost use Rattle.options.specs.option_file.Declares.{line_of, function_declares, expression_declares, statement_declares, after};
+ghost use Rattle.options.specs.option_file.Declares.{file_declares};
+ghost use Rattle.options.specs.option_file.View.{call_in, after_in, options_in, declared_in};
+
+use crate::option_file::call::call_declares;
+use crate::option_file::declaration::{Declaration, Declared};
+use crate::option_file::fault::DeclareFault;
+use crate::option_file::misfit::{Misfit, Refused};
+use grammar::tree::{Argument, Expression, File, Statement};
+use std::alloc::{AllocError, Global};
+
+fn line_of(statement: &Statement<'_>) -> usize
+    ensures { result ≡ line_of (statement_of statement.now) }
+{
+    match statement {
+        Statement::Assign { line, .. } => *line,
+        Statement::Append { line, .. } => *line,
+        Statement::Expression { line, .. } => *line,
+        Statement::Break { line } => *line,
+        Statement::Continue { line } => *line,
+        Statement::If { line, .. } => *line,
+        Statement::Foreach { line, .. } => *line,
+    }
+}
+
+// The option that a call of this function declares on this line.
+fn function_declares(
+    alloc: Global,
+    line: usize,
+    name: &str,
+    arguments: &[Argument<'_>],
+) -> Result<Result<(String, Declaration), Refused>, AllocError>
+    ensures { IfOk result (λ option. call_in option ≡ function_declares line name.now (argument_trees arguments.now)) }
+{
+    if name == "option" {
+        call_declares(alloc, line, arguments)
+    } else {
+        Ok(Err(Misfit::NoCall.refused(alloc)?))
+    }
+}
+
+fn expression_declares(
+    alloc: Global,
+    line: usize,
+    expression: &Expression<'_>,
+) -> Result<Result<(String, Declaration), Refused>, AllocError>
+    ensures { IfOk result (λ option. call_in option ≡ expression_declares line (expression_of expression.now)) }
+{
+    match expression {
+        Expression::Call {
+            name,
+            arguments,
+            ..
+        } => function_declares(alloc, line, name, arguments),
+        Expression::Name { .. } => Ok(Err(Misfit::NoCall.refused(alloc)?)),
+        Expression::Literal { .. } => Ok(Err(Misfit::NoCall.refused(alloc)?)),
+        Expression::List { .. } => Ok(Err(Misfit::NoCall.refused(alloc)?)),
+        Expression::Dictionary { .. } => Ok(Err(Misfit::NoCall.refused(alloc)?)),
+        Expression::Postfix { .. } => Ok(Err(Misfit::NoCall.refused(alloc)?)),
+        Expression::Prefix { .. } => Ok(Err(Misfit::NoCall.refused(alloc)?)),
+        Expression::Chain { .. } => Ok(Err(Misfit::NoCall.refused(alloc)?)),
+        Expression::Ternary { .. } => Ok(Err(Misfit::NoCall.refused(alloc)?)),
+    }
+}
+
+// The option that a statement declares; it has to be a call of `option`.
+fn statement_declares(
+    alloc: Global,
+    statement: &Statement<'_>,
+) -> Result<Result<(String, Declaration), Refused>, AllocError>
+    ensures { IfOk result (λ option. call_in option ≡ statement_declares (statement_of statement.now)) }
+{
+    match statement {
+        Statement::Expression { value, line } => expression_declares(alloc, *line, value),
+        Statement::Assign { .. } => Ok(Err(Misfit::NoCall.refused(alloc)?)),
+        Statement::Append { .. } => Ok(Err(Misfit::NoCall.refused(alloc)?)),
+        Statement::Break { .. } => Ok(Err(Misfit::NoCall.refused(alloc)?)),
+        Statement::Continue { .. } => Ok(Err(Misfit::NoCall.refused(alloc)?)),
+        Statement::If { .. } => Ok(Err(Misfit::NoCall.refused(alloc)?)),
+        Statement::Foreach { .. } => Ok(Err(Misfit::NoCall.refused(alloc)?)),
+    }
+}
+
+// The options and the one that a statement declares, whose name has to be new.
+#[tactic(auto, unfolding(crate::specs::option_file::Declares::after))]
+fn after(
+    alloc: Global,
+    declared: Declared,
+    statement: &Statement<'_>,
+) -> Result<Result<Declared, Refused>, AllocError>
+    ensures { IfOk result (λ more. after_in more ≡ after (options_in declared) (statement_of statement.now)) }
+{
+    let (name, declaration) = match statement_declares(alloc, statement)? {
+        Ok(option) => option,
+        Err(refused) => return Ok(Err(refused)),
+    };
+    if declared.has(name.as_str()) {
+        let refused = Misfit::Again(name.as_str()).refused(alloc)?;
+        return Ok(Err(refused));
+    }
+    let more = declared.with(name, declaration)?;
+    Ok(Ok(more))
+}
+
+/// What an option file declares, in the order of its statements, or its first fault, at the line of its statement. Each
+/// statement is a call of `option`, as the Meson manual's page "Build options" has it.
+pub fn declare(alloc: Global, file: &File<'_>) -> Result<Result<Declared, DeclareFault>, AllocError>
+    ensures { IfOk result (λ answer. declared_in answer ≡ file_declares (file_of file.now)) }
+{
+    let mut declared = Declared::empty(alloc);
+    for statement in &file.statements {
+        match after(alloc, declared, statement)? {
+            Ok(more) => declared = more,
+            Err(refused) => {
+                let line = line_of(statement);
+                let Refused { refusal, detail } = refused;
+                return Ok(Err(DeclareFault {
+                    refusal,
+                    line,
+                    detail,
+                }));
+            }
+        }
+    }
+    Ok(Ok(declared))
+}

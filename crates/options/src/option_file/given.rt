@@ -1,0 +1,151 @@
+//! What the arguments of a call give.
+
+ghost use Rattle.std.specs.Prelude.{◌≡◌, IfOk, map};
+ghost use Rattle.std.specs.Option.{option_map};
+ghost use Rattle.grammar.specs.ExpressionTree.{expression_of, expressions};
+ghost use Rattle.lexer.specs.Texts.{text_of};
+ghost use Rattle.options.specs.option_file.Given.{Text as TextSaid, literal_given, negative_literal, negative_given, prefix_given};
+ghost use Rattle.options.specs.option_file.Given.{item_given};
+ghost use Rattle.options.specs.option_file.Given.{items_given, list_given, given};
+ghost use Rattle.options.specs.option_file.View.{given_in};
+
+use crate::option_file::declaration::Given;
+use crate::option_file::number::numeral;
+use grammar::tree::{Expression, Literal, Prefix};
+use lexer::text_of_slice;
+use lexer::token::Kind;
+use std::alloc::{AllocError, Global};
+
+// The text of a string of this kind.
+fn text(alloc: Global, kind: Kind, slice: &str) -> Result<Option<Given>, AllocError>
+    ensures { IfOk result (λ g. option_map given_in g ≡ Some (TextSaid (text_of kind slice.now))) }
+{
+    Ok(Some(Given::Text(text_of_slice(alloc, kind, slice)?)))
+}
+
+fn literal_given(alloc: Global, literal: Literal, slice: &str) -> Result<Option<Given>, AllocError>
+    ensures { IfOk result (λ g. option_map given_in g ≡ literal_given literal slice.now) }
+{
+    match literal {
+        Literal::String => text(alloc, Kind::String, slice),
+        Literal::RawString => text(alloc, Kind::RawString, slice),
+        Literal::True => Ok(Some(Given::Boolean(true))),
+        Literal::False => Ok(Some(Given::Boolean(false))),
+        Literal::Number => Ok(numeral(false, slice)),
+        Literal::FormatString => Ok(None),
+        Literal::RawFormatString => Ok(None),
+    }
+}
+
+// A literal behind a minus, which has to be a number.
+fn negative_literal(literal: Literal, slice: &str) -> Option<Given>
+    ensures { option_map given_in result ≡ negative_literal literal slice.now }
+{
+    if literal == Literal::Number {
+        numeral(true, slice)
+    } else {
+        None
+    }
+}
+
+// What stands behind a minus: a number alone.
+fn negative_given(value: &Expression<'_>) -> Option<Given>
+    ensures { option_map given_in result ≡ negative_given (expression_of value.now) }
+{
+    match value {
+        Expression::Literal { literal, text, .. } => negative_literal(*literal, text),
+        Expression::Name { .. } => None,
+        Expression::List { .. } => None,
+        Expression::Dictionary { .. } => None,
+        Expression::Call { .. } => None,
+        Expression::Postfix { .. } => None,
+        Expression::Prefix { .. } => None,
+        Expression::Chain { .. } => None,
+        Expression::Ternary { .. } => None,
+    }
+}
+
+fn prefix_given(prefix: Prefix, value: &Expression<'_>) -> Option<Given>
+    ensures { option_map given_in result ≡ prefix_given prefix (expression_of value.now) }
+{
+    match prefix {
+        Prefix::Negative => negative_given(value),
+        Prefix::Not => None,
+    }
+}
+
+// A string, a boolean, or a number with a minus or without.
+fn item_given(alloc: Global, value: &Expression<'_>) -> Result<Option<Given>, AllocError>
+    ensures { IfOk result (λ g. option_map given_in g ≡ item_given (expression_of value.now)) }
+{
+    match value {
+        Expression::Literal {
+            literal,
+            text,
+            line,
+        } => literal_given(alloc, *literal, text),
+        Expression::Prefix { prefix, value, .. } => Ok(prefix_given(*prefix, value)),
+        Expression::Name { .. } => Ok(None),
+        Expression::List { .. } => Ok(None),
+        Expression::Dictionary { .. } => Ok(None),
+        Expression::Call { .. } => Ok(None),
+        Expression::Postfix { .. } => Ok(None),
+        Expression::Chain { .. } => Ok(None),
+        Expression::Ternary { .. } => Ok(None),
+    }
+}
+
+// The items of a list, where there is no list among them.
+fn items_given(alloc: Global, items: &[Expression<'_>]) -> Result<Option<Vec<Given>>, AllocError>
+    ensures { IfOk result (λ v. option_map (λ gs. map given_in gs.items) v ≡ items_given (expressions (map expression_of items.now))) }
+{
+    let mut all = Vec::new(alloc);
+    for item in items {
+        let Some(given) = item_given(alloc, item)? else {
+            return Ok(None);
+        };
+        all.push(given)?;
+    }
+    Ok(Some(all))
+}
+
+// The list of texts that items are, where they are texts alone.
+fn list_given(alloc: Global, items: Vec<Given>) -> Result<Given, AllocError>
+    ensures { IfOk result (λ g. given_in g ≡ list_given (map given_in items.items)) }
+{
+    let mut texts = Vec::new(alloc);
+    for item in items {
+        let Given::Text(text) = item else {
+            return Ok(Given::Other);
+        };
+        texts.push(text)?;
+    }
+    Ok(Given::Texts(texts))
+}
+
+// A list of strings, booleans and numbers.
+fn list(alloc: Global, items: &[Expression<'_>]) -> Result<Option<Given>, AllocError>
+    ensures { IfOk result (λ g. option_map given_in g ≡ option_map list_given (items_given (expressions (map expression_of items.now)))) }
+{
+    let Some(items) = items_given(alloc, items)? else {
+        return Ok(None);
+    };
+    Ok(Some(list_given(alloc, items)?))
+}
+
+/// What an argument gives: a string, a boolean, a number, or a list of these. Nothing where it is written as anything else.
+pub fn given(alloc: Global, value: &Expression<'_>) -> Result<Option<Given>, AllocError>
+    ensures { IfOk result (λ g. option_map given_in g ≡ given (expression_of value.now)) }
+{
+    match value {
+        Expression::List { items, .. } => list(alloc, items),
+        Expression::Literal { .. } => item_given(alloc, value),
+        Expression::Prefix { .. } => item_given(alloc, value),
+        Expression::Name { .. } => Ok(None),
+        Expression::Dictionary { .. } => Ok(None),
+        Expression::Call { .. } => Ok(None),
+        Expression::Postfix { .. } => Ok(None),
+        Expression::Chain { .. } => Ok(None),
+        Expression::Ternary { .. } => Ok(None),
+    }
+}

@@ -1,0 +1,240 @@
+//! The keywords of a call of `option`.
+
+ghost use Rattle.std.specs.Prelude.{◌≡◌, IfOk, Some};
+ghost use Rattle.std.specs.Option.{option_map};
+ghost use Rattle.options.specs.option_file.Keywords.{nothing_given, keyword_named, is_left_out, type_in, choices_in, bound_in, noted};
+ghost use Rattle.options.specs.option_file.Keywords.{combo_of};
+ghost use Rattle.options.specs.option_file.Keywords.{asked_by, kind_of_type};
+ghost use Rattle.options.specs.option_file.KeywordsView.{asked_in, keywords_in};
+ghost use Rattle.options.specs.option_file.View.{given_in};
+ghost use Rattle.machine.specs.option_values.View.{kind_in, texts_of};
+
+use crate::option_file::declaration::Given;
+use basics::text_lists::is_among;
+use machine::option_values::{Choices, OptionKind, OptionType};
+use std::alloc::{AllocError, Global};
+
+/// A keyword of `option`, by what it gives.
+#[derive(Clone, Copy)]
+pub enum Keyword {
+    /// `type:`
+    Kind,
+    Value,
+    Choices,
+    Min,
+    Max,
+    /// `description:` and `yield:`
+    NoEffect,
+}
+
+/// What the keywords of a call give so far.
+pub struct Keywords {
+    pub kind: Option<OptionType>,
+    pub value: Option<Given>,
+    pub choices: Option<Choices>,
+    pub min: Option<i64>,
+    pub max: Option<i64>,
+}
+
+impl Drop for Keywords {
+    fn drop(self) {
+        let Keywords {
+            kind: _,
+            value: _,
+            choices: _,
+            min: _,
+            max: _,
+        } = self;
+    }
+}
+
+impl Keyword {
+    /// The keyword of this name, if there is one.
+    #[tactic(auto, unfolding(crate::specs::option_file::Keywords::keyword_named))]
+    pub fn named(name: &str) -> Option<Keyword>
+        ensures { result ≡ keyword_named name.now }
+    {
+        match name {
+            "type" => Some(Keyword::Kind),
+            "value" => Some(Keyword::Value),
+            "choices" => Some(Keyword::Choices),
+            "min" => Some(Keyword::Min),
+            "max" => Some(Keyword::Max),
+            "description" | "yield" => Some(Keyword::NoEffect),
+            _ => None,
+        }
+    }
+}
+
+/// Whether this names a keyword of functions that is left out.
+pub fn is_left_out(name: &str) -> bool
+    ensures { result ≡ is_left_out name.now }
+{
+    is_among(&["kwargs", "fallback", "deprecated"], name)
+}
+
+/// The type that is given by its name.
+pub(crate) fn type_in(given: &Given) -> Option<OptionType>
+    ensures { result ≡ type_in (given_in given.now) }
+{
+    match given {
+        Given::Text(name) => OptionType::named(name.as_str()),
+        Given::Boolean(_) => None,
+        Given::Integer(_) => None,
+        Given::Texts(_) => None,
+        Given::Other => None,
+    }
+}
+
+// Choices are a list of texts.
+fn choices_in(alloc: Global, given: Given) -> Result<Option<Choices>, AllocError>
+    ensures { IfOk result (λ choices. option_map texts_of choices ≡ choices_in (given_in given)) }
+{
+    match given {
+        Given::Texts(items) => Ok(Some(Choices::new(alloc, items)?)),
+        Given::Text(_) => Ok(None),
+        Given::Boolean(_) => Ok(None),
+        Given::Integer(_) => Ok(None),
+        Given::Other => Ok(None),
+    }
+}
+
+/// A bound is an integer of 64 bits.
+pub(crate) fn bound_in(given: &Given) -> Option<i64>
+    ensures { result ≡ bound_in (given_in given.now) }
+{
+    match given {
+        Given::Integer(number) => Some(*number),
+        Given::Text(_) => None,
+        Given::Boolean(_) => None,
+        Given::Texts(_) => None,
+        Given::Other => None,
+    }
+}
+
+// A combo has at least one choice.
+fn combo_of(choices: Option<Choices>) -> Option<OptionKind>
+    ensures { option_map kind_in result ≡ combo_of (option_map texts_of choices) }
+{
+    let choices = choices?;
+    if choices.texts().is_empty() {
+        None
+    } else {
+        Some(OptionKind::Combo(choices))
+    }
+}
+
+impl Keywords {
+    /// What no keyword gives.
+    pub fn new() -> Keywords
+        ensures { keywords_in result ≡ nothing_given }
+    {
+        Keywords {
+            kind: None,
+            value: None,
+            choices: None,
+            min: None,
+            max: None,
+        }
+    }
+
+    // A type is given, by its name.
+    fn with_kind(mut self, given: &Given) -> Option<Keywords>
+        ensures { option_map keywords_in result ≡ noted (keywords_in self) Keyword.Kind (given_in given.now) }
+    {
+        self.kind = Some(type_in(given)?);
+        Some(self)
+    }
+
+    // A default is given, whatever it is.
+    fn with_value(mut self, given: Given) -> Keywords
+        ensures { Some (keywords_in result) ≡ noted (keywords_in self) Keyword.Value (given_in given) }
+    {
+        self.value = Some(given);
+        self
+    }
+
+    // Choices are given.
+    fn with_choices(mut self, alloc: Global, given: Given) -> Result<Option<Keywords>, AllocError>
+        ensures { IfOk result (λ k. option_map keywords_in k ≡ noted (keywords_in self) Keyword.Choices (given_in given)) }
+    {
+        let Some(choices) = choices_in(alloc, given)? else {
+            return Ok(None);
+        };
+        self.choices = Some(choices);
+        Ok(Some(self))
+    }
+
+    // A lower bound is given.
+    fn with_min(mut self, given: &Given) -> Option<Keywords>
+        ensures { option_map keywords_in result ≡ noted (keywords_in self) Keyword.Min (given_in given.now) }
+    {
+        self.min = Some(bound_in(given)?);
+        Some(self)
+    }
+
+    // An upper bound is given.
+    fn with_max(mut self, given: &Given) -> Option<Keywords>
+        ensures { option_map keywords_in result ≡ noted (keywords_in self) Keyword.Max (given_in given.now) }
+    {
+        self.max = Some(bound_in(given)?);
+        Some(self)
+    }
+
+    /// One more keyword, and what it gives; nothing where it may not give this.
+    pub fn noted(
+        self,
+        alloc: Global,
+        keyword: Keyword,
+        given: Given,
+    ) -> Result<Option<Keywords>, AllocError>
+        ensures { IfOk result (λ k. option_map keywords_in k ≡ noted (keywords_in self) keyword (given_in given)) }
+    {
+        match keyword {
+            Keyword::Kind => Ok(self.with_kind(&given)),
+            Keyword::Value => Ok(Some(self.with_value(given))),
+            Keyword::Choices => self.with_choices(alloc, given),
+            Keyword::Min => Ok(self.with_min(&given)),
+            Keyword::Max => Ok(self.with_max(&given)),
+            Keyword::NoEffect => Ok(Some(self)),
+        }
+    }
+
+    // What an option of this type takes, with the choices and the bounds that are given.
+    fn kind_of(&mut self, named: OptionType) -> Option<OptionKind>
+        ensures kind { option_map kind_in result ≡ kind_of_type (keywords_in self.old) named }
+        ensures value { self.new.value ≡ self.old.value }
+    {
+        match named {
+            OptionType::Text => Some(OptionKind::Text),
+            OptionType::Boolean => Some(OptionKind::Boolean),
+            OptionType::Combo => combo_of(self.choices.take()),
+            OptionType::Integer => self.integer_kind(),
+            OptionType::Array => Some(OptionKind::Array(self.choices.take())),
+            OptionType::Feature => Some(OptionKind::Feature),
+        }
+    }
+
+    // An integer has a value of its own.
+    fn integer_kind(&self) -> Option<OptionKind>
+        ensures { option_map kind_in result ≡ kind_of_type (keywords_in self.now) OptionType.Integer }
+    {
+        if self.value.is_none() {
+            return None;
+        }
+        Some(OptionKind::Integer {
+            min: self.min,
+            max: self.max,
+        })
+    }
+
+    /// What an option with these keywords takes, and the default that it is given; nothing where a keyword is missing that it
+    /// needs.
+    pub fn finished(mut self) -> Option<(OptionKind, Option<Given>)>
+        ensures { option_map asked_in result ≡ asked_by (keywords_in self) }
+    {
+        let named = self.kind?;
+        let kind = self.kind_of(named)?;
+        Some((kind, self.value.take()))
+    }
+}

@@ -1,0 +1,36 @@
+//! The numbers of an option file.
+
+ghost use Rattle.std.specs.Prelude.{◌≡◌};
+ghost use Rattle.std.specs.Option.{option_map};
+ghost use Rattle.machine.specs.machine_file.Numbers.{integer_of};
+ghost use Rattle.options.specs.option_file.Given.{integer, numeral};
+ghost use Rattle.options.specs.option_file.View.{given_in};
+
+use crate::option_file::declaration::Given;
+use lexer::magnitude;
+use machine::machine_file::integer_of;
+
+/// The least number that is out of the range of the language's integers.
+const PAST_INTEGERS: u128 = 1 << 127;
+
+// What a number behind a minus or not gives.
+fn integer(negative: bool, magnitude: u128) -> Given
+    ensures { given_in result ≡ integer (integer_of negative magnitude) }
+{
+    match integer_of(negative, magnitude) {
+        Some(number) => Given::Integer(number),
+        None => Given::Other,
+    }
+}
+
+/// What a number token behind a minus or not gives: nothing where it is out of the range of integers.
+pub fn numeral(negative: bool, text: &str) -> Option<Given>
+    ensures { option_map given_in result ≡ numeral negative text.now }
+{
+    let magnitude = magnitude(text)?;
+    if magnitude < PAST_INTEGERS {
+        Some(integer(negative, magnitude))
+    } else {
+        None
+    }
+}

@@ -1,0 +1,166 @@
+//! Why a call of `option` declares none: it is looked for only where the call is refused.
+
+ghost use Rattle.std.specs.Prelude.{◌≡◌, IfOk, map};
+ghost use Rattle.std.specs.Option.{option_map};
+ghost use Rattle.grammar.specs.ExpressionTree.{argument_of};
+ghost use Rattle.options.specs.option_file.Calls.{keywords_from, others_unfit, unfit};
+ghost use Rattle.options.specs.option_file.MisfitView.{misfit_in, refused_in};
+ghost use Rattle.options.specs.option_file.Unfit.{argument_refused, first_refused, given_refused, lacking};
+ghost use Rattle.options.specs.option_file.Unfit.{name_refused, needed_by, noted_refused, plain_refused, unless};
+ghost use Rattle.options.specs.option_file.KeywordsView.{keywords_in};
+ghost use Rattle.options.specs.option_file.View.{given_in};
+
+use crate::option_file::call::keywords_from;
+use crate::option_file::declaration::Given;
+use crate::option_file::given::given;
+use crate::option_file::keyword::{Keyword, Keywords, bound_in, type_in};
+use crate::option_file::misfit::{Misfit, Refused};
+use crate::option_file::names::is_name;
+use grammar::tree::Argument;
+use machine::option_values::{OptionType, is_built_in};
+use std::alloc::{AllocError, Global};
+
+fn unless(alloc: Global, is_so: bool, misfit: Misfit<'_>) -> Result<Option<Refused>, AllocError>
+    ensures { IfOk result (λ r. option_map refused_in r ≡ unless is_so (misfit_in misfit.entry)) }
+{
+    if is_so {
+        return Ok(None);
+    }
+    let refused = misfit.refused(alloc)?;
+    Ok(Some(refused))
+}
+
+// ---- the name
+
+fn name_refused(alloc: Global, name: &str) -> Result<Option<Refused>, AllocError>
+    ensures { IfOk result (λ r. option_map refused_in r ≡ name_refused name.now) }
+{
+    if is_name(name) {
+        unless(alloc, !is_built_in(name), Misfit::BuiltIn(name))
+    } else {
+        unless(alloc, false, Misfit::NoName(name))
+    }
+}
+
+fn given_refused(alloc: Global, given: &Option<Given>) -> Result<Option<Refused>, AllocError>
+    ensures { IfOk result (λ r. option_map refused_in r ≡ given_refused (option_map given_in given.now)) }
+{
+    match given {
+        Some(Given::Text(name)) => name_refused(alloc, name),
+        _ => unless(alloc, false, Misfit::Nameless),
+    }
+}
+
+// ---- the others, each by its keyword
+
+fn noted_refused(
+    alloc: Global,
+    key: &str,
+    keyword: Keyword,
+    given: &Given,
+) -> Result<Option<Refused>, AllocError>
+    ensures { IfOk result (λ r. option_map refused_in r ≡ noted_refused key.now keyword (given_in given.now)) }
+{
+    match keyword {
+        Keyword::Kind => unless(alloc, type_in(given).is_some(), Misfit::NoType(key)),
+        Keyword::Choices => {
+            let fits = matches!(given, Given::Texts(_));
+            unless(alloc, fits, Misfit::NoChoices(key))
+        }
+        Keyword::Min => unless(alloc, bound_in(given).is_some(), Misfit::NoBound(key)),
+        Keyword::Max => unless(alloc, bound_in(given).is_some(), Misfit::NoBound(key)),
+        Keyword::Value => Ok(None),
+        Keyword::NoEffect => Ok(None),
+    }
+}
+
+fn plain_refused(
+    alloc: Global,
+    key: &str,
+    keyword: Keyword,
+    given: &Option<Given>,
+) -> Result<Option<Refused>, AllocError>
+    ensures { IfOk result (λ r. option_map refused_in r ≡ plain_refused key.now keyword (option_map given_in given.now)) }
+{
+    match given {
+        Some(given) => noted_refused(alloc, key, keyword, given),
+        None => unless(alloc, false, Misfit::NoPlain(key)),
+    }
+}
+
+fn argument_refused(alloc: Global, argument: &Argument<'_>) -> Result<Option<Refused>, AllocError>
+    ensures { IfOk result (λ r. option_map refused_in r ≡ argument_refused (argument_of argument.now)) }
+{
+    match argument.name {
+        None => unless(alloc, false, Misfit::TooMany),
+        Some(key) => match Keyword::named(key) {
+            None => unless(alloc, false, Misfit::Unknown(key)),
+            Some(keyword) => {
+                let given = given(alloc, &argument.value)?;
+                plain_refused(alloc, key, keyword, &given)
+            }
+        },
+    }
+}
+
+fn first_refused(alloc: Global, arguments: &[Argument<'_>]) -> Result<Option<Refused>, AllocError>
+    ensures { IfOk result (λ r. option_map refused_in r ≡ first_refused (map argument_of arguments.now)) }
+{
+    for argument in arguments {
+        match argument_refused(alloc, argument)? {
+            Some(refused) => return Ok(Some(refused)),
+            None => {}
+        }
+    }
+    Ok(None)
+}
+
+// ---- a keyword that is needed
+
+fn needed_by(kind: Option<OptionType>) -> Misfit<'static>
+    ensures { misfit_in result ≡ needed_by kind }
+{
+    match kind {
+        None => Misfit::Missing("type"),
+        Some(OptionType::Combo) => Misfit::Missing("choices"),
+        Some(_) => Misfit::Missing("value"),
+    }
+}
+
+fn lacking(alloc: Global, keywords: &Option<Keywords>) -> Result<Refused, AllocError>
+    ensures { IfOk result (λ r. refused_in r ≡ lacking (option_map keywords_in keywords.now)) }
+{
+    match keywords {
+        Some(keywords) => needed_by(keywords.kind).refused(alloc),
+        None => Misfit::Nameless.refused(alloc),
+    }
+}
+
+fn others_unfit(alloc: Global, others: &[Argument<'_>]) -> Result<Refused, AllocError>
+    ensures { IfOk result (λ r. refused_in r ≡ others_unfit (map argument_of others.now)) }
+{
+    match first_refused(alloc, others)? {
+        Some(refused) => Ok(refused),
+        None => {
+            let keywords = keywords_from(alloc, others)?;
+            lacking(alloc, &keywords)
+        }
+    }
+}
+
+/// The first thing that is wrong with the arguments of a call that declares no option.
+pub fn unfit(alloc: Global, arguments: &[Argument<'_>]) -> Result<Refused, AllocError>
+    ensures { IfOk result (λ r. refused_in r ≡ unfit (map argument_of arguments.now)) }
+{
+    let Some((first, others)) = arguments.split_first() else {
+        return Misfit::Nameless.refused(alloc);
+    };
+    if first.is_named() {
+        return Misfit::Nameless.refused(alloc);
+    }
+    let given = given(alloc, first.value())?;
+    match given_refused(alloc, &given)? {
+        Some(refused) => Ok(refused),
+        None => others_unfit(alloc, others),
+    }
+}

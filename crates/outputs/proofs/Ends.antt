@@ -1,0 +1,39 @@
+-- What the status says of what was written.
+use Rattle.std.proofs.Common.{◌≡◌, ◌+◌, true, List, Result, Ok, Err, refl, ◌∙◌, arith}
+use Rattle.std.proofs.lemmas.Bool.{false≢true}
+use Rattle.ports.specs.Endings.{ended}
+use Rattle.ports.specs.Outputs.{OutputState, Step, Sends, Makes, Writes, faults}
+use Rattle.ports.specs.declared.fault.DeviceFault.{DeviceFault}
+use Rattle.ports.proofs.Sending.{sends_then}
+use Rattle.basics.specs.Faults.{FaultData, fault_line}
+use Rattle.project.specs.World.{WorldData}
+use Rattle.outputs.specs.build_file.BuildFile.{ending_of}
+use Rattle.outputs.specs.declared.build_file.stop.WriteStop.{WriteStop}
+use Rattle.outputs.specs.declared.build_file.stop.WriteStop.TheVariants as stops
+use Rattle.outputs.specs.build_file.Concluding.{Whole, Agrees, done_with, faulted_with, outputs_steps, told_before, failed_devices}
+use Rattle.outputs.specs.build_file.Concluding.{status_of_fault, status_of_outputs}
+use Rattle.outputs.specs.declared.build_file.concluding.Status.{Status}
+
+-- the outputs of a project
+pub agrees_outputs : (w : WorldData) (r : Result (Unit {0}) WriteStop) {old new : OutputState} → Makes old (outputs_steps w) (ending_of r) new → Agrees (done_with w) (status_of_outputs r) old new
+agrees_outputs w (Ok x) m = record { status = λ h. refl; events = m.sends }
+agrees_outputs w (Err stops.Device) m = record { status = λ h. absurd (false≢true h); events = m.sends }
+agrees_outputs w (Err stops.Memory) m = record { status = λ h. absurd (false≢true h); events = m.sends }
+
+pub device_outputs : (r : Result (Unit {0}) WriteStop) {run : List Step} {old new : OutputState} → Makes old run (ending_of r) new → new.failures ≡ old.failures + failed_devices (status_of_outputs r)
+device_outputs (Ok x) {old = old} m = let e : old.failures ≡ old.failures + 0 = omega arith in m.failures ∙ e
+device_outputs (Err stops.Device) m = m.failures
+device_outputs (Err stops.Memory) {old = old} m = let e : old.failures ≡ old.failures + 0 = omega arith in m.failures ∙ e
+
+-- the line of a fault
+pub agrees_fault : (f : FaultData) (r : Result (Unit {0}) DeviceFault) {old new : OutputState} → Writes old (faults (fault_line f)) (ended r) new → Agrees (faulted_with f) (status_of_fault r) old new
+agrees_fault f (Ok x) m = record { status = λ h. refl; events = m.sends }
+agrees_fault f (Err e) m = record { status = λ h. absurd (false≢true h); events = m.sends }
+
+pub device_fault : (r : Result (Unit {0}) DeviceFault) {run : List Step} {old new : OutputState} → Writes old run (ended r) new → new.failures ≡ old.failures + failed_devices (status_of_fault r)
+device_fault (Ok x) {old = old} m = let e : old.failures ≡ old.failures + 0 = omega arith in m.failures ∙ e
+device_fault (Err x) m = m.failures
+
+-- what was told before is a part of the run
+pub agrees_then : {old mid new : OutputState} {told : List Step} (run : Whole) (status : Status) → Sends old mid told true → Agrees run status mid new → Agrees (told_before told run) status old new
+agrees_then run status s a = record { status = a.status; events = sends_then s a.events }

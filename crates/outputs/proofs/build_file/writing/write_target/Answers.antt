@@ -1,0 +1,17 @@
+use Rattle.ports.specs.Outputs.{puts}
+use Rattle.outputs.specs.ninja.Writing.{edges_text}
+use Rattle.targets.specs.target_edges.PartsView.{parts_edges}
+use Rattle.outputs.specs.build_file.Parts.{target_steps}
+use Rattle.outputs.proofs.TargetTexts.{target_is}
+use Rattle.outputs.proofs.Stopping.{writes_over, writes_wants}
+use Rattle.outputs.proofs.build_file.writing.write_target.Goals as goal
+
+pub returns-in_err-parts : goal.returns-in_err-parts
+returns-in_err-parts g c =
+    writes_wants _ (g.O.Outputs.seen c.args.out.now) (target_steps c.args.project.now c.args.number) c.from_residual.ensures.1
+
+pub returns : goal.returns
+returns g c =
+    let w = c.args.project.now in
+    let p = c.in_ok-parts.parts in
+    writes_over (puts (edges_text (parts_edges p))) (target_steps w c.args.number) (target_is w c.args.number p c.in_ok-parts.ensures) c.write_parts_of.ensures

@@ -1,0 +1,16 @@
+use Rattle.std.proofs.Common.{string_bytes}
+use Rattle.outputs.specs.introspection.Document.{build_options}
+use Rattle.outputs.proofs.IntrospectionPieces.{appends_seen}
+use Rattle.outputs.proofs.ReadBack.{seen_reads}
+use Rattle.outputs.proofs.WholeShape.{plain_options}
+use Rattle.outputs.proofs.introspection.document.push_options.Goals as goal
+
+pub returns-clause-text : goal.returns-clause-text
+returns-clause-text c =
+    let w = c.args.project.now in
+    appends_seen c.push_value.result _ (string_bytes c.args.text.now) c.in_ok-options.options (build_options w) c.in_ok-options.ensures (plain_options w).floats c.push_value.ensures.text
+
+pub returns-clause-reads : goal.returns-clause-reads
+returns-clause-reads c =
+    let w = c.args.project.now in
+    seen_reads c.push_value.result c.in_ok-options.options (build_options w) c.in_ok-options.ensures (plain_options w) c.push_value.ensures.reads

@@ -1,0 +1,12 @@
+use Rattle.std.proofs.Common.{arith}
+use Rattle.std.proofs.lemmas.Grind.{common_steps}
+use Rattle.outputs.proofs.ninja.words.push_last_words.Goals as goal
+
+pub loop-word-init : goal.loop-word-init
+loop-word-init c = grind (arith, common_steps)
+
+pub loop-word-preserved : goal.loop-word-preserved
+loop-word-preserved c = grind (arith, common_steps)
+
+pub returns : goal.returns
+returns c = grind (arith, common_steps)

@@ -1,0 +1,3 @@
+pub mod build_file
+pub mod introspection
+pub mod ninja

@@ -1,0 +1,9 @@
+-- The output in which the introspection document stands.
+use Rattle.std.specs.Prelude.{List, ◌++◌, codes}
+use Rattle.ports.specs.Outputs.{Step, opening, closing, puts}
+use Rattle.project.specs.World.{WorldData}
+use Rattle.outputs.specs.introspection.Document.{document_text}
+
+-- whole
+abbrev pub document_steps : WorldData → List Step
+document_steps w = opening (codes "meson-info/introspect.json") ++ (puts (document_text w) ++ closing)

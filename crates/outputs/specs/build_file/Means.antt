@@ -1,0 +1,29 @@
+-- What `build.ninja` of a project means.
+use Rattle.std.specs.Prelude.{◌≡◌, ℕ, true, List, ◌∷◌, ◌++◌, Some, codes}
+use Rattle.targets.specs.edge.Texts.{Path}
+use Rattle.outputs.specs.ninja.Reading.{BuildEdge, manifest_of}
+use Rattle.outputs.specs.ninja.Meaning.{file_seen, EachRunsWords}
+use Rattle.project.specs.Laws.{outputs_of, AtMostOnce, all_held}
+use Rattle.project.specs.World.{WorldData, edges_in, known_in}
+use Rattle.outputs.specs.build_file.BuildFile.{build_file, default_outputs}
+use Rattle.outputs.specs.build_file.FileEdges.{made_by_all, are_made, Reaches}
+
+-- the edges of the file as it is read, `all` the last of them
+abbrev pub edges_read : WorldData → List BuildEdge
+edges_read w = (file_seen (edges_in w) (default_outputs w)).edges
+
+-- what is made by no edge: the file itself, the document, and what `configure_file` makes
+abbrev pub made_by_none : WorldData → List Path
+made_by_none w = codes "build.ninja" ∷ codes "meson-info/introspect.json" ∷ w.outputs
+
+-- The Ninja manual reads the text as just the six rules, the project's edges, the edge `all` and the default `all`, and a shell reads
+-- each command as its edge's words and redirection. Of all these edges, `all` among them: no path is an output of two, nor of one and
+-- something that is made by none; each path that an edge needs is a file of the tree that was looked at, what `configure_file` makes, or
+-- an output of an edge before it; what `all` needs are outputs of the project's edges; and no edge reaches itself.
+pub record Means (w : WorldData) : Type 0 where
+  pub read : manifest_of (build_file w) ≡ Some (file_seen (edges_in w) (default_outputs w))
+  pub runs : EachRunsWords (file_seen (edges_in w) (default_outputs w)) (edges_in w)
+  pub once : AtMostOnce (made_by_none w ++ made_by_all (edges_read w))
+  pub made : are_made (known_in w) (edges_read w) ≡ true
+  pub asked : all_held (outputs_of (edges_in w)) (default_outputs w) ≡ true
+  pub no_circle : (i : ℕ) → ¬ Reaches (edges_read w) i i

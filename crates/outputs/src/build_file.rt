@@ -1,0 +1,20 @@
+//! `build.ninja` of a project, and what it means.
+//!
+//! [`write_build_file`] writes it, byte for byte what `specs/BuildFile` says. The edges of one target are made when they are written,
+//! and not kept. That a reader who knows the Ninja manual reads it as the project's edges is the contract of [`meaning`], which does
+//! nothing. [`conclude`] ends a run with all outputs, [`refuse`] with the line of a fault.
+
+mod concluding;
+mod defaults;
+mod document;
+mod fault;
+mod law;
+mod stop;
+mod writing;
+
+pub use concluding::{Status, conclude, refuse};
+pub use document::write_document;
+pub use fault::write_fault;
+pub use law::meaning;
+pub use stop::WriteStop;
+pub use writing::write_build_file;

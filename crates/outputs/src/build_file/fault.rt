@@ -1,0 +1,60 @@
+//! The line that tells a fault.
+ghost use Rattle.ports.specs.Endings.{HasRoom, ended};
+ghost use Rattle.ports.specs.Outputs.{Writes, faults};
+ghost use Rattle.basics.specs.Faults.{fault_line};
+ghost use Rattle.basics.specs.View.{fault_view};
+ghost use Rattle.outputs.specs.build_file.FaultSteps.{detail_steps, line_steps, text_steps};
+
+use basics::faults::Fault;
+use itoa::Buffer;
+use ports::{DeviceFault, Outputs, fault_all};
+
+#[tactic(auto, using(ports::proofs::Sending::sending))]
+fn write_detail<O: Outputs>(fault: &Fault, out: &mut O) -> Result<(), DeviceFault>
+    requires { HasRoom (O.seen out.old).failures }
+    ensures { Writes (O.seen out.old) (detail_steps (fault_view fault.now)) (ended result) (O.seen out.new) }
+{
+    match fault.refusal().detail_sign() {
+        Some(sign) => {
+            fault_all(out, sign.as_bytes())?;
+            fault_all(out, fault.detail().as_bytes())
+        }
+        None => Ok(()),
+    }
+}
+
+// The number, the words and the detail.
+#[tactic(auto, using(ports::proofs::Sending::sending))]
+fn write_text<O: Outputs>(fault: &Fault, out: &mut O) -> Result<(), DeviceFault>
+    requires { HasRoom (O.seen out.old).failures }
+    ensures { Writes (O.seen out.old) (text_steps (fault_view fault.now)) (ended result) (O.seen out.new) }
+{
+    let mut digits = Buffer::new();
+    fault_all(out, b"E")?;
+    fault_all(out, digits.format(fault.number()).as_bytes())?;
+    fault_all(out, b" ")?;
+    fault_all(out, fault.refusal().words().as_bytes())?;
+    write_detail(fault, out)
+}
+
+#[tactic(auto, using(ports::proofs::Sending::sending))]
+fn write_line<O: Outputs>(fault: &Fault, out: &mut O) -> Result<(), DeviceFault>
+    requires { HasRoom (O.seen out.old).failures }
+    ensures { Writes (O.seen out.old) (line_steps (fault_view fault.now)) (ended result) (O.seen out.new) }
+{
+    let mut digits = Buffer::new();
+    fault_all(out, fault.file().as_bytes())?;
+    fault_all(out, b":")?;
+    fault_all(out, digits.format(fault.line()).as_bytes())?;
+    fault_all(out, b": ERROR: ")?;
+    write_text(fault, out)?;
+    fault_all(out, b"\n")
+}
+
+/// Writes `FILE:LINE: ERROR: TEXT` and a newline where faults are told.
+pub fn write_fault<O: Outputs>(fault: &Fault, out: &mut O) -> Result<(), DeviceFault>
+    requires { HasRoom (O.seen out.old).failures }
+    ensures { Writes (O.seen out.old) (faults (fault_line (fault_view fault.now))) (ended result) (O.seen out.new) }
+{
+    write_line(fault, out)
+}

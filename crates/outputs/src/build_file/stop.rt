@@ -1,0 +1,33 @@
+ghost use Rattle.std.specs.Prelude.{◌≡◌};
+
+use ports::DeviceFault;
+use std::alloc::AllocError;
+
+/// Why a file was not written whole.
+#[derive(Clone, Copy)]
+pub enum WriteStop {
+    /// A device failed.
+    Device,
+    /// No memory was left.
+    Memory,
+}
+
+impl From<AllocError> for WriteStop {
+    ghost use Rattle.outputs.specs.declared.build_file.stop.WriteStop.TheVariants.{Memory};
+
+    ghost from_gives = { λ _ s. s ≡ Memory };
+
+    fn from(_error: AllocError) -> WriteStop {
+        WriteStop::Memory
+    }
+}
+
+impl From<DeviceFault> for WriteStop {
+    ghost use Rattle.outputs.specs.declared.build_file.stop.WriteStop.TheVariants.{Device};
+
+    ghost from_gives = { λ _ s. s ≡ Device };
+
+    fn from(_fault: DeviceFault) -> WriteStop {
+        WriteStop::Device
+    }
+}

@@ -1,0 +1,6 @@
+//! What a run writes of a project: `build.ninja`, the introspection document, and the line of a fault.
+#![tactic(auto)]
+
+pub mod build_file;
+pub mod introspection;
+pub mod ninja;

@@ -1,8 +1,0 @@
-pub mod WayTexts
-pub mod Joining
-pub mod Sharing
-pub mod Holding
-pub mod HoldingCustom
-pub mod HoldingWords
-pub mod HoldingFile
-mod Examples

@@ -1,0 +1,157 @@
+//! The words of compile commands.
+ghost use Rattle.std.specs.Prelude.{◌≡◌, ◌++◌, flat_map, IfOk, string_bytes};
+ghost use Rattle.targets.specs.edge.Folders.{build_folder, source_folder};
+ghost use Rattle.targets.specs.edge.Texts.{texts};
+ghost use Rattle.targets.specs.View.{flags_view, surroundings_view, build_view};
+ghost use Rattle.targets.specs.target_edges.Words.{include_words, includes, warning_words, standard_words};
+ghost use Rattle.targets.specs.target_edges.Words.{optimization_words, option_words, argument_words, compile_words};
+ghost use Rattle.targets.specs.target_edges.Parts.{front_words};
+
+use crate::edge::{build_folder, copies, first_kept, push_all, push_copies, source_folder};
+use crate::target_edges::words::{joined, push_brought_compile_args, push_if};
+use crate::{BuildTarget, Flags, Surroundings};
+use std::alloc::{AllocError, Global};
+
+// ---- where headers are looked for
+
+// The words for a folder of the tree.
+fn push_include(
+    words: &mut Vec<String>,
+    alloc: Global,
+    depth: usize,
+    folder: &str,
+) -> Result<(), AllocError>
+    ensures { IfOk result (λ _. texts words.new.items ≡ texts words.old.items ++ include_words depth folder.now) }
+{
+    let built = build_folder(folder);
+    let source = source_folder(alloc, depth, folder)?;
+    words.push(joined(alloc, "-I", built)?)?;
+    words.push(joined(alloc, "-I", &source)?)?;
+    Ok(())
+}
+
+fn push_includes(
+    words: &mut Vec<String>,
+    alloc: Global,
+    depth: usize,
+    folders: &[String],
+) -> Result<(), AllocError>
+    ensures { IfOk result (λ _. texts words.new.items ≡ texts words.old.items ++ flat_map (include_words depth) (texts folders.now)) }
+{
+    for folder in folders {
+        push_include(words, alloc, depth, folder)?;
+    }
+    Ok(())
+}
+
+// The words for all folders, those of dependencies too.
+fn all_includes(
+    alloc: Global,
+    depth: usize,
+    target: &BuildTarget,
+) -> Result<Vec<String>, AllocError>
+    ensures { IfOk result (λ v. texts v.items
+        ≡ (include_words depth (string_bytes target.now.folder)
+        ++ flat_map (include_words depth) (texts target.now.own.include_folders.items))
+        ++ flat_map (λ l. flat_map (include_words depth) (texts l.value.include_folders.items)) target.now.dependencies.items) }
+{
+    let mut words = Vec::new(alloc);
+    push_include(&mut words, alloc, depth, &target.folder)?;
+    push_includes(&mut words, alloc, depth, &target.own.include_folders)?;
+    for lists in &target.dependencies {
+        push_includes(&mut words, alloc, depth, &lists.include_folders)?;
+    }
+    Ok(words)
+}
+
+fn includes(alloc: Global, depth: usize, target: &BuildTarget) -> Result<Vec<String>, AllocError>
+    ensures { IfOk result (λ v. texts v.items ≡ includes depth (build_view target.now)) }
+{
+    let words = all_includes(alloc, depth, target)?;
+    first_kept(alloc, &words)
+}
+
+// ---- what options and arguments say
+
+fn push_warnings(words: &mut Vec<String>, alloc: Global, level: usize) -> Result<(), AllocError>
+    ensures { IfOk result (λ _. texts words.new.items ≡ texts words.old.items ++ warning_words level) }
+{
+    push_if(words, alloc, level >= 1, "-Wall")?;
+    push_if(words, alloc, level >= 2, "-Wextra")?;
+    push_if(words, alloc, level >= 3, "-Wpedantic")
+}
+
+fn push_standard(words: &mut Vec<String>, alloc: Global, standard: &str) -> Result<(), AllocError>
+    ensures { IfOk result (λ _. texts words.new.items ≡ texts words.old.items ++ standard_words standard.now) }
+{
+    if standard == "none" {
+        return Ok(());
+    }
+    words.push(joined(alloc, "-std=", standard)?)?;
+    Ok(())
+}
+
+fn push_optimization(words: &mut Vec<String>, alloc: Global, level: &str) -> Result<(), AllocError>
+    ensures { IfOk result (λ _. texts words.new.items ≡ texts words.old.items ++ optimization_words level.now) }
+{
+    if level == "plain" {
+        return Ok(());
+    }
+    words.push(joined(alloc, "-O", level)?)?;
+    Ok(())
+}
+
+fn push_options(words: &mut Vec<String>, alloc: Global, flags: &Flags) -> Result<(), AllocError>
+    ensures { IfOk result (λ _. texts words.new.items ≡ texts words.old.items ++ option_words (flags_view flags.now)) }
+{
+    push_warnings(words, alloc, flags.warning_level)?;
+    push_if(words, alloc, flags.is_werror, "-Werror")?;
+    push_standard(words, alloc, &flags.c_std)?;
+    push_optimization(words, alloc, &flags.optimization)?;
+    push_if(words, alloc, flags.is_debug, "-g")
+}
+
+fn push_arguments(
+    words: &mut Vec<String>,
+    surroundings: &Surroundings,
+    target: &BuildTarget,
+) -> Result<(), AllocError>
+    ensures { IfOk result (λ _. texts words.new.items
+        ≡ texts words.old.items ++ argument_words (surroundings_view surroundings.now) (build_view target.now)) }
+{
+    push_copies(words, &surroundings.arguments)?;
+    push_brought_compile_args(words, target)?;
+    push_copies(words, &surroundings.facts.flags.c_args)?;
+    push_copies(words, &target.own.compile_args)
+}
+
+// The words of the target's compile commands, up to what differs from source to source.
+fn compile_words(
+    alloc: Global,
+    surroundings: &Surroundings,
+    target: &BuildTarget,
+) -> Result<Vec<String>, AllocError>
+    ensures { IfOk result (λ v. texts v.items ≡ compile_words (surroundings_view surroundings.now) (build_view target.now)) }
+{
+    let facts = &surroundings.facts;
+    let mut words = copies(alloc, &facts.compiler)?;
+    let mut folders = includes(alloc, facts.depth, target)?;
+    words.append(&mut folders)?;
+    push_options(&mut words, alloc, &facts.flags)?;
+    push_if(&mut words, alloc, target.kind.is_library(), "-fPIC")?;
+    push_arguments(&mut words, surroundings, target)?;
+    Ok(words)
+}
+
+/// The words of the target's compile commands, up to the first that names the object.
+pub fn front_words(
+    alloc: Global,
+    surroundings: &Surroundings,
+    target: &BuildTarget,
+) -> Result<Vec<String>, AllocError>
+    ensures { IfOk result (λ v. texts v.items ≡ front_words (compile_words (surroundings_view surroundings.now) (build_view target.now))) }
+{
+    let mut words = compile_words(alloc, surroundings, target)?;
+    push_all(&mut words, alloc, &["-MD", "-MQ"])?;
+    Ok(words)
+}

@@ -1,0 +1,469 @@
+//! The edges that link and archive objects.
+ghost use Rattle.std.specs.Prelude.{◌≡◌, ◌++◌, ◌&&◌, Some, map, flat_map, IfOk, string_bytes, codes};
+ghost use Rattle.std.specs.List.{list_all};
+ghost use Rattle.targets.specs.edge.Holding.{is_path as is_path_of, is_writable, value_held};
+ghost use Rattle.targets.specs.edge.Texts.{texts};
+ghost use Rattle.targets.specs.edge.View.{edge_view};
+ghost use Rattle.targets.specs.LinkedViews.{linked_views};
+ghost use Rattle.targets.specs.View.{surroundings_view, build_view};
+ghost use Rattle.targets.specs.Files.{so_name as so_name_of};
+ghost use Rattle.targets.specs.target_edges.Words.{library_file, library_files, shared_folder_in, shared_folder, static_arguments_in};
+ghost use Rattle.targets.specs.target_edges.Words.{static_arguments, search_word, search_words, shared_words};
+ghost use Rattle.targets.specs.target_edges.Words.{shared_library_words, link_arguments, library_words, link_words};
+ghost use Rattle.targets.specs.target_edges.Edges.{archiving, linking, file_edge, naming};
+ghost use Rattle.targets.specs.target_edges.Parts.{archive_held, link_held};
+
+use crate::edge::{
+    Edge, Rule, are_paths, can_hold_values, copies, first_kept, is_path, push_all, push_copies,
+    strings,
+};
+use crate::target_edges::way::push_way;
+use crate::target_edges::words::{joined, push_brought_link_args};
+use crate::{BuildTarget, Kind, Linked, Surroundings, build_target_at, file_at, so_name};
+use std::alloc::{AllocError, Global};
+
+/// What a target's edges are made from, besides the target.
+#[derive(Clone, Copy)]
+pub struct Context<'a> {
+    pub alloc: Global,
+    pub surroundings: &'a Surroundings,
+    /// The targets before it.
+    pub earlier: &'a [Linked],
+    /// The libraries that it links, by their numbers.
+    pub libraries: &'a [u32],
+}
+
+// ---- libraries
+
+// The file of the library with a number.
+fn push_library(
+    files: &mut Vec<String>,
+    alloc: Global,
+    earlier: &[Linked],
+    number: usize,
+) -> Result<(), AllocError>
+    ensures { IfOk result (λ _. texts files.new.items ≡ texts files.old.items ++ library_file (linked_views earlier.now) number) }
+{
+    if let Some(file) = file_at(earlier, number) {
+        files.push(String::from_str(alloc, file)?)?;
+    }
+    Ok(())
+}
+
+// The files of the libraries.
+fn library_files(
+    alloc: Global,
+    earlier: &[Linked],
+    numbers: &[u32],
+) -> Result<Vec<String>, AllocError>
+    ensures { IfOk result (λ v. texts v.items ≡ library_files (linked_views earlier.now) numbers.now) }
+{
+    let mut files = Vec::with_capacity(alloc, numbers.len())?;
+    for number in numbers {
+        push_library(&mut files, alloc, earlier, *number as usize)?;
+    }
+    Ok(files)
+}
+
+fn library_is_held(earlier: &[Linked], number: usize) -> bool
+    ensures { result ≡ list_all is_path_of (library_file (linked_views earlier.now) number) }
+{
+    match file_at(earlier, number) {
+        Some(file) => is_path(file),
+        None => true,
+    }
+}
+
+fn each_library_is_held(earlier: &[Linked], numbers: &[u32]) -> bool
+    ensures { result ≡ list_all (λ n. list_all is_path_of (library_file (linked_views earlier.now) n)) numbers.now }
+{
+    numbers
+        .iter()
+        .all(|number| library_is_held(earlier, *number as usize))
+}
+
+// Whether `build.ninja` can hold the files of the libraries.
+fn libraries_are_held(earlier: &[Linked], numbers: &[u32]) -> bool
+    ensures { result ≡ list_all is_path_of (library_files (linked_views earlier.now) numbers.now) }
+{
+    each_library_is_held(earlier, numbers)
+}
+
+// The folder of a shared library.
+fn push_if_shared(folders: &mut Vec<String>, target: &BuildTarget) -> Result<(), AllocError>
+    ensures { IfOk result (λ _. texts folders.new.items ≡ texts folders.old.items ++ shared_folder_in (Some (build_view target.now))) }
+{
+    if target.kind.is_shared() {
+        folders.push(target.folder.clone()?)?;
+    }
+    Ok(())
+}
+
+fn push_shared_folder(
+    folders: &mut Vec<String>,
+    earlier: &[Linked],
+    number: usize,
+) -> Result<(), AllocError>
+    ensures { IfOk result (λ _. texts folders.new.items ≡ texts folders.old.items ++ shared_folder (linked_views earlier.now) number) }
+{
+    match build_target_at(earlier, number) {
+        Some(target) => push_if_shared(folders, target),
+        None => Ok(()),
+    }
+}
+
+// The folders of the shared ones of the libraries.
+fn shared_folders(
+    alloc: Global,
+    earlier: &[Linked],
+    numbers: &[u32],
+) -> Result<Vec<String>, AllocError>
+    ensures { IfOk result (λ v. texts v.items ≡ flat_map (shared_folder (linked_views earlier.now)) numbers.now) }
+{
+    let mut folders = Vec::new(alloc);
+    for number in numbers {
+        push_shared_folder(&mut folders, earlier, *number as usize)?;
+    }
+    Ok(folders)
+}
+
+// What the dependencies of a static library bring for linking.
+fn push_if_static(words: &mut Vec<String>, target: &BuildTarget) -> Result<(), AllocError>
+    ensures { IfOk result (λ _. texts words.new.items ≡ texts words.old.items ++ static_arguments_in (Some (build_view target.now))) }
+{
+    if target.kind.is_static() {
+        push_brought_link_args(words, target)?;
+    }
+    Ok(())
+}
+
+fn push_static_argument(
+    words: &mut Vec<String>,
+    earlier: &[Linked],
+    number: usize,
+) -> Result<(), AllocError>
+    ensures { IfOk result (λ _. texts words.new.items ≡ texts words.old.items ++ static_arguments (linked_views earlier.now) number) }
+{
+    match build_target_at(earlier, number) {
+        Some(target) => push_if_static(words, target),
+        None => Ok(()),
+    }
+}
+
+// What the dependencies of the static ones of the libraries bring for linking.
+fn push_static_arguments(
+    words: &mut Vec<String>,
+    earlier: &[Linked],
+    numbers: &[u32],
+) -> Result<(), AllocError>
+    ensures { IfOk result (λ _. texts words.new.items
+        ≡ texts words.old.items ++ flat_map (static_arguments (linked_views earlier.now)) numbers.now) }
+{
+    for number in numbers {
+        push_static_argument(words, earlier, *number as usize)?;
+    }
+    Ok(())
+}
+
+// ---- words
+
+// The word that says where a program of a folder looks for a shared library of another.
+fn search_word(alloc: Global, from: &str, to: &str) -> Result<String, AllocError>
+    ensures { IfOk result (λ s. string_bytes s ≡ search_word from.now to.now) }
+{
+    let mut word = String::from_str(alloc, "-Wl,-rpath,$ORIGIN")?;
+    push_way(&mut word, alloc, from, to)?;
+    Ok(word)
+}
+
+// Such a word for each of the folders.
+fn search_words(alloc: Global, from: &str, folders: &[String]) -> Result<Vec<String>, AllocError>
+    ensures { IfOk result (λ v. texts v.items ≡ map (search_word from.now) (texts folders.now)) }
+{
+    let mut words = Vec::new(alloc);
+    for folder in folders {
+        words.push(search_word(alloc, from, folder)?)?;
+    }
+    Ok(words)
+}
+
+fn push_search_words(
+    words: &mut Vec<String>,
+    alloc: Global,
+    earlier: &[Linked],
+    from: &str,
+    numbers: &[u32],
+) -> Result<(), AllocError>
+    ensures { IfOk result (λ _. texts words.new.items
+        ≡ texts words.old.items ++ search_words (linked_views earlier.now) from.now numbers.now) }
+{
+    let all = shared_folders(alloc, earlier, numbers)?;
+    let folders = first_kept(alloc, &all)?;
+    push_copies(words, &search_words(alloc, from, &folders)?)
+}
+
+// The word that gives a shared library its name.
+fn name_word(alloc: Global, target: &BuildTarget) -> Result<String, AllocError>
+    ensures { IfOk result (λ s. string_bytes s ≡ codes "-Wl,-soname," ++ so_name_of (build_view target.now)) }
+{
+    let name = so_name(alloc, target)?;
+    joined(alloc, "-Wl,-soname,", &name)
+}
+
+fn push_if_linked_shared(
+    words: &mut Vec<String>,
+    alloc: Global,
+    target: &BuildTarget,
+) -> Result<(), AllocError>
+    ensures { IfOk result (λ _. texts words.new.items ≡ texts words.old.items ++ shared_library_words (build_view target.now)) }
+{
+    push_all(words, alloc, &["-shared", "-fPIC"])?;
+    words.push(name_word(alloc, target)?)?;
+    Ok(())
+}
+
+fn push_shared(
+    words: &mut Vec<String>,
+    alloc: Global,
+    target: &BuildTarget,
+) -> Result<(), AllocError>
+    ensures { IfOk result (λ _. texts words.new.items ≡ texts words.old.items ++ shared_words target.now.kind (build_view target.now)) }
+{
+    match target.kind {
+        Kind::Executable | Kind::StaticLibrary => Ok(()),
+        Kind::SharedLibrary => push_if_linked_shared(words, alloc, target),
+    }
+}
+
+fn push_link_arguments(
+    words: &mut Vec<String>,
+    context: &Context,
+    target: &BuildTarget,
+) -> Result<(), AllocError>
+    ensures { IfOk result (λ _. texts words.new.items
+        ≡ texts words.old.items ++ link_arguments (surroundings_view context.now.surroundings.now)
+        (linked_views context.now.earlier.now) context.now.libraries.now (build_view target.now)) }
+{
+    let surroundings = context.surroundings;
+    push_copies(words, &surroundings.facts.flags.c_link_args)?;
+    push_copies(words, &surroundings.link_arguments)?;
+    push_copies(words, &target.own.link_args)?;
+    push_brought_link_args(words, target)?;
+    push_static_arguments(words, context.earlier, context.libraries)
+}
+
+// What stands behind the files of the libraries.
+fn push_behind(
+    words: &mut Vec<String>,
+    context: &Context,
+    target: &BuildTarget,
+) -> Result<(), AllocError>
+    ensures { let earlier = linked_views context.now.earlier.now in
+        let t = build_view target.now in
+        IfOk result (λ _. texts words.new.items
+        ≡ texts words.old.items ++ (search_words earlier t.folder context.now.libraries.now
+        ++ link_arguments (surroundings_view context.now.surroundings.now) earlier context.now.libraries.now t)) }
+{
+    push_search_words(
+        words,
+        context.alloc,
+        context.earlier,
+        &target.folder,
+        context.libraries,
+    )?;
+    push_link_arguments(words, context, target)
+}
+
+fn link_words(
+    context: &Context,
+    target: &BuildTarget,
+    file: &str,
+    objects: &[String],
+    libraries: &[String],
+) -> Result<Vec<String>, AllocError>
+    requires { texts libraries.now ≡ library_files (linked_views context.now.earlier.now) context.now.libraries.now }
+    ensures { IfOk result (λ v. texts v.items
+        ≡ link_words (surroundings_view context.now.surroundings.now) (linked_views context.now.earlier.now) context.now.libraries.now
+        (build_view target.now) file.now (texts objects.now)) }
+{
+    let mut words = Vec::new(context.alloc);
+    push_copies(&mut words, &context.surroundings.facts.compiler)?;
+    push_shared(&mut words, context.alloc, target)?;
+    push_all(&mut words, context.alloc, &["-o", file])?;
+    push_copies(&mut words, objects)?;
+    push_copies(&mut words, libraries)?;
+    push_behind(&mut words, context, target)?;
+    Ok(words)
+}
+
+// ---- edges
+
+fn archive_edge(
+    alloc: Global,
+    archiver: &[String],
+    file: &str,
+    objects: Vec<String>,
+) -> Result<Edge, AllocError>
+    ensures { IfOk result (λ e. edge_view e ≡ archiving (texts archiver.now) file.now (texts objects.items)) }
+{
+    let mut words = copies(alloc, archiver)?;
+    push_all(&mut words, alloc, &["csr", file])?;
+    push_copies(&mut words, &objects)?;
+    Ok(Edge {
+        rule: Rule::Ar,
+        outputs: strings(alloc, &[file])?,
+        inputs: objects,
+        implicit: Vec::new(alloc),
+        order_only: Vec::new(alloc),
+        words,
+        redirect: None,
+        description: joined(alloc, "Archiving ", file)?,
+        depfile: None,
+    })
+}
+
+fn link_edge(
+    context: &Context,
+    target: &BuildTarget,
+    file: &str,
+    objects: Vec<String>,
+) -> Result<Edge, AllocError>
+    ensures { IfOk result (λ e. edge_view e
+        ≡ linking (link_words (surroundings_view context.now.surroundings.now)
+        (linked_views context.now.earlier.now) context.now.libraries.now (build_view target.now) file.now
+        (texts objects.items)) file.now (texts objects.items)
+        (library_files (linked_views context.now.earlier.now) context.now.libraries.now)) }
+{
+    let alloc = context.alloc;
+    let libraries = library_files(alloc, context.earlier, context.libraries)?;
+    let words = link_words(context, target, file, &objects, &libraries)?;
+    Ok(Edge {
+        rule: Rule::CLink,
+        outputs: strings(alloc, &[file])?,
+        inputs: objects,
+        implicit: libraries,
+        order_only: Vec::new(alloc),
+        words,
+        redirect: None,
+        description: joined(alloc, "Linking target ", file)?,
+        depfile: None,
+    })
+}
+
+/// The edge that makes the target's file of its objects.
+pub fn file_edge(
+    context: &Context,
+    target: &BuildTarget,
+    file: &str,
+    objects: Vec<String>,
+) -> Result<Edge, AllocError>
+    ensures { IfOk result (λ e. edge_view e
+        ≡ file_edge (surroundings_view context.now.surroundings.now) (linked_views context.now.earlier.now) context.now.libraries.now
+        (build_view target.now) file.now (texts objects.items)) }
+{
+    if target.kind.is_static() {
+        archive_edge(
+            context.alloc,
+            &context.surroundings.facts.archiver,
+            file,
+            objects,
+        )
+    } else {
+        link_edge(context, target, file, objects)
+    }
+}
+
+// ---- what is asked before they are made
+
+fn archive_is_held(archiver: &[String], file: &str, objects: &[String]) -> bool
+    ensures { result ≡ archive_held (texts archiver.now) file.now (texts objects.now) }
+{
+    is_path(file) && are_paths(objects) && can_hold_values(archiver)
+}
+
+// The same of what is linked with these words beside the files.
+fn parts_are_held(context: &Context, file: &str, objects: &[String], words: &[String]) -> bool
+    ensures { let libraries = library_files (linked_views context.now.earlier.now) context.now.libraries.now in
+        let compiler = texts context.now.surroundings.now.facts.compiler.items in
+        result ≡ (is_path_of file.now && (list_all is_path_of (texts objects.now) && (list_all is_path_of libraries
+        && (list_all value_held compiler && list_all value_held (texts words.now))))) }
+{
+    is_path(file)
+        && are_paths(objects)
+        && libraries_are_held(context.earlier, context.libraries)
+        && can_hold_values(&context.surroundings.facts.compiler)
+        && can_hold_values(words)
+}
+
+// The files of the libraries are words too, but what is a path can be held as a word.
+fn link_is_held(
+    context: &Context,
+    target: &BuildTarget,
+    file: &str,
+    objects: &[String],
+) -> Result<bool, AllocError>
+    ensures { let earlier = linked_views context.now.earlier.now in
+        let t = build_view target.now in
+        let words = shared_words target.now.kind t
+        ++ library_words (surroundings_view context.now.surroundings.now) earlier context.now.libraries.now t in
+        IfOk result (λ held. held ≡ link_held (texts context.now.surroundings.now.facts.compiler.items) words file.now (texts objects.now)
+        (library_files earlier context.now.libraries.now)) }
+{
+    let mut words = Vec::new(context.alloc);
+    push_shared(&mut words, context.alloc, target)?;
+    push_behind(&mut words, context, target)?;
+    Ok(parts_are_held(context, file, objects, &words))
+}
+
+/// Whether `build.ninja` can hold the edge that makes the target's file of its objects.
+pub fn file_is_held(
+    context: &Context,
+    target: &BuildTarget,
+    file: &str,
+    objects: &[String],
+) -> Result<bool, AllocError>
+    ensures { IfOk result (λ held. held
+        ≡ is_writable (file_edge (surroundings_view context.now.surroundings.now)
+        (linked_views context.now.earlier.now) context.now.libraries.now (build_view target.now) file.now (texts objects.now))) }
+{
+    if target.kind.is_static() {
+        let archiver = &context.surroundings.facts.archiver;
+        Ok(archive_is_held(archiver, file, objects))
+    } else {
+        link_is_held(context, target, file, objects)
+    }
+}
+
+// ---- symbolic links
+
+fn naming_edge(alloc: Global, file: &str, name: &str, link: &str) -> Result<Edge, AllocError>
+    ensures { IfOk result (λ e. edge_view e ≡ naming file.now name.now link.now) }
+{
+    Ok(Edge {
+        rule: Rule::Symlink,
+        outputs: strings(alloc, &[link])?,
+        inputs: strings(alloc, &[file])?,
+        implicit: Vec::new(alloc),
+        order_only: Vec::new(alloc),
+        words: strings(alloc, &["ln", "-f", "-s", name, link])?,
+        redirect: None,
+        description: joined(alloc, "Linking name ", link)?,
+        depfile: None,
+    })
+}
+
+/// The edges that make these symbolic links to the file of this name.
+pub fn link_edges(
+    alloc: Global,
+    file: &str,
+    name: &str,
+    links: &[String],
+) -> Result<Vec<Edge>, AllocError>
+    ensures { IfOk result (λ v. map edge_view v.items ≡ map (naming file.now name.now) (texts links.now)) }
+{
+    let mut edges = Vec::new(alloc);
+    for link in links {
+        edges.push(naming_edge(alloc, file, name, link)?)?;
+    }
+    Ok(edges)
+}
