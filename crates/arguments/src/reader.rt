@@ -20,7 +20,7 @@ use crate::misfit::Misfit;
 use crate::pieces::{are_pieces, is_command, is_configuration, is_feature, is_file};
 use crate::refused::Refused;
 use crate::row::{Keyword, Kind, Row};
-use basics::tables::{Held, SipSet, new_set};
+use basics::tables::{SipSet, new_set};
 use basics::text_lists::is_among;
 use data::{Value, is_texts};
 use std::alloc::{AllocError, Global};
@@ -226,11 +226,9 @@ fn twice_in_few<'a>(named: &'a [Named]) -> Option<Misfit<'a>>
 fn twice_in_many<'a>(alloc: Global, named: &'a [Named]) -> Result<Option<Misfit<'a>>, AllocError>
     ensures { IfOk result (λ found. option_map misfit_data found ≡ twice (map named_data named.now)) }
 {
-    let mut names = Held {
-        table: new_set(alloc),
-    };
+    let mut names = new_set(alloc);
     for one in named {
-        if comes_again(alloc, &mut names.table, one.name.as_str())? {
+        if comes_again(alloc, &mut names, one.name.as_str())? {
             return Ok(Some(Misfit::Twice(one.name.as_str())));
         }
     }

@@ -3,3 +3,4 @@ pub mod Among
 pub mod Texts
 pub mod Faults
 pub mod View
+pub mod Sets

@@ -41,7 +41,7 @@ impl Names {
         ensures number { IfOk result (λ number. number_in name.now self.new ≡ Some number) }
         ensures err { OnErr result (self.new ≡ self.old) }
     {
-        match self.names.get_index_of(name) {
+        match self.names.index_of_text(name) {
             Some(number) => Ok(number),
             None => {
                 let name = String::from_str(self.alloc, name)?;
@@ -55,7 +55,7 @@ impl Names {
     pub fn number_of(&self, name: &str) -> Option<usize>
         ensures { result ≡ number_in name.now self.now }
     {
-        self.names.get_index_of(name)
+        self.names.index_of_text(name)
     }
 
     /// The name with a number.

@@ -5,7 +5,7 @@ use Rattle.std.specs.Prelude.{if◌then◌else◌, not}
 use Rattle.std.specs.List.{position, position_or_len, list_any}
 use Rattle.std.proofs.lemmas.Bool.{false_from_ne_true, true_from_ne_false}
 use Rattle.std.proofs.lemmas.List.Sums.{fold-append, prefix_len-le-length}
-use Rattle.indexmap.specs.IndexSet.{insert_key, insert_all}
+use Rattle.basics.specs.Sets.{insert_key, insert_all}
 use Rattle.data.proofs.EntriesLemmas.{at_position, no_position, no_any, some_any}
 
 -- a key that has a place is there

@@ -1,6 +1,6 @@
 -- The keys of a dictionary, however they are kept.
 use Rattle.std.specs.Prelude.{◌≡◌, List, ℕ, [], bytes_eq}
-use Rattle.indexmap.specs.IndexSet.{insert_all}
+use Rattle.basics.specs.Sets.{insert_all}
 use Rattle.data.specs.declared.keys.Kept.{Kept}
 use Rattle.data.specs.declared.keys.Kept.TheVariants.{Few, Many}
 

@@ -2,7 +2,7 @@
 //! neither for a table nor for a hash.
 ghost use Rattle.std.specs.Prelude.{◌≡◌, ◌<◌, [], length, not, bytes_eq, position, option_map, slice_get, OnOk, OnErr, IfOk};
 ghost use Rattle.std.specs.List.{list_any, position_or_len};
-ghost use Rattle.indexmap.specs.IndexSet.{insert_key, insert_all};
+ghost use Rattle.basics.specs.Sets.{insert_key, insert_all};
 
 use crate::text::Text;
 use basics::tables::{SipSet, set_with_capacity};

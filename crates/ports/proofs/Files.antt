@@ -7,15 +7,14 @@ use Rattle.std.specs.Str.{bytes_eq}
 use Rattle.std.specs.String.{string_eq}
 use Rattle.std.specs.Map.{lookup}
 use Rattle.std.specs.List.{list_any}
-use Rattle.std.specs.HashSet.{HashSet, UpdatesBy, contains_text}
 use Rattle.std.proofs.lemmas.List.Folds.{list_any-append}
-use Rattle.std.proofs.lemmas.Map.Text.{hash_set_updates_text}
 use Rattle.std.proofs.lemmas.List.{map-append}
 use Rattle.std.proofs.lemmas.Slice.Eq.{bytes_eq-Decides}
 use Rattle.std.proofs.lemmas.Bool.{false≢true}
 use Rattle.indexmap.specs.IndexMap.{insert_entry}
 use Rattle.ports.specs.Tree.{file_at}
-use Rattle.ports.specs.MemTree.{contents}
+use Rattle.basics.specs.Sets.{insert_key}
+use Rattle.ports.specs.MemTree.{contents, is_one_of}
 
 same_test : (a b : Bool) → (a ≡ true → b ≡ true) → (b ≡ true → a ≡ true) → a ≡ b
 same_test true true f g = refl
@@ -78,21 +77,27 @@ file_at-moved path left less name bytes files more l m =
     ∙ ap (λ r. file_at r path) (sym (append_assoc (contents less) ((string_bytes name, bytes.items) ∷ []) (contents files)))
     ∙ ap (λ r. file_at (r ++ contents files) path) (sym (map-append _ less ((name, bytes) ∷ [])) ∙ sym (ap contents l))
 
-either : (a b c : Bool) → a ≡ b → cond a true c ≡ (c || (b || false))
-either true true true e = refl
-either true true false e = refl
-either false false true e = refl
-either false false false e = refl
-either true false c e = absurd (false≢true (sym e))
-either false true c e = absurd (false≢true e)
+-- a path that stands among others already answers as one of them does
+covers : (path : List ℕ) (name : String Global) (known : List (String Global)) → list_any (string_eq name) known ≡ true
+    → is_one_of known path ≡ (is_one_of known path || (bytes_eq path (string_bytes name) || false))
+covers path name known there = by (bytes_eq path (string_bytes name)) refl (is_one_of known path) refl
+  where
+    by : (same : Bool) → bytes_eq path (string_bytes name) ≡ same → (b : Bool) → is_one_of known path ≡ b → b ≡ (b || (same || false))
+    by same s true e = refl
+    by true s false e = absurd (false≢true (sym e ∙ ap (is_one_of known) ((bytes_eq-Decides path (string_bytes name)).0 s) ∙ there))
+    by false s false e = refl
 
 -- a path more in the set of the paths that are known
-pub contains_text-more : {S : Type 0} (path : List ℕ) (known more : HashSet (String Global) S) (name : String Global) (names : List (String Global))
-    → UpdatesBy string_eq (λ k. bytes_eq (string_bytes name) (string_bytes k)) known more true
-    → contains_text known path ≡ list_any (λ p. bytes_eq path (string_bytes p)) names
-    → contains_text more path ≡ list_any (λ p. bytes_eq path (string_bytes p)) (names ++ name ∷ [])
-contains_text-more path known more name names updates before =
-    hash_set_updates_text (string_bytes name) known more true updates path
-    ∙ either _ _ _ (bytes_eq-swap (string_bytes name) path)
+pub known_more : (path : List ℕ) (known more : List (String Global)) (name : String Global) (names : List (String Global))
+    → more ≡ insert_key string_eq known name → is_one_of known path ≡ is_one_of names path
+    → is_one_of more path ≡ is_one_of (names ++ name ∷ []) path
+known_more path known more name names is before =
+    ap (λ ks. is_one_of ks path) is ∙ put (list_any (string_eq name) known) refl
     ∙ ap (λ r. r || (bytes_eq path (string_bytes name) || false)) before
     ∙ sym (list_any-append (λ p. bytes_eq path (string_bytes p)) names (name ∷ []))
+  where
+    put : (there : Bool) → list_any (string_eq name) known ≡ there
+        → is_one_of (if there then known else known ++ name ∷ []) path
+        ≡ (is_one_of known path || (bytes_eq path (string_bytes name) || false))
+    put true e = covers path name known e
+    put false e = list_any-append (λ p. bytes_eq path (string_bytes p)) known (name ∷ [])

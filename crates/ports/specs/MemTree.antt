@@ -1,7 +1,8 @@
 use Rattle.std.specs.Prelude.{ℕ, Bool, true, List, map, String, Vec, string_bytes}
 use Rattle.std.specs.declared.alloc.Global.{Global}
+use Rattle.std.specs.List.{list_any}
 use Rattle.std.specs.Option.{option_map_or}
-use Rattle.indexmap.specs.IndexSet.{contains_text}
+use Rattle.std.specs.Str.{bytes_eq}
 use Rattle.ports.specs.Plan.{Planned}
 use Rattle.ports.specs.Tree.{TreeState}
 use Rattle.ports.specs.declared.memory_tree.MemTree.{MemTree}
@@ -19,6 +20,10 @@ mem_tree_seen tree = record { files = contents tree.files.entries; failures = tr
 abbrev pub mem_tree_plan : MemTree → Planned TreeCall
 mem_tree_plan tree = record { piece = tree.plan.piece; kind = tree.plan.kind; number = tree.plan.number }
 
+-- whether the path is one of these
+abbrev pub is_one_of : List (String Global) → List ℕ → Bool
+is_one_of paths path = list_any (λ p. bytes_eq path (string_bytes p)) paths
+
 -- whether it answers for this path
 abbrev pub mem_tree_knows : MemTree → List ℕ → Bool
-mem_tree_knows tree path = option_map_or (λ known. contains_text known path) tree.known true
+mem_tree_knows tree path = option_map_or (λ known. is_one_of known.keys path) tree.known true

@@ -2,9 +2,8 @@ ghost use Rattle.std.specs.Prelude.{◌≡◌, ℕ, ◌^◌, ◌-◌, ◌≤◌,
 ghost use Rattle.std.specs.List.{list_any};
 ghost use Rattle.std.specs.Option.{option_map};
 ghost use Rattle.std.specs.Str.{bytes_eq};
-ghost use Rattle.indexmap.specs.IndexSet.{contains_text};
 ghost use Rattle.ports.specs.Tree.{Reads, SameFiles, file_at};
-ghost use Rattle.ports.specs.MemTree.{contents, mem_tree_knows, mem_tree_plan, mem_tree_seen};
+ghost use Rattle.ports.specs.MemTree.{contents, is_one_of, mem_tree_knows, mem_tree_plan, mem_tree_seen};
 ghost use Rattle.ports.specs.Plan.{is_due, is_tree_call, number_after, planned};
 ghost use Rattle.ports.specs.declared.plan.TreeCall.TheVariants.{Any};
 
@@ -59,8 +58,7 @@ fn read_part(bytes: &[u8], at: usize, piece: usize, buf: &mut [u8]) -> usize
 
 // These paths, to be looked up.
 fn known_paths(alloc: Global, paths: Vec<String>) -> Result<SipSet<String>, AllocError>
-    ensures { IfOk result (λ known. (path : List ℕ)
-        → contains_text known path ≡ list_any (λ p. bytes_eq path (string_bytes p)) paths.items) }
+    ensures { IfOk result (λ known. (path : List ℕ) → is_one_of known.keys path ≡ is_one_of paths.items path) }
 {
     let mut known = set_with_capacity(alloc, paths.len())?;
     for path in paths {
@@ -116,8 +114,7 @@ impl MemTree {
     pub fn only(self, alloc: Global, paths: Vec<String>) -> Result<Self, AllocError>
         ensures seen { IfOk result (λ tree. mem_tree_seen tree ≡ mem_tree_seen self) }
         ensures plan { IfOk result (λ tree. mem_tree_plan tree ≡ mem_tree_plan self) }
-        ensures known { IfOk result (λ tree. (path : List ℕ)
-            → mem_tree_knows tree path ≡ list_any (λ p. bytes_eq path (string_bytes p)) paths.items) }
+        ensures known { IfOk result (λ tree. (path : List ℕ) → mem_tree_knows tree path ≡ is_one_of paths.items path) }
     {
         let known = known_paths(alloc, paths)?;
         let MemTree {

@@ -9,7 +9,7 @@ use Rattle.std.proofs.Math.Seq.{take-append_seam}
 use Rattle.std.proofs.lemmas.List.Folds.{list_any-append}
 use Rattle.std.proofs.lemmas.Slice.Eq.{bytes_eq-Decides}
 use Rattle.std.proofs.lemmas.Bool.{not-true, not-false}
-use Rattle.indexmap.specs.IndexSet.{insert_key}
+use Rattle.basics.specs.Sets.{insert_key}
 use Rattle.targets.specs.edge.Texts.{Path, texts, holds}
 use Rattle.project.specs.Laws.{first_taken, times, AtMostOnce}
 use Rattle.project.specs.Whole.{SamePaths, IsFront}

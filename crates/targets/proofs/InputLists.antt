@@ -6,7 +6,7 @@ use Rattle.std.specs.List.{list_any}
 use Rattle.std.specs.Global.{Global}
 use Rattle.std.proofs.lemmas.List.{map-append}
 use Rattle.std.proofs.lemmas.Bool.{not-true, not-false}
-use Rattle.indexmap.specs.IndexSet.{insert_key}
+use Rattle.basics.specs.Sets.{insert_key}
 use Rattle.targets.specs.edge.Texts.{Path, texts, holds}
 use Rattle.targets.proofs.TextLists.{holds-texts, texts-insert_key}
 use Rattle.targets.specs.Sources.{InputData, put_input, put_inputs}

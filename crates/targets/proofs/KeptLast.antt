@@ -4,7 +4,7 @@ use Rattle.std.specs.Prelude.{if◌then◌else◌}
 use Rattle.std.specs.List.{list_any}
 use Rattle.std.proofs.lemmas.List.{reverse-append}
 use Rattle.std.proofs.lemmas.List.Sorted.{IsPermutation-reverse, list_any-IsPermutation}
-use Rattle.indexmap.specs.IndexSet.{insert_key}
+use Rattle.basics.specs.Sets.{insert_key}
 use Rattle.targets.specs.Libraries.{before, before_all, last_kept}
 
 before_all-push : (xs : List ℕ) (x : ℕ) (ys : List ℕ) → before_all (xs ++ x ∷ []) ys ≡ before_all xs (before x ys)

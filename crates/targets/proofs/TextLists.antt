@@ -5,7 +5,7 @@ use Rattle.std.specs.Prelude.{◌||◌, ◌&&◌, if◌then◌else◌, string_eq
 use Rattle.std.specs.List.{list_any, list_all}
 use Rattle.std.specs.Global.{Global}
 use Rattle.std.proofs.lemmas.List.{take_more, map-append}
-use Rattle.indexmap.specs.IndexSet.{insert_key}
+use Rattle.basics.specs.Sets.{insert_key}
 use Rattle.targets.specs.edge.Texts.{Text, texts, holds, put_new, put_all_new}
 
 pub list_any-map : {X Y : Type 0} (p : Y → Bool) (f : X → Y) (xs : List X) → list_any p (map f xs) ≡ list_any (λ x. p (f x)) xs

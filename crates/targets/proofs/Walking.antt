@@ -8,7 +8,7 @@ use Rattle.std.proofs.lemmas.Grind.{flat_map-append}
 use Rattle.std.proofs.lemmas.List.Folds.{flat_map-map, list_any-append}
 use Rattle.std.proofs.lemmas.List.Sorted.{IsPermutation-reverse, list_any-IsPermutation}
 use Rattle.std.proofs.lemmas.List.Sums.{sum_by-append, sum_by-cons, sum_by_push}
-use Rattle.indexmap.specs.IndexSet.{insert_key}
+use Rattle.basics.specs.Sets.{insert_key}
 use Rattle.targets.specs.Data.{TargetData, BuildData}
 use Rattle.targets.specs.Sources.{listed}
 use Rattle.targets.specs.Libraries.{LinkedData, linked_of, before, before_all, last_kept, with_its_own, libraries_if_static, LinkBack}

@@ -1,7 +1,7 @@
 -- The walk through static libraries that finds the libraries of a target.
 use Rattle.std.specs.Prelude.{ℕ, Option, Some, None, List, [], ◌∷◌, map, nat_eq, if◌then◌else◌}
 use Rattle.std.specs.List.{list_any}
-use Rattle.indexmap.specs.IndexSet.{insert_key}
+use Rattle.basics.specs.Sets.{insert_key}
 use Rattle.targets.specs.Data.{BuildData}
 use Rattle.targets.specs.Sources.{listed}
 use Rattle.targets.specs.Files.{is_static}

@@ -9,7 +9,7 @@ ghost use Rattle.targets.specs.Inputs.{input_view};
 
 use crate::edge::{first_kept, push_copies, source_path};
 use crate::target::{BuildTarget, Lists, Source};
-use basics::tables::{Held, new_set};
+use basics::tables::new_set;
 use std::alloc::{AllocError, Global};
 
 /// A source that is compiled.
@@ -101,12 +101,10 @@ fn first_inputs(alloc: Global, inputs: Vec<Input>) -> Result<Vec<Input>, AllocEr
     if inputs.len() < 2 {
         return Ok(inputs);
     }
-    let mut seen = Held {
-        table: new_set(alloc),
-    };
+    let mut seen = new_set(alloc);
     let mut kept = Vec::new(alloc);
     for input in inputs {
-        if seen.table.insert(input.path.clone()?)? {
+        if seen.insert(input.path.clone()?)? {
             kept.push(input)?;
         }
     }

@@ -6,7 +6,7 @@
 ghost use Rattle.std.specs.Prelude.{◌≡◌, ◌∷◌, [], ◌++◌, ◌<◌, true, false, map, flat_map, IfOk};
 ghost use Rattle.std.specs.Prelude.{length, nat_eq, slice_index_or, slice_set, option_map};
 ghost use Rattle.std.specs.List.{list_any};
-ghost use Rattle.indexmap.specs.IndexSet.{insert_key};
+ghost use Rattle.basics.specs.Sets.{insert_key};
 ghost use Rattle.targets.specs.Libraries.{LinkBack, libraries_of, linked_libraries};
 ghost use Rattle.targets.specs.LinkedViews.{linked_views};
 ghost use Rattle.targets.specs.Marks.{AreMarks};

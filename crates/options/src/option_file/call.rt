@@ -18,7 +18,7 @@ use crate::option_file::keyword::{Keyword, Keywords, is_left_out};
 use crate::option_file::misfit::{Misfit, Refused};
 use crate::option_file::names::is_name;
 use crate::option_file::unfit::unfit;
-use basics::tables::{Held, SipSet, new_set};
+use basics::tables::{SipSet, new_set};
 use grammar::tree::Argument;
 use machine::option_values::is_built_in;
 use std::alloc::{AllocError, Global};
@@ -54,11 +54,9 @@ fn comes_again(
 fn gives_twice(alloc: Global, arguments: &[Argument<'_>]) -> Result<bool, AllocError>
     ensures { IfOk result (λ twice. twice ≡ gives_twice [] (argument_trees arguments.now)) }
 {
-    let mut keys = Held {
-        table: new_set(alloc),
-    };
+    let mut keys = new_set(alloc);
     for argument in arguments {
-        if comes_again(alloc, &mut keys.table, argument)? {
+        if comes_again(alloc, &mut keys, argument)? {
             return Ok(true);
         }
     }
@@ -78,11 +76,9 @@ fn key_said<'a>(argument: &Argument<'a>) -> &'a str
 fn first_twice<'a>(alloc: Global, arguments: &[Argument<'a>]) -> Result<&'a str, AllocError>
     ensures { IfOk result (λ key. key.now ≡ first_twice [] (map argument_of arguments.now)) }
 {
-    let mut keys = Held {
-        table: new_set(alloc),
-    };
+    let mut keys = new_set(alloc);
     for argument in arguments {
-        if comes_again(alloc, &mut keys.table, argument)? {
+        if comes_again(alloc, &mut keys, argument)? {
             return Ok(key_said(argument));
         }
     }

@@ -3,7 +3,7 @@ ghost use Rattle.std.specs.Prelude.{◌≡◌, ◌++◌, bytes_eq, map, string_b
 ghost use Rattle.std.specs.List.{list_any};
 ghost use Rattle.targets.specs.edge.Texts.{texts, first_kept, holds, put_new};
 
-use basics::tables::{Held, SipSet, new_set};
+use basics::tables::{SipSet, new_set};
 use basics::text_lists::copies;
 use std::alloc::{AllocError, Global};
 
@@ -66,13 +66,11 @@ fn first_of_few(alloc: Global, all: &[String]) -> Result<Vec<String>, AllocError
 fn first_by_set(alloc: Global, all: &[String]) -> Result<Vec<String>, AllocError>
     ensures { IfOk result (λ v. texts v.items ≡ first_kept (texts all.now)) }
 {
-    let mut kept = Held {
-        table: new_set(alloc),
-    };
+    let mut kept = new_set(alloc);
     for text in all {
-        kept.table.insert(text.clone()?)?;
+        kept.insert(text.clone()?)?;
     }
-    copies(alloc, kept.table.as_slice())
+    copies(alloc, kept.as_slice())
 }
 
 /// Of equal texts the first is kept.

@@ -1,5 +1,5 @@
 use Rattle.std.proofs.Common.{◌≡◌, [], bytes_eq, take}
-use Rattle.indexmap.specs.IndexSet.{insert_all}
+use Rattle.basics.specs.Sets.{insert_all}
 use Rattle.data.proofs.keys.in_table.Given as goal
 
 -- the keys so far have been put in

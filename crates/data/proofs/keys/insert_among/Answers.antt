@@ -1,7 +1,7 @@
 use Rattle.std.proofs.Common.{[], arith, length, sym, ap, ◌∙◌}
 use Rattle.std.specs.Prelude.{not, bytes_eq}
 use Rattle.std.specs.List.{position}
-use Rattle.indexmap.specs.IndexSet.{insert_all}
+use Rattle.basics.specs.Sets.{insert_all}
 use Rattle.data.proofs.KeysLemmas.{is_there, is_missing, goes_last, inserted_there, inserted_new, still_apart}
 use Rattle.data.proofs.keys.insert_among.Goals as goal
 

@@ -6,7 +6,7 @@ pub loop-input-preserved-in_ok-push : goal.loop-input-preserved-in_ok-push
 loop-input-preserved-in_ok-push c =
     let all = c.loop-input.yielded in
     let kept = c.loop-input.kept.items in
-    let keys = c.loop-input.seen.table.keys in
+    let keys = c.loop-input.seen.keys in
     let h = c.loop-input.invariant in
     record {
       kept = kept-new all kept keys c.insert.new.self.keys c.in-Some.input c.in_ok-clone.field-0 c.in_ok-insert.field-0 h.kept h.seen c.in_ok-clone.ensures.cases c.in_ok-insert.ensures.added c.in_ok-insert.ensures.keys c.push.new.self.items c.in_ok-push.ensures.items c.if-branch.true;
@@ -17,7 +17,7 @@ pub loop-input-preserved : goal.loop-input-preserved
 loop-input-preserved c =
     let all = c.loop-input.yielded in
     let kept = c.loop-input.kept.items in
-    let keys = c.loop-input.seen.table.keys in
+    let keys = c.loop-input.seen.keys in
     let h = c.loop-input.invariant in
     record {
       kept = kept-present all kept keys c.insert.new.self.keys c.in-Some.input c.in_ok-clone.field-0 c.in_ok-insert.field-0 h.kept h.seen c.in_ok-clone.ensures.cases c.in_ok-insert.ensures.added c.in_ok-insert.ensures.keys c.if-branch.false;

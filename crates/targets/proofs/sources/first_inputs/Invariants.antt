@@ -7,5 +7,5 @@ use Rattle.targets.proofs.sources.first_inputs.Given as goal
 abbrev pub invariant-loop-input : goal.invariant-loop-input
 invariant-loop-input l = record {
   kept : map input_view l.kept.items ≡ put_inputs [] (map input_view l.yielded);
-  seen : texts l.seen.table.keys ≡ map (λ (i : InputData). i.path) (map input_view l.kept.items);
+  seen : texts l.seen.keys ≡ map (λ (i : InputData). i.path) (map input_view l.kept.items);
 }

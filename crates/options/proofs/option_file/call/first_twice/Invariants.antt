@@ -8,4 +8,4 @@ use Rattle.options.proofs.option_file.call.first_twice.Given as goal
 abbrev pub invariant-loop-argument : goal.invariant-loop-argument
 invariant-loop-argument l =
     first_twice [] (map argument_of l.arguments)
-    ≡ first_twice (strings_in l.keys.table.keys) (map argument_of (drop l.argument-index l.arguments))
+    ≡ first_twice (strings_in l.keys.keys) (map argument_of (drop l.argument-index l.arguments))

@@ -8,4 +8,4 @@ use Rattle.options.proofs.option_file.call.gives_twice.Given as goal
 abbrev pub invariant-loop-argument : goal.invariant-loop-argument
 invariant-loop-argument l =
     gives_twice [] (argument_trees l.arguments)
-    ≡ gives_twice (strings_in l.keys.table.keys) (argument_trees (drop l.argument-index l.arguments))
+    ≡ gives_twice (strings_in l.keys.keys) (argument_trees (drop l.argument-index l.arguments))

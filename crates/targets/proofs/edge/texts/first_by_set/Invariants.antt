@@ -3,4 +3,4 @@ use Rattle.targets.specs.edge.Texts.{texts, put_all_new}
 use Rattle.targets.proofs.edge.texts.first_by_set.Given as goal
 
 abbrev pub invariant-loop-text : goal.invariant-loop-text
-invariant-loop-text l = texts l.kept.table.keys ≡ put_all_new [] (texts (take l.text-index l.all))
+invariant-loop-text l = texts l.kept.keys ≡ put_all_new [] (texts (take l.text-index l.all))
