@@ -9,6 +9,8 @@ use Rattle.data.specs.declared.refusal.Refusal.{Refusal}
 use Rattle.data.specs.declared.refusal.Refusal.TheVariants as refusal
 use Rattle.template.specs.Config.{Bytes, Configuration, Content, Entries, Flag, Number, unfrozen, with_value}
 use Rattle.template.specs.Line.{is_name}
+use Rattle.objects.specs.declared.configuration_calls.contents.Quotes.{Quotes}
+use Rattle.objects.specs.declared.configuration_calls.contents.Quotes.TheVariants as quotes
 
 -- configuration data hold texts, integers and truth values
 abbrev pub content_in : Data → Option Content
@@ -16,11 +18,6 @@ content_in (boolean b) = Some (Flag b)
 content_in (integer z) = Some (Number z)
 content_in (text t) = Some (Bytes t)
 content_in _ = None
-
-abbrev pub data_in : Content → Data
-data_in (Flag b) = boolean b
-data_in (Number z) = integer z
-data_in (Bytes t) = text t
 
 -- ---- a dictionary as configuration data
 
@@ -50,15 +47,6 @@ data_with said = do
 
 -- ---- what is asked of a name
 
--- the value, or else the fallback; E10 where there is neither
-abbrev pub fallback_or_none : Option Data → Result Data Refusal
-fallback_or_none None = Err refusal.Absent
-fallback_or_none (Some d) = Ok d
-
-abbrev pub found_or : Option Content → Option Data → Result Data Refusal
-found_or (Some content) fallback = within (data_in content)
-found_or None fallback = fallback_or_none fallback
-
 -- what stands before a last quote
 abbrev pub before_quote : List ℕ → Option (List ℕ)
 before_quote [] = None
@@ -70,17 +58,24 @@ abbrev pub unquoted_text : List ℕ → List ℕ
 unquoted_text [] = []
 unquoted_text (b ∷ t) = if b == 34 then unwrap_or (before_quote t) (b ∷ t) else b ∷ t
 
-abbrev pub unquoted : Content → Content
-unquoted (Bytes t) = Bytes (unquoted_text t)
-unquoted (Flag b) = Flag b
-unquoted (Number z) = Number z
+-- a text as it is given
+abbrev pub given_text : Quotes → List ℕ → List ℕ
+given_text quotes.Kept t = t
+given_text quotes.Cut t = unquoted_text t
 
-abbrev pub unquoted_fallback : Option Data → Result Data Refusal
-unquoted_fallback None = Err refusal.Absent
-unquoted_fallback (Some (text t)) = within (text (unquoted_text t))
-unquoted_fallback (Some d) = Ok d
+abbrev pub given : Quotes → Content → Data
+given q (Flag b) = boolean b
+given q (Number z) = integer z
+given q (Bytes t) = text (given_text q t)
 
--- the same of texts without these quotes, the fallback too
-abbrev pub found_unquoted : Option Content → Option Data → Result Data Refusal
-found_unquoted (Some content) fallback = within (data_in (unquoted content))
-found_unquoted None fallback = unquoted_fallback fallback
+-- the fallback; E10 where there is none
+abbrev pub fallback_given : Quotes → Option Data → Result Data Refusal
+fallback_given q None = Err refusal.Absent
+fallback_given quotes.Kept (Some d) = Ok d
+fallback_given quotes.Cut (Some (text t)) = within (text (unquoted_text t))
+fallback_given quotes.Cut (Some d) = Ok d
+
+-- what a name stands for, or else the fallback
+abbrev pub found_or : Quotes → Option Content → Option Data → Result Data Refusal
+found_or q (Some content) fallback = within (given q content)
+found_or q None fallback = fallback_given q fallback

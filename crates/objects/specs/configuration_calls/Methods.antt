@@ -12,7 +12,9 @@ use Rattle.world.specs.Configuring.{configuration_at, merge_configured, set_conf
 use Rattle.world.specs.Deed.{Deed, give, refuse, read, ◌>>=◌, answered, fitting}
 use Rattle.world.specs.Fit.{fit}
 use Rattle.world.specs.Ruled.{obeyed}
-use Rattle.objects.specs.configuration_calls.Contents.{content_in, found_or, found_unquoted}
+use Rattle.objects.specs.configuration_calls.Contents.{content_in, found_or}
+use Rattle.objects.specs.declared.configuration_calls.contents.Quotes.{Quotes}
+use Rattle.objects.specs.declared.configuration_calls.contents.Quotes.TheVariants as quotes
 use Rattle.operations.specs.operators.TextLists.{text_list}
 use Rattle.objects.specs.configuration_calls.Given.{entries_of, number_in}
 use Rattle.objects.specs.configuration_calls.Rows.{row_of}
@@ -29,20 +31,13 @@ name_given a = do
   _ ← obeyed (is_name (text_at 0 a)) rules.IsValueName (text_at 0 a)
   give (text_at 0 a)
 
--- `get(name, fallback)`: E10 where the name stands for nothing and no fallback is given
-unfoldable pub get : ℕ → ArgumentsData → Deed (Option Data)
-get number a = do
+-- `get(name, fallback)`: E10 where the name stands for nothing and no fallback is given; `get_unquoted` gives the same, of a text without
+-- the quotes at its ends
+unfoldable pub get : ℕ → Quotes → ArgumentsData → Deed (Option Data)
+get number q a = do
   name ← name_given a
   facts ← read
-  d ← answered (found_or (value_of (entries_of facts number) name) (argument 1 a))
-  give (Some d)
-
--- `get_unquoted(name, fallback)`: the same, of a text without the quotes at its ends
-unfoldable pub get_unquoted : ℕ → ArgumentsData → Deed (Option Data)
-get_unquoted number a = do
-  name ← name_given a
-  facts ← read
-  d ← answered (found_unquoted (value_of (entries_of facts number) name) (argument 1 a))
+  d ← answered (found_or q (value_of (entries_of facts number) name) (argument 1 a))
   give (Some d)
 
 -- `has(name)`: whether the name stands for anything
@@ -102,8 +97,8 @@ set_text_quoted number a = do
 
 -- what a method does with arguments that its row has let through; the changes are refused by E20 where the data are frozen
 abbrev pub does : ConfigurationMethod → ℕ → ArgumentsData → Deed (Option Data)
-does methods.Get number a = get number a
-does methods.GetUnquoted number a = get_unquoted number a
+does methods.Get number a = get number quotes.Kept a
+does methods.GetUnquoted number a = get number quotes.Cut a
 does methods.Has number a = has number a
 does methods.Keys number a = keys number
 does methods.MergeFrom number a = merge_from number a

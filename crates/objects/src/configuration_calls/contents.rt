@@ -2,14 +2,12 @@
 ghost use Rattle.std.specs.Prelude.{◌≡◌, [], IfOk, OnOk, option_map};
 ghost use Rattle.std.specs.List.{list_all};
 ghost use Rattle.arguments.specs.Refused.{answer_data, said_data};
-ghost use Rattle.data.specs.Data.{text as text_data};
 ghost use Rattle.template.specs.Config.{with_value};
 ghost use Rattle.template.specs.ConfigData.{content_of};
 ghost use Rattle.template.specs.Line.{is_name, is_name_byte};
 ghost use Rattle.world.specs.Prelude.{Answers, data_of, items_of, within};
-ghost use Rattle.objects.specs.configuration_calls.Contents.{all_set, content_at, content_in, data_in, data_with, entries_in};
-ghost use Rattle.objects.specs.configuration_calls.Contents.{fallback_or_none};
-ghost use Rattle.objects.specs.configuration_calls.Contents.{found_or, found_unquoted, unquoted, unquoted_fallback, unquoted_text};
+ghost use Rattle.objects.specs.configuration_calls.Contents.{all_set, content_at, content_in, data_with, entries_in};
+ghost use Rattle.objects.specs.configuration_calls.Contents.{fallback_given, found_or, given, given_text, unquoted_text};
 
 use arguments::{Refused, Rule};
 use data::{Dictionary, Refusal, Text, Value};
@@ -110,41 +108,6 @@ pub fn entries_in(
     all_set(alloc, dictionary.keys(), dictionary.values())
 }
 
-// The value, or `Refusal::Limit` for a text past the limit.
-fn value_of(alloc: Global, content: &ConfigValue) -> Result<Result<Value, Refusal>, AllocError>
-    ensures { IfOk result (λ r. Answers (within (data_in (content_of content.now))) r) }
-{
-    match content {
-        ConfigValue::Boolean(boolean) => Ok(Ok(Value::Boolean(*boolean))),
-        ConfigValue::Integer(integer) => Ok(Ok(Value::Integer(*integer))),
-        ConfigValue::Text(text) => Value::of_str(alloc, text.as_str()),
-    }
-}
-
-fn fallback_or_none(fallback: Option<&Value>) -> Result<Result<Value, Refusal>, AllocError>
-    ensures { IfOk result (λ r. Answers (fallback_or_none (option_map (λ v. data_of v.now) fallback.entry)) r) }
-{
-    match fallback {
-        Some(value) => Ok(Ok(value.clone()?)),
-        None => Ok(Err(Refusal::Absent)),
-    }
-}
-
-/// What a name stands for, else the fallback, or `Refusal::Absent` where there is neither.
-pub fn found_or(
-    alloc: Global,
-    content: Option<&ConfigValue>,
-    fallback: Option<&Value>,
-) -> Result<Result<Value, Refusal>, AllocError>
-    ensures { IfOk result (λ r. Answers (found_or (option_map (λ c. content_of c.now) content.entry)
-        (option_map (λ v. data_of v.now) fallback.entry)) r) }
-{
-    match content {
-        Some(content) => value_of(alloc, content),
-        None => fallback_or_none(fallback),
-    }
-}
-
 fn unquoted_text(text: &str) -> &str
     ensures { result.now ≡ unquoted_text text.now }
 {
@@ -157,46 +120,66 @@ fn unquoted_text(text: &str) -> &str
     }
 }
 
-// The value of a text without the quotes at its ends.
-fn unquoted_value(alloc: Global, text: &str) -> Result<Result<Value, Refusal>, AllocError>
-    ensures { IfOk result (λ r. Answers (within (text_data (unquoted_text text.now))) r) }
-{
-    Value::of_str(alloc, unquoted_text(text))
+/// What becomes of the quotes at the ends of a text that is asked for: `get` keeps them, and `get_unquoted` cuts them.
+#[derive(Clone, Copy)]
+pub enum Quotes {
+    Kept,
+    Cut,
 }
 
-fn unquoted(alloc: Global, content: &ConfigValue) -> Result<Result<Value, Refusal>, AllocError>
-    ensures { IfOk result (λ r. Answers (within (data_in (unquoted (content_of content.now)))) r) }
+// A text as it is given.
+fn given_text(quotes: Quotes, text: &str) -> &str
+    ensures { result.now ≡ given_text quotes text.now }
+{
+    match quotes {
+        Quotes::Kept => text,
+        Quotes::Cut => unquoted_text(text),
+    }
+}
+
+// The value, or `Refusal::Limit` for a text past the limit.
+fn given(
+    alloc: Global,
+    quotes: Quotes,
+    content: &ConfigValue,
+) -> Result<Result<Value, Refusal>, AllocError>
+    ensures { IfOk result (λ r. Answers (within (given quotes (content_of content.now))) r) }
 {
     match content {
         ConfigValue::Boolean(boolean) => Ok(Ok(Value::Boolean(*boolean))),
         ConfigValue::Integer(integer) => Ok(Ok(Value::Integer(*integer))),
-        ConfigValue::Text(text) => unquoted_value(alloc, text.as_str()),
+        ConfigValue::Text(text) => Value::of_str(alloc, given_text(quotes, text.as_str())),
     }
 }
 
-fn unquoted_fallback(
+fn fallback_given(
     alloc: Global,
+    quotes: Quotes,
     fallback: Option<&Value>,
 ) -> Result<Result<Value, Refusal>, AllocError>
-    ensures { IfOk result (λ r. Answers (unquoted_fallback (option_map (λ v. data_of v.now) fallback.entry)) r) }
+    ensures { IfOk result (λ r. Answers (fallback_given quotes (option_map (λ v. data_of v.now) fallback.entry)) r) }
 {
-    match fallback {
-        Some(Value::Text(text)) => unquoted_value(alloc, text.as_str()),
-        _ => fallback_or_none(fallback),
+    let Some(value) = fallback else {
+        return Ok(Err(Refusal::Absent));
+    };
+    match (quotes, value) {
+        (Quotes::Cut, Value::Text(text)) => Value::of_str(alloc, unquoted_text(text.as_str())),
+        _ => Ok(Ok(value.clone()?)),
     }
 }
 
-/// The same of texts without the quotes at their ends, the fallback too.
-pub fn found_unquoted(
+/// What a name stands for, else the fallback, or `Refusal::Absent` where there is neither.
+pub fn found_or(
     alloc: Global,
+    quotes: Quotes,
     content: Option<&ConfigValue>,
     fallback: Option<&Value>,
 ) -> Result<Result<Value, Refusal>, AllocError>
-    ensures { IfOk result (λ r. Answers (found_unquoted (option_map (λ c. content_of c.now) content.entry)
+    ensures { IfOk result (λ r. Answers (found_or quotes (option_map (λ c. content_of c.now) content.entry)
         (option_map (λ v. data_of v.now) fallback.entry)) r) }
 {
     match content {
-        Some(content) => unquoted(alloc, content),
-        None => unquoted_fallback(alloc, fallback),
+        Some(content) => given(alloc, quotes, content),
+        None => fallback_given(alloc, quotes, fallback),
     }
 }

@@ -7,13 +7,13 @@ ghost use Rattle.world.specs.Prelude.{Does, arguments_data, data_of, world_of};
 ghost use Rattle.world.specs.Fit.{fit};
 ghost use Rattle.objects.specs.configuration_calls.Contents.{content_in};
 ghost use Rattle.objects.specs.configuration_calls.Given.{entries_of, number_in};
-ghost use Rattle.objects.specs.configuration_calls.Methods.{configuration_method, content_given, does, fitting_does, get, get_unquoted};
+ghost use Rattle.objects.specs.configuration_calls.Methods.{configuration_method, content_given, does, fitting_does, get};
 ghost use Rattle.objects.specs.configuration_calls.Methods.{has};
 ghost use Rattle.objects.specs.configuration_calls.Methods.{has_method, keys, merge_from, name_given, one_or_zero, other_given, set, set10};
 ghost use Rattle.objects.specs.configuration_calls.Methods.{set_text_quoted};
 ghost use Rattle.objects.specs.configuration_calls.Rows.{row_of};
 
-use crate::configuration_calls::contents::{content_in, found_or, found_unquoted, is_name};
+use crate::configuration_calls::contents::{Quotes, content_in, found_or, is_name};
 use crate::configuration_calls::rows::row_of;
 use arguments::{Arguments, Rule};
 use basics::faults::Refusal;
@@ -67,27 +67,14 @@ fn names_at(alloc: Global, store: &Store, number: usize) -> Result<Vec<&str>, Al
 fn get<T: Tree, O: Outputs>(
     caller: &Caller<'_, T, O>,
     number: usize,
+    quotes: Quotes,
     arguments: &Arguments,
 ) -> Result<Option<Value>, Stop>
-    ensures { Does T.seen O.seen (option_map data_of) (get number (arguments_data arguments.now)) caller.now result caller.now }
+    ensures { Does T.seen O.seen (option_map data_of) (get number quotes (arguments_data arguments.now)) caller.now result caller.now }
 {
     let name = name_given(caller, arguments)?;
     let content = content_at(caller.store, number, name);
-    let answer = found_or(caller.alloc, content, arguments.argument(1))?;
-    let value = caller.answered(answer)?;
-    Ok(Some(value))
-}
-
-fn get_unquoted<T: Tree, O: Outputs>(
-    caller: &Caller<'_, T, O>,
-    number: usize,
-    arguments: &Arguments,
-) -> Result<Option<Value>, Stop>
-    ensures { Does T.seen O.seen (option_map data_of) (get_unquoted number (arguments_data arguments.now)) caller.now result caller.now }
-{
-    let name = name_given(caller, arguments)?;
-    let content = content_at(caller.store, number, name);
-    let answer = found_unquoted(caller.alloc, content, arguments.argument(1))?;
+    let answer = found_or(caller.alloc, quotes, content, arguments.argument(1))?;
     let value = caller.answered(answer)?;
     Ok(Some(value))
 }
@@ -235,8 +222,8 @@ fn act<T: Tree, O: Outputs>(
     ensures { Does T.seen O.seen (option_map data_of) (does method number (arguments_data arguments.now)) caller.old result caller.new }
 {
     match method {
-        ConfigurationMethod::Get => get(caller, number, arguments),
-        ConfigurationMethod::GetUnquoted => get_unquoted(caller, number, arguments),
+        ConfigurationMethod::Get => get(caller, number, Quotes::Kept, arguments),
+        ConfigurationMethod::GetUnquoted => get(caller, number, Quotes::Cut, arguments),
         ConfigurationMethod::Has => has(caller, number, arguments),
         ConfigurationMethod::Keys => keys(caller, number),
         ConfigurationMethod::MergeFrom => merge_from(caller, number, arguments),

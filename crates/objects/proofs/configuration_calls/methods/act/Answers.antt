@@ -8,7 +8,7 @@ pub returns-in-Get : goal.returns-in-Get
 returns-in-Get g c = carries_as (ap (λ m. does m c.args.number (arguments_data c.args.arguments.now)) (sym c.in-Get.is)) c.get.ensures
 
 pub returns-in-GetUnquoted : goal.returns-in-GetUnquoted
-returns-in-GetUnquoted g c = carries_as (ap (λ m. does m c.args.number (arguments_data c.args.arguments.now)) (sym c.in-GetUnquoted.is)) c.get_unquoted.ensures
+returns-in-GetUnquoted g c = carries_as (ap (λ m. does m c.args.number (arguments_data c.args.arguments.now)) (sym c.in-GetUnquoted.is)) c.get-in-GetUnquoted.ensures
 
 pub returns-in-Has : goal.returns-in-Has
 returns-in-Has g c = carries_as (ap (λ m. does m c.args.number (arguments_data c.args.arguments.now)) (sym c.in-Has.is)) c.has.ensures

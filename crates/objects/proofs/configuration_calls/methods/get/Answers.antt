@@ -17,11 +17,11 @@ returns-in_err-answer g c = carries_then c.in_ok-name.ensures (carries_none c.fr
 pub returns-in_err-value : goal.returns-in_err-value
 unfolding get
 returns-in_err-value g c =
-    let asked = ap answered (two found_or c.content_at-content.ensures c.argument.ensures) in
+    let asked = ap answered (two (found_or c.args.quotes) c.content_at-content.ensures c.argument.ensures) in
     carries_then c.in_ok-name.ensures (carries_read (carries_stop (carries_as asked (carries_value _ _ c.in_ok-answer.ensures c.in_err-value.ensures)) c.from_residual-in_err-value.ensures.1))
 
 pub returns : goal.returns
 unfolding get
 returns g c =
-    let asked = ap answered (two found_or c.content_at-content.ensures c.argument.ensures) in
+    let asked = ap answered (two (found_or c.args.quotes) c.content_at-content.ensures c.argument.ensures) in
     carries_then c.in_ok-name.ensures (carries_read (carries_then {x = c.in_ok-value.value} (carries_as asked (carries_value _ _ c.in_ok-answer.ensures c.in_ok-value.ensures)) (carries_give refl)))
