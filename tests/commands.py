@@ -417,5 +417,5 @@ def test_self_install() -> None:
     check("meson setup: a build that fails", done.returncode == 127 and is_told and done.stdout == "", f"{done}")
 
 
-TESTS = (test_without_the_program, test_building, test_ending_a_build, test_commands, test_setup, test_questions, test_explain, test_compile,
-         test_compile_that_fails, test_introspect, test_progress, test_self_install)
+TESTS = (test_without_the_program, test_building, test_ending_a_build, test_commands, test_setup, test_questions, test_explain,
+         test_compile, test_compile_that_fails, test_introspect, test_progress, test_self_install)
