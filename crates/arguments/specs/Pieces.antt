@@ -1,6 +1,6 @@
 -- Things in lists of any depth.
 use Rattle.std.specs.Prelude.{Bool, true, false, ◌&&◌, ◌||◌}
-use Rattle.data.specs.Data.{Data, boolean, integer, text, list, dictionary, object, Items, no_items, item}
+use Rattle.data.specs.Data.{Data, text, list, object, Items, no_items, item}
 use Rattle.data.specs.declared.object.Object.{Object}
 use Rattle.data.specs.declared.object.Object.TheVariants as objects
 use Rattle.arguments.specs.declared.row.Piece.{Piece}
@@ -28,6 +28,10 @@ abbrev pub is_configuration : Object → Bool
 is_configuration (objects.ConfigurationData number) = true
 is_configuration _ = false
 
+abbrev pub is_dependency : Object → Bool
+is_dependency (objects.Dependency d) = true
+is_dependency _ = false
+
 -- an executable or a library
 abbrev pub is_built : Object → Bool
 is_built (objects.BuildTarget number) = true
@@ -54,12 +58,14 @@ takes_object pieces.Path o = is_file o
 takes_object pieces.Source o = is_file o || is_custom o
 takes_object pieces.Folder o = is_folders o
 takes_object pieces.BuildTarget o = is_built o
+takes_object pieces.Dependency o = is_dependency o
 takes_object pieces.Target o = is_target o
 takes_object pieces.Word o = is_file o || is_target o
 takes_object pieces.CommandWord o = is_command o
 
 abbrev pub takes_text : Piece → Bool
 takes_text pieces.BuildTarget = false
+takes_text pieces.Dependency = false
 takes_text pieces.Target = false
 takes_text _ = true
 
@@ -69,9 +75,7 @@ abbrev mutual
   are_pieces piece (object o) = takes_object piece o
   are_pieces piece (text t) = takes_text piece
   are_pieces piece (list ds) = all_pieces piece ds
-  are_pieces piece (boolean b) = false
-  are_pieces piece (integer z) = false
-  are_pieces piece (dictionary es) = false
+  are_pieces piece _ = false
 
   pub all_pieces : Piece → Items → Bool
   all_pieces piece no_items = true

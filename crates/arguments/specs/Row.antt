@@ -6,7 +6,6 @@ use Rattle.data.specs.declared.object.Object.{Object}
 use Rattle.arguments.specs.declared.row.Kind.{Kind}
 use Rattle.arguments.specs.declared.row.Kind.TheVariants as kinds
 use Rattle.data.specs.Flat.{is_texts}
-use Rattle.arguments.specs.Dependencies.{are_dependencies}
 use Rattle.arguments.specs.Pieces.{are_pieces, is_command, is_configuration, is_feature, is_file}
 
 pub record KeywordData : Type 0 where
@@ -71,7 +70,6 @@ is_of kinds.ConfigurationData d = is_object is_configuration d
 is_of kinds.Configuration d = is_object is_configuration d || is_some (entries_in d)
 is_of kinds.File d = is_object is_file d
 is_of kinds.Command d = is_object is_command d
-is_of kinds.Dependencies d = are_dependencies d
 is_of (kinds.Flat piece) d = are_pieces piece d
 
 -- what the positional argument at a place has to be: the row names it, or it is one of the others

@@ -1,59 +1,44 @@
 -- What a call asks of its arguments beside its row, and the words that say what breaks it.
-use Rattle.std.specs.Prelude.{ℕ, List, ◌++◌, codes}
+use Rattle.std.specs.Prelude.{ℕ, List, [], ◌++◌, codes}
 use Rattle.arguments.specs.declared.rule.Rule.{Rule}
 use Rattle.arguments.specs.declared.rule.Rule.TheVariants as rules
 
--- what stands between the quotes is a keyword, a language, an option, a folder, or else a text
-abbrev pub sign_of : Rule → List ℕ
-sign_of rules.TakesLibraries = codes "keyword '"
-sign_of rules.TakesC = codes "keyword '"
-sign_of rules.HasItems = codes "keyword '"
-sign_of rules.TakesOneOutput = codes "keyword '"
-sign_of rules.IsNeeded = codes "keyword '"
-sign_of rules.TakesOneFile = codes "keyword '"
-sign_of rules.TakesTreeFile = codes "keyword '"
-sign_of rules.HasMeaning = codes "keyword '"
-sign_of rules.IsC = codes "language '"
-sign_of rules.IsOption = codes "option '"
-sign_of rules.IsBelow = codes "folder '"
-sign_of rules.IsNew = codes "folder '"
-sign_of _ = codes "'"
-
-abbrev pub rule_words : Rule → List ℕ
-rule_words rules.NamesFile = codes "names no file of the project"
-rule_words rules.NamesFolder = codes "names no folder of the project"
-rule_words rules.IsTargetName = codes "is no name of a target"
-rule_words rules.IsFileName = codes "is no name of a file"
-rule_words rules.IsSource = codes "is no source of C"
-rule_words rules.HasSource = codes "has no source of C"
-rule_words rules.IsLibraryVersion = codes "is no version of a library"
-rule_words rules.IsManPage = codes "is no name of a man page"
-rule_words rules.IsSettable = codes "is no name that can be set"
-rule_words rules.IsVariableName = codes "is no name of a variable"
-rule_words rules.HasProgram = codes "needs a program that was found"
-rule_words rules.HasOneOutput = codes "needs a target with one output"
-rule_words rules.HasCompiler = codes "is no language that has a compiler"
-rule_words rules.GoesUp = codes "needs a start from 0, a stop from the start and a step from 1"
-rule_words rules.IsValueName = codes "is no name of a value"
-rule_words rules.IsSetting = codes "takes a text, an integer or a truth value"
-rule_words rules.IsAssignment = codes "has no '='"
-rule_words rules.TakesLibraries = codes "takes libraries"
-rule_words rules.TakesC = codes "takes 'c'"
-rule_words rules.HasItems = codes "is empty"
-rule_words rules.TakesOneOutput = codes "takes one output"
-rule_words rules.IsNeeded = codes "is missing, and is needed"
-rule_words rules.TakesOneFile = codes "takes one file"
-rule_words rules.TakesTreeFile = codes "takes a file of the project"
-rule_words rules.HasMeaning = codes "has a placeholder or a program that stands for nothing"
-rule_words rules.TakesText = codes "takes a text"
-rule_words rules.RunsProgram = codes "has a program that was not found"
-rule_words rules.RunsNoLibrary = codes "runs a library"
-rule_words rules.IsPrinted = codes "has a value that can't be printed"
-rule_words rules.IsC = codes "is not C"
-rule_words rules.IsOption = codes "there is none"
-rule_words rules.IsBelow = codes "is none below the present one"
-rule_words rules.IsNew = codes "was entered before"
+-- what the text is the name of, where that is told, and what is said of it
+abbrev pub told_of : Rule → List ℕ × List ℕ
+told_of rules.NamesFile = ([], codes "names no file of the project")
+told_of rules.NamesFolder = ([], codes "names no folder of the project")
+told_of rules.IsTargetName = ([], codes "is no name of a target")
+told_of rules.IsFileName = ([], codes "is no name of a file")
+told_of rules.IsSource = ([], codes "is no source of C")
+told_of rules.HasSource = ([], codes "has no source of C")
+told_of rules.IsLibraryVersion = ([], codes "is no version of a library")
+told_of rules.IsManPage = ([], codes "is no name of a man page")
+told_of rules.IsSettable = ([], codes "is no name that can be set")
+told_of rules.IsVariableName = ([], codes "is no name of a variable")
+told_of rules.HasProgram = ([], codes "needs a program that was found")
+told_of rules.HasOneOutput = ([], codes "needs a target with one output")
+told_of rules.HasCompiler = ([], codes "is no language that has a compiler")
+told_of rules.GoesUp = ([], codes "needs a start from 0, a stop from the start and a step from 1")
+told_of rules.IsValueName = ([], codes "is no name of a value")
+told_of rules.IsSetting = ([], codes "takes a text, an integer or a truth value")
+told_of rules.IsAssignment = ([], codes "has no '='")
+told_of rules.TakesLibraries = (codes "keyword ", codes "takes libraries")
+told_of rules.TakesC = (codes "keyword ", codes "takes 'c'")
+told_of rules.HasItems = (codes "keyword ", codes "is empty")
+told_of rules.TakesOneOutput = (codes "keyword ", codes "takes one output")
+told_of rules.IsNeeded = (codes "keyword ", codes "is missing, and is needed")
+told_of rules.TakesOneFile = (codes "keyword ", codes "takes one file")
+told_of rules.TakesTreeFile = (codes "keyword ", codes "takes a file of the project")
+told_of rules.HasMeaning = (codes "keyword ", codes "has a placeholder or a program that stands for nothing")
+told_of rules.TakesText = ([], codes "takes a text")
+told_of rules.RunsProgram = ([], codes "has a program that was not found")
+told_of rules.RunsNoLibrary = ([], codes "runs a library")
+told_of rules.IsPrinted = ([], codes "has a value that can't be printed")
+told_of rules.IsC = (codes "language ", codes "is not C")
+told_of rules.IsOption = (codes "option ", codes "there is none")
+told_of rules.IsBelow = (codes "folder ", codes "is none below the present one")
+told_of rules.IsNew = (codes "folder ", codes "was entered before")
 
 -- a text, or a keyword by its name, breaks a rule
 abbrev pub broken : Rule → List ℕ → List ℕ
-broken rule text = sign_of rule ++ (text ++ (codes "': " ++ rule_words rule))
+broken rule text = (told_of rule).0 ++ (codes "'" ++ (text ++ (codes "': " ++ (told_of rule).1)))

@@ -13,6 +13,7 @@ piece_words pieces.Path = codes "texts and files"
 piece_words pieces.Source = codes "texts, files and custom targets"
 piece_words pieces.Folder = codes "texts and include_directories"
 piece_words pieces.BuildTarget = codes "executables and libraries"
+piece_words pieces.Dependency = codes "dependencies"
 piece_words pieces.Target = codes "targets"
 piece_words pieces.Word = codes "texts, files and targets"
 piece_words pieces.CommandWord = codes "texts, files, programs and targets"
@@ -33,7 +34,6 @@ kind_words kinds.ConfigurationData = codes "configuration data"
 kind_words kinds.Configuration = codes "configuration data or a dictionary"
 kind_words kinds.File = codes "a file"
 kind_words kinds.Command = codes "a program, a target or a file"
-kind_words kinds.Dependencies = codes "dependencies"
 kind_words (kinds.Flat piece) = piece_words piece
 
 abbrev pub object_words : Object → List ℕ

@@ -7,30 +7,17 @@ use data::{Text, Value};
 use std::alloc::{AllocError, Global};
 
 /// An argument that is given by a name.
+#[derive(Drop)]
 pub struct Named {
     pub name: Text,
     pub value: Value,
 }
 
-impl Drop for Named {
-    fn drop(self) {
-        let Named { name: _, value: _ } = self;
-    }
-}
-
 /// The arguments of a call: those without a name, and those with one, each in order.
+#[derive(Drop)]
 pub struct Arguments {
     pub positional: Vec<Value>,
     pub named: Vec<Named>,
-}
-
-impl Drop for Arguments {
-    fn drop(self) {
-        let Arguments {
-            positional: _,
-            named: _,
-        } = self;
-    }
 }
 
 /// No argument.

@@ -1,33 +1,9 @@
 //! Dependencies in lists of any depth.
 ghost use Rattle.std.specs.Prelude.{◌≡◌};
-ghost use Rattle.arguments.specs.Dependencies.{all_dependencies, all_found, are_dependencies, are_found};
+ghost use Rattle.arguments.specs.Dependencies.{all_found, are_found};
 ghost use Rattle.data.specs.Prelude.{data_of, items_of};
 
 use data::{Object, Value};
-
-/// Whether it is a dependency or a list of such, of any depth.
-#[cycle(dependencies)]
-pub fn are_dependencies(value: &Value) -> bool
-    ensures { result ≡ are_dependencies (data_of value.now) }
-{
-    match value {
-        Value::Object(object) => matches!(&**object, Object::Dependency(_)),
-        Value::List(list) => all_dependencies(list.items()),
-        _ => false,
-    }
-}
-
-#[cycle(dependencies)]
-fn all_dependencies(items: &[Value]) -> bool
-    ensures { result ≡ all_dependencies (items_of items.now) }
-{
-    for item in items {
-        if !are_dependencies(item) {
-            return false;
-        }
-    }
-    true
-}
 
 /// Whether the dependencies that it is are all found.
 #[cycle(found)]

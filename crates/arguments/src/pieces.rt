@@ -1,7 +1,7 @@
 //! Things in lists of any depth.
 ghost use Rattle.std.specs.Prelude.{◌≡◌, ◌||◌};
 ghost use Rattle.arguments.specs.Pieces.{all_pieces, are_pieces, is_built, is_command, is_configuration, is_custom, is_feature, is_file};
-ghost use Rattle.arguments.specs.Pieces.{is_folders, is_program, is_target, takes_object, takes_text};
+ghost use Rattle.arguments.specs.Pieces.{is_target, takes_object, takes_text};
 ghost use Rattle.data.specs.Prelude.{data_of, items_of};
 
 use crate::row::Piece;
@@ -12,18 +12,6 @@ pub fn is_file(object: &Object) -> bool
     ensures { result ≡ is_file object.now }
 {
     matches!(object, Object::File { .. })
-}
-
-fn is_program(object: &Object) -> bool
-    ensures { result ≡ is_program object.now }
-{
-    matches!(object, Object::Program(_))
-}
-
-fn is_folders(object: &Object) -> bool
-    ensures { result ≡ is_folders object.now }
-{
-    matches!(object, Object::IncludeDirectories(_))
 }
 
 /// Whether it is the value of a feature option.
@@ -65,7 +53,7 @@ fn is_target(object: &Object) -> bool
 pub fn is_command(object: &Object) -> bool
     ensures { result ≡ is_command object.now }
 {
-    is_program(object) || is_target(object) || is_file(object)
+    matches!(object, Object::Program(_)) || is_target(object) || is_file(object)
 }
 
 fn takes_object(piece: Piece, object: &Object) -> bool
@@ -74,8 +62,9 @@ fn takes_object(piece: Piece, object: &Object) -> bool
     match piece {
         Piece::Path => is_file(object),
         Piece::Source => is_file(object) || is_custom(object),
-        Piece::Folder => is_folders(object),
+        Piece::Folder => matches!(object, Object::IncludeDirectories(_)),
         Piece::BuildTarget => is_built(object),
+        Piece::Dependency => matches!(object, Object::Dependency(_)),
         Piece::Target => is_target(object),
         Piece::Word => is_file(object) || is_target(object),
         Piece::CommandWord => is_command(object),
@@ -85,7 +74,10 @@ fn takes_object(piece: Piece, object: &Object) -> bool
 fn takes_text(piece: Piece) -> bool
     ensures { result ≡ takes_text piece }
 {
-    !matches!(piece, Piece::BuildTarget | Piece::Target)
+    !matches!(
+        piece,
+        Piece::BuildTarget | Piece::Dependency | Piece::Target
+    )
 }
 
 /// Whether it is such a piece, or a list of such, of any depth.

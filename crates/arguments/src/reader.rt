@@ -9,12 +9,10 @@ ghost use Rattle.arguments.specs.Arguments.{arguments_data, named_data};
 ghost use Rattle.arguments.specs.MisfitView.{misfit_data};
 ghost use Rattle.arguments.specs.Misfits.{at_place, checked, left_out, misfit, misnamed, misplaced, missing};
 ghost use Rattle.arguments.specs.Misfits.{of_keyword, too_few, twice, unfit};
-ghost use Rattle.arguments.specs.Row.{common_left_out, is_object, is_of, keyword_kind, kind_at};
-ghost use Rattle.arguments.specs.Pieces.{is_command, is_configuration, is_feature, is_file};
+ghost use Rattle.arguments.specs.Row.{common_left_out, is_of, keyword_kind, kind_at};
 ghost use Rattle.arguments.specs.RowView.{keyword_data, row_data};
 
 use crate::arguments::{Arguments, Named};
-use crate::dependencies::are_dependencies;
 use crate::given::value_named;
 use crate::misfit::Misfit;
 use crate::pieces::{are_pieces, is_command, is_configuration, is_feature, is_file};
@@ -24,42 +22,6 @@ use basics::tables::{SipSet, new_set};
 use basics::text_lists::is_among;
 use data::{Value, is_texts};
 use std::alloc::{AllocError, Global};
-
-fn is_file_value(value: &Value) -> bool
-    ensures { result ≡ is_object is_file (data_of value.now) }
-{
-    match value {
-        Value::Object(object) => is_file(object),
-        _ => false,
-    }
-}
-
-fn is_command_value(value: &Value) -> bool
-    ensures { result ≡ is_object is_command (data_of value.now) }
-{
-    match value {
-        Value::Object(object) => is_command(object),
-        _ => false,
-    }
-}
-
-fn is_configuration_value(value: &Value) -> bool
-    ensures { result ≡ is_object is_configuration (data_of value.now) }
-{
-    match value {
-        Value::Object(object) => is_configuration(object),
-        _ => false,
-    }
-}
-
-fn is_feature_value(value: &Value) -> bool
-    ensures { result ≡ is_object is_feature (data_of value.now) }
-{
-    match value {
-        Value::Object(object) => is_feature(object),
-        _ => false,
-    }
-}
 
 // A text, an integer or a boolean.
 fn is_setting(value: &Value) -> bool
@@ -81,15 +43,16 @@ fn is_of(kind: Kind, value: &Value) -> bool
         Kind::Text => value.as_text().is_some(),
         Kind::IntegerOrText => value.as_integer().is_some() || value.as_text().is_some(),
         Kind::Setting => is_setting(value),
-        Kind::Requirement => value.as_boolean().is_some() || is_feature_value(value),
+        Kind::Requirement => value.as_boolean().is_some()
+            || value.as_object().is_some_and(is_feature),
         Kind::Texts => is_texts(value),
         Kind::Dictionary => value.as_dictionary().is_some(),
         Kind::TextsOrDictionary => is_texts(value) || value.as_dictionary().is_some(),
-        Kind::ConfigurationData => is_configuration_value(value),
-        Kind::Configuration => is_configuration_value(value) || value.as_dictionary().is_some(),
-        Kind::File => is_file_value(value),
-        Kind::Command => is_command_value(value),
-        Kind::Dependencies => are_dependencies(value),
+        Kind::ConfigurationData => value.as_object().is_some_and(is_configuration),
+        Kind::Configuration => value.as_object().is_some_and(is_configuration)
+            || value.as_dictionary().is_some(),
+        Kind::File => value.as_object().is_some_and(is_file),
+        Kind::Command => value.as_object().is_some_and(is_command),
         Kind::Flat(piece) => are_pieces(piece, value),
     }
 }

@@ -27,8 +27,6 @@ pub enum Kind {
     File,
     /// What a test can run: a program, a target, an output of one or a file.
     Command,
-    /// A dependency, or a list of such, of any depth.
-    Dependencies,
     /// One of these, or a list of such, of any depth.
     Flat(Piece),
 }
@@ -44,6 +42,8 @@ pub enum Piece {
     Folder,
     /// An executable or a library.
     BuildTarget,
+    /// What `dependency` or `declare_dependency` gives.
+    Dependency,
     /// A target, or an output of a custom one.
     Target,
     /// A text, a file, a target or an output of a custom one.

@@ -1,7 +1,7 @@
 //! What a call asks of its arguments beside its row, and the words that say what breaks it.
 ghost use Rattle.std.specs.Prelude.{◌≡◌, IfOk, string_bytes};
 ghost use Rattle.arguments.specs.Refused.{breaks, refused_data};
-ghost use Rattle.arguments.specs.Rules.{broken, rule_words, sign_of};
+ghost use Rattle.arguments.specs.Rules.{broken, told_of};
 
 use crate::refused::Refused;
 use basics::faults::Refusal;
@@ -79,9 +79,9 @@ pub enum Rule {
 }
 
 impl Rule {
-    // What stands before the text: a quote, and before it what the text is the name of, where that is told.
-    fn sign(self) -> &'static str
-        ensures { result.now ≡ sign_of self }
+    // What the text is the name of, where that is told.
+    fn thing(self) -> &'static str
+        ensures { result.now ≡ (told_of self).0 }
     {
         match self {
             Rule::TakesLibraries
@@ -91,16 +91,17 @@ impl Rule {
             | Rule::IsNeeded
             | Rule::TakesOneFile
             | Rule::TakesTreeFile
-            | Rule::HasMeaning => "keyword '",
-            Rule::IsC => "language '",
-            Rule::IsOption => "option '",
-            Rule::IsBelow | Rule::IsNew => "folder '",
-            _ => "'",
+            | Rule::HasMeaning => "keyword ",
+            Rule::IsC => "language ",
+            Rule::IsOption => "option ",
+            Rule::IsBelow | Rule::IsNew => "folder ",
+            _ => "",
         }
     }
 
+    // What is said of it.
     fn words(self) -> &'static str
-        ensures { result.now ≡ rule_words self }
+        ensures { result.now ≡ (told_of self).1 }
     {
         match self {
             Rule::NamesFile => "names no file of the project",
@@ -143,8 +144,8 @@ impl Rule {
     pub fn broken(self, alloc: Global, text: &str) -> Result<String, AllocError>
         ensures { IfOk result (λ words. string_bytes words ≡ broken self text.now) }
     {
-        let (sign, words) = (self.sign(), self.words());
-        format!(in alloc; "{sign}{text}': {words}")
+        let (thing, words) = (self.thing(), self.words());
+        format!(in alloc; "{thing}'{text}': {words}")
     }
 
     /// The refusal of arguments of which this text breaks the rule, or the keyword of this name.

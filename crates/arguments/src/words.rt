@@ -15,6 +15,7 @@ fn piece_words(piece: Piece) -> &'static str
         Piece::Source => "texts, files and custom targets",
         Piece::Folder => "texts and include_directories",
         Piece::BuildTarget => "executables and libraries",
+        Piece::Dependency => "dependencies",
         Piece::Target => "targets",
         Piece::Word => "texts, files and targets",
         Piece::CommandWord => "texts, files, programs and targets",
@@ -40,7 +41,6 @@ pub fn kind_words(kind: Kind) -> &'static str
         Kind::Configuration => "configuration data or a dictionary",
         Kind::File => "a file",
         Kind::Command => "a program, a target or a file",
-        Kind::Dependencies => "dependencies",
         Kind::Flat(piece) => piece_words(piece),
     }
 }

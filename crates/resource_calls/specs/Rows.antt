@@ -1,6 +1,6 @@
 -- The rows of the functions: what each takes.
 use Rattle.std.specs.Prelude.{List, [], ◌∷◌, codes}
-use Rattle.arguments.specs.declared.row.Kind.TheVariants.{Any, Boolean, Command, Dependencies, Flat, Integer, Requirement, Text, Texts}
+use Rattle.arguments.specs.declared.row.Kind.TheVariants.{Any, Boolean, Command, Flat, Integer, Requirement, Text, Texts}
 use Rattle.arguments.specs.declared.row.Kind.TheVariants.{TextsOrDictionary}
 use Rattle.arguments.specs.declared.row.Piece.TheVariants as pieces
 use Rattle.arguments.specs.Row.{KeywordData, RowData, optional, row, with_others}
@@ -28,7 +28,7 @@ declare_dependency_keywords =
     ∷ optional (codes "link_args") Texts
     ∷ optional (codes "link_with") (Flat pieces.BuildTarget)
     ∷ optional (codes "sources") (Flat pieces.Source)
-    ∷ optional (codes "dependencies") Dependencies
+    ∷ optional (codes "dependencies") (Flat pieces.Dependency)
     ∷ optional (codes "version") Text
     ∷ []
 

@@ -22,7 +22,7 @@ const DECLARE_DEPENDENCY: &[Keyword] = &[
     Keyword::Optional("link_args", Kind::Texts),
     Keyword::Optional("link_with", Kind::Flat(Piece::BuildTarget)),
     Keyword::Optional("sources", Kind::Flat(Piece::Source)),
-    Keyword::Optional("dependencies", Kind::Dependencies),
+    Keyword::Optional("dependencies", Kind::Flat(Piece::Dependency)),
     Keyword::Optional("version", Kind::Text),
 ];
 

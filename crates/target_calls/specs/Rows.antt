@@ -1,6 +1,6 @@
 -- The rows of the functions: what each takes.
 use Rattle.std.specs.Prelude.{List, [], ◌∷◌, ◌++◌, codes}
-use Rattle.arguments.specs.declared.row.Kind.TheVariants.{Any, Boolean, Dependencies, Flat, IntegerOrText, Text, Texts}
+use Rattle.arguments.specs.declared.row.Kind.TheVariants.{Any, Boolean, Flat, IntegerOrText, Text, Texts}
 use Rattle.arguments.specs.declared.row.Piece.TheVariants as pieces
 use Rattle.arguments.specs.Row.{KeywordData, RowData, needed, optional, row, with_others}
 
@@ -24,7 +24,7 @@ target_keywords =
     ∷ optional (codes "c_args") Texts
     ∷ optional (codes "link_args") Texts
     ∷ optional (codes "link_with") (Flat pieces.BuildTarget)
-    ∷ optional (codes "dependencies") Dependencies
+    ∷ optional (codes "dependencies") (Flat pieces.Dependency)
     ∷ optional (codes "install") Boolean
     ∷ optional (codes "install_dir") Text
     ∷ optional (codes "build_by_default") Boolean

@@ -17,7 +17,7 @@ const TARGET: &[Keyword] = &[
     Keyword::Optional("c_args", Kind::Texts),
     Keyword::Optional("link_args", Kind::Texts),
     Keyword::Optional("link_with", Kind::Flat(Piece::BuildTarget)),
-    Keyword::Optional("dependencies", Kind::Dependencies),
+    Keyword::Optional("dependencies", Kind::Flat(Piece::Dependency)),
     Keyword::Optional("install", Kind::Boolean),
     Keyword::Optional("install_dir", Kind::Text),
     Keyword::Optional("build_by_default", Kind::Boolean),
