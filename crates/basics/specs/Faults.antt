@@ -14,59 +14,38 @@ pub record FaultData : Type 0 where
 abbrev pub plain_fault : List ℕ → ℕ → Refusal → FaultData
 plain_fault file line refusal = record { file = file; line = line; refusal = refusal; detail = [] }
 
--- the number by which users know a refusal
-abbrev pub number_of : Refusal → ℕ
-number_of refusals.NotUtf8 = 1
-number_of refusals.Token = 2
-number_of refusals.Grammar = 3
-number_of refusals.Nesting = 4
-number_of refusals.UndefinedName = 5
-number_of refusals.Type = 6
-number_of refusals.Range = 7
-number_of refusals.UnknownFunction = 8
-number_of refusals.Arguments = 9
-number_of refusals.Absent = 10
-number_of refusals.Duplicate = 11
-number_of refusals.Subdir = 12
-number_of refusals.ProjectCall = 13
-number_of refusals.FileMissing = 14
-number_of refusals.OptionValue = 15
-number_of refusals.MachineFile = 16
-number_of refusals.NotFound = 17
-number_of refusals.Message = 18
-number_of refusals.Template = 19
-number_of refusals.Frozen = 20
-number_of refusals.NinjaName = 21
-number_of refusals.Limit = 22
-number_of refusals.LeftOut = 23
-number_of refusals.LateArguments = 24
+-- the number by which users know a refusal, and its words: E18 has none but its message
+abbrev pub told_of : Refusal → ℕ × List ℕ
+told_of refusals.NotUtf8 = (1, codes "not UTF-8")
+told_of refusals.Token = (2, codes "token")
+told_of refusals.Grammar = (3, codes "grammar")
+told_of refusals.Nesting = (4, codes "nesting over 64")
+told_of refusals.UndefinedName = (5, codes "undefined name")
+told_of refusals.Type = (6, codes "type in operator or condition")
+told_of refusals.Range = (7, codes "number range or zero divisor")
+told_of refusals.UnknownFunction = (8, codes "unknown function or method")
+told_of refusals.Arguments = (9, codes "arguments")
+told_of refusals.Absent = (10, codes "index or key")
+told_of refusals.Duplicate = (11, codes "duplicate")
+told_of refusals.Subdir = (12, codes "subdir refused")
+told_of refusals.ProjectCall = (13, codes "project call")
+told_of refusals.FileMissing = (14, codes "file missing")
+told_of refusals.OptionValue = (15, codes "option")
+told_of refusals.MachineFile = (16, codes "machine file")
+told_of refusals.NotFound = (17, codes "required thing not found")
+told_of refusals.Message = (18, [])
+told_of refusals.Template = (19, codes "template")
+told_of refusals.Frozen = (20, codes "frozen configuration data")
+told_of refusals.NinjaName = (21, codes "a name Ninja can't hold")
+told_of refusals.Limit = (22, codes "limit")
+told_of refusals.LeftOut = (23, codes "left out by name")
+told_of refusals.LateArguments = (24, codes "arguments added after a target")
 
--- its words: E18 has none but its message
+abbrev pub number_of : Refusal → ℕ
+number_of refusal = (told_of refusal).0
+
 abbrev pub words_of : Refusal → List ℕ
-words_of refusals.NotUtf8 = codes "not UTF-8"
-words_of refusals.Token = codes "token"
-words_of refusals.Grammar = codes "grammar"
-words_of refusals.Nesting = codes "nesting over 64"
-words_of refusals.UndefinedName = codes "undefined name"
-words_of refusals.Type = codes "type in operator or condition"
-words_of refusals.Range = codes "number range or zero divisor"
-words_of refusals.UnknownFunction = codes "unknown function or method"
-words_of refusals.Arguments = codes "arguments"
-words_of refusals.Absent = codes "index or key"
-words_of refusals.Duplicate = codes "duplicate"
-words_of refusals.Subdir = codes "subdir refused"
-words_of refusals.ProjectCall = codes "project call"
-words_of refusals.FileMissing = codes "file missing"
-words_of refusals.OptionValue = codes "option"
-words_of refusals.MachineFile = codes "machine file"
-words_of refusals.NotFound = codes "required thing not found"
-words_of refusals.Message = []
-words_of refusals.Template = codes "template"
-words_of refusals.Frozen = codes "frozen configuration data"
-words_of refusals.NinjaName = codes "a name Ninja can't hold"
-words_of refusals.Limit = codes "limit"
-words_of refusals.LeftOut = codes "left out by name"
-words_of refusals.LateArguments = codes "arguments added after a target"
+words_of refusal = (told_of refusal).1
 
 -- what stands before the detail, where it is told
 abbrev pub detail_sign : Refusal → Option (List ℕ)

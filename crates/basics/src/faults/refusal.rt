@@ -1,5 +1,5 @@
 ghost use Rattle.std.specs.Prelude.{◌≡◌, option_map};
-ghost use Rattle.basics.specs.Faults.{detail_sign, number_of, words_of};
+ghost use Rattle.basics.specs.Faults.{detail_sign, number_of, told_of, words_of};
 
 /// What a run is refused for. The numbers are fixed: scripts may look for them.
 #[derive(Clone, Copy)]
@@ -55,68 +55,50 @@ pub enum Refusal {
 }
 
 impl Refusal {
+    // The number behind the `E`, and the words behind that and a space.
+    fn told(self) -> (u8, &'static str)
+        ensures { (result.0, result.1.now) ≡ told_of self }
+    {
+        match self {
+            Refusal::NotUtf8 => (1, "not UTF-8"),
+            Refusal::Token => (2, "token"),
+            Refusal::Grammar => (3, "grammar"),
+            Refusal::Nesting => (4, "nesting over 64"),
+            Refusal::UndefinedName => (5, "undefined name"),
+            Refusal::Type => (6, "type in operator or condition"),
+            Refusal::Range => (7, "number range or zero divisor"),
+            Refusal::UnknownFunction => (8, "unknown function or method"),
+            Refusal::Arguments => (9, "arguments"),
+            Refusal::Absent => (10, "index or key"),
+            Refusal::Duplicate => (11, "duplicate"),
+            Refusal::Subdir => (12, "subdir refused"),
+            Refusal::ProjectCall => (13, "project call"),
+            Refusal::FileMissing => (14, "file missing"),
+            Refusal::OptionValue => (15, "option"),
+            Refusal::MachineFile => (16, "machine file"),
+            Refusal::NotFound => (17, "required thing not found"),
+            Refusal::Message => (18, ""),
+            Refusal::Template => (19, "template"),
+            Refusal::Frozen => (20, "frozen configuration data"),
+            Refusal::NinjaName => (21, "a name Ninja can't hold"),
+            Refusal::Limit => (22, "limit"),
+            Refusal::LeftOut => (23, "left out by name"),
+            Refusal::LateArguments => (24, "arguments added after a target"),
+        }
+    }
+
     /// The number behind the `E`.
     pub fn number(self) -> u8
         ensures { result ≡ number_of self }
     {
-        match self {
-            Refusal::NotUtf8 => 1,
-            Refusal::Token => 2,
-            Refusal::Grammar => 3,
-            Refusal::Nesting => 4,
-            Refusal::UndefinedName => 5,
-            Refusal::Type => 6,
-            Refusal::Range => 7,
-            Refusal::UnknownFunction => 8,
-            Refusal::Arguments => 9,
-            Refusal::Absent => 10,
-            Refusal::Duplicate => 11,
-            Refusal::Subdir => 12,
-            Refusal::ProjectCall => 13,
-            Refusal::FileMissing => 14,
-            Refusal::OptionValue => 15,
-            Refusal::MachineFile => 16,
-            Refusal::NotFound => 17,
-            Refusal::Message => 18,
-            Refusal::Template => 19,
-            Refusal::Frozen => 20,
-            Refusal::NinjaName => 21,
-            Refusal::Limit => 22,
-            Refusal::LeftOut => 23,
-            Refusal::LateArguments => 24,
-        }
+        self.told().0
     }
 
     /// The words behind the number and a space.
     pub fn words(self) -> &'static str
         ensures { result.now ≡ words_of self }
     {
-        match self {
-            Refusal::NotUtf8 => "not UTF-8",
-            Refusal::Token => "token",
-            Refusal::Grammar => "grammar",
-            Refusal::Nesting => "nesting over 64",
-            Refusal::UndefinedName => "undefined name",
-            Refusal::Type => "type in operator or condition",
-            Refusal::Range => "number range or zero divisor",
-            Refusal::UnknownFunction => "unknown function or method",
-            Refusal::Arguments => "arguments",
-            Refusal::Absent => "index or key",
-            Refusal::Duplicate => "duplicate",
-            Refusal::Subdir => "subdir refused",
-            Refusal::ProjectCall => "project call",
-            Refusal::FileMissing => "file missing",
-            Refusal::OptionValue => "option",
-            Refusal::MachineFile => "machine file",
-            Refusal::NotFound => "required thing not found",
-            Refusal::Message => "",
-            Refusal::Template => "template",
-            Refusal::Frozen => "frozen configuration data",
-            Refusal::NinjaName => "a name Ninja can't hold",
-            Refusal::Limit => "limit",
-            Refusal::LeftOut => "left out by name",
-            Refusal::LateArguments => "arguments added after a target",
-        }
+        self.told().1
     }
 
     /// What stands between the words and the detail, or none where no detail is told.
