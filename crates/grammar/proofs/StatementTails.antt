@@ -25,48 +25,24 @@ use Rattle.grammar.proofs.Tails.{fails_at, length_lexemes}
 
 -- ---- statements of one line
 
-leave_inside : (k : Kind) (tree : ℕ → StatementTree) (inside : Bool) (ts : List Lexeme) (t : Lexeme) (rest : List Lexeme) → inside ≡ true
+pub leave_inside : (k : Kind) (tree : ℕ → StatementTree) (inside : Bool) (ts : List Lexeme) (t : Lexeme) (rest : List Lexeme) → inside ≡ true
     → token_at k ts ≡ Ok (t, rest) → leave_at k tree inside ts ≡ Ok (tree t.line, rest)
 unfolding leave_at
 leave_inside k tree true ts t rest i e = rw e refl
 leave_inside k tree false ts t rest i e = absurd cc
 
-leave_fails : (k : Kind) (tree : ℕ → StatementTree) (inside : Bool) (ts : List Lexeme) (e : ReadError) → inside ≡ true
+pub leave_fails : (k : Kind) (tree : ℕ → StatementTree) (inside : Bool) (ts : List Lexeme) (e : ReadError) → inside ≡ true
     → Fails e (token_at k ts) → Fails e (leave_at k tree inside ts)
 unfolding leave_at
 leave_fails k tree inside ts errors.Memory i h = tt
 leave_fails k tree true ts (errors.Stop f) i h = rw h refl
 leave_fails k tree false ts (errors.Stop f) i h = absurd cc
 
-leave_outside : (k : Kind) (tree : ℕ → StatementTree) (inside : Bool) (ts : List Token) → inside ≡ false
+pub leave_outside : (k : Kind) (tree : ℕ → StatementTree) (inside : Bool) (ts : List Token) → inside ≡ false
     → leave_at k tree inside (lexemes ts) ≡ Err (Unexpected (length ts))
 unfolding leave_at
 leave_outside k tree true ts i = absurd cc
 leave_outside k tree false ts i = ap (λ (n : ℕ). Err (Unexpected n)) (length_lexemes ts)
-
-pub break_inside : (inside : Bool) (ts : List Lexeme) (t : Lexeme) (rest : List Lexeme) → inside ≡ true
-    → token_at Kinds.Break ts ≡ Ok (t, rest) → leave_at Kinds.Break BreakTree inside ts ≡ Ok (BreakTree t.line, rest)
-break_inside = leave_inside Kinds.Break BreakTree
-
-pub break_fails : (inside : Bool) (ts : List Lexeme) (e : ReadError) → inside ≡ true → Fails e (token_at Kinds.Break ts)
-    → Fails e (leave_at Kinds.Break BreakTree inside ts)
-break_fails = leave_fails Kinds.Break BreakTree
-
-pub break_outside : (inside : Bool) (ts : List Token) → inside ≡ false
-    → leave_at Kinds.Break BreakTree inside (lexemes ts) ≡ Err (Unexpected (length ts))
-break_outside = leave_outside Kinds.Break BreakTree
-
-pub continue_inside : (inside : Bool) (ts : List Lexeme) (t : Lexeme) (rest : List Lexeme) → inside ≡ true
-    → token_at Kinds.Continue ts ≡ Ok (t, rest) → leave_at Kinds.Continue ContinueTree inside ts ≡ Ok (ContinueTree t.line, rest)
-continue_inside = leave_inside Kinds.Continue ContinueTree
-
-pub continue_fails : (inside : Bool) (ts : List Lexeme) (e : ReadError) → inside ≡ true → Fails e (token_at Kinds.Continue ts)
-    → Fails e (leave_at Kinds.Continue ContinueTree inside ts)
-continue_fails = leave_fails Kinds.Continue ContinueTree
-
-pub continue_outside : (inside : Bool) (ts : List Token) → inside ≡ false
-    → leave_at Kinds.Continue ContinueTree inside (lexemes ts) ≡ Err (Unexpected (length ts))
-continue_outside = leave_outside Kinds.Continue ContinueTree
 
 pub simple_break : (inside : Bool) (n : ℕ) (ts : List Lexeme) → begins Kinds.Break ts ≡ true
     → simple_at inside n ts ≡ leave_at Kinds.Break BreakTree inside ts
@@ -339,9 +315,7 @@ module _ (n : ℕ) where
 
 -- ---- the lemmas of one function each
 
-pub ruleset break_cases = (break_inside, break_fails, break_outside, fails_at)
-
-pub ruleset continue_cases = (continue_inside, continue_fails, continue_outside, fails_at)
+pub ruleset leave_cases = (leave_inside, leave_fails, leave_outside, fails_at)
 
 pub ruleset simple_cases = (simple_break, simple_continue, simple_assign, simple_append, simple_plain)
 

@@ -41,6 +41,15 @@ plain_at r ts = do
   e ← r line.1
   Ok (ValueTree e.0 line.0, e.1)
 
+-- the word that leaves a loop or that leaves its round, and the statement
+abbrev pub leave_word : Bool → Kind
+leave_word true = Kinds.Break
+leave_word false = Kinds.Continue
+
+abbrev pub leave_tree : Bool → ℕ → StatementTree
+leave_tree true = BreakTree
+leave_tree false = ContinueTree
+
 unfoldable pub leave_at : Kind → (ℕ → StatementTree) → Bool → Reader StatementTree
 leave_at k tree true ts = token_at k ts >>= λ t. Ok (tree t.0.line, t.1)
 leave_at k tree false ts = Err (Unexpected (length ts))

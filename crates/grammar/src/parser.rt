@@ -23,9 +23,10 @@ use std::alloc::{AllocError, Global};
 /// How many levels may be open: brackets, blocks and prefix operators, one inside another.
 pub const LEVELS: u32 = 64;
 
-// The tokens that are still to be read.
+// The tokens that are still to be read, and where what they spell is put.
 #[derive(Drop)]
 struct Parser<'t, 'a> {
+    alloc: Global,
     rest: &'t [Token<'a>],
 }
 
@@ -92,25 +93,25 @@ impl<'t, 'a> Parser<'t, 'a> {
     }
 
     // The statements of the lines.
-    fn lines(&mut self, alloc: Global, levels: u32) -> Result<Vec<Statement<'a>>, ReadError>
+    fn lines(&mut self, levels: u32) -> Result<Vec<Statement<'a>>, ReadError>
         ensures read { Gives (λ v. map statement_of v.items) result (lexemes self.new.rest.now)
             (file_at levels (lexemes self.old.rest.now)) }
     {
-        let mut statements = Vec::new(alloc);
-        self.line(alloc, false, levels, &mut statements)?;
+        let mut statements = Vec::new(self.alloc);
+        self.line(false, levels, &mut statements)?;
         while self.begins(Kind::Newline) {
             self.take(Kind::Newline)?;
-            self.line(alloc, false, levels, &mut statements)?;
+            self.line(false, levels, &mut statements)?;
         }
         Ok(fitted(statements))
     }
 
     // The file that all tokens spell.
     #[tactic(auto, using(crate::proofs::Tails::all_cases))]
-    fn file(&mut self, alloc: Global, levels: u32) -> Result<File<'a>, ReadError>
+    fn file(&mut self, levels: u32) -> Result<File<'a>, ReadError>
         ensures { GivesAll file_of result (all_of (file_at levels) (lexemes self.old.rest.now)) }
     {
-        let statements = self.lines(alloc, levels)?;
+        let statements = self.lines(levels)?;
         if !self.rest.is_empty() {
             return Err(self.unexpected());
         }
@@ -178,8 +179,11 @@ pub fn parse(alloc: Global, source: &str) -> Result<File<'_>, SyntaxError>
     ensures fronts { FrontsAreShorter source.now }
 {
     let tokens = tokens(alloc, source)?;
-    let mut parser = Parser { rest: &tokens };
-    match parser.file(alloc, LEVELS) {
+    let mut parser = Parser {
+        alloc,
+        rest: &tokens,
+    };
+    match parser.file(LEVELS) {
         Ok(file) => Ok(file),
         Err(ReadError::Memory) => Err(SyntaxError::Memory),
         Err(ReadError::Stop(stop)) => Err(SyntaxError::Fault(located(source, &tokens, stop))),

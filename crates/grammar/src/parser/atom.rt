@@ -13,7 +13,6 @@ use super::{Parser, fitted, put};
 use crate::stop::ReadError;
 use crate::tree::{Entry, Expression, Literal};
 use lexer::token::{Kind, Token};
-use std::alloc::Global;
 
 // The literal that a token is.
 fn literal_of(kind: Kind) -> Option<Literal>
@@ -118,21 +117,16 @@ impl<'a> Parser<'_, 'a> {
     // A list.
     #[cycle(expression)]
     #[tactic(auto, unfolding(crate::specs::ReadingExpressions::entered_at))]
-    fn list(
-        &mut self,
-        alloc: Global,
-        levels: u32,
-        ternaries: bool,
-    ) -> Result<Expression<'a>, ReadError>
+    fn list(&mut self, levels: u32, ternaries: bool) -> Result<Expression<'a>, ReadError>
         ensures read { Gives expression_of result (lexemes self.new.rest.now)
             (entered_at Kind.OpenBracket levels (λ e. list_at e ternaries) (lexemes self.old.rest.now)) }
         ensures shorter { OnOk result (length self.new.rest.now < length self.old.rest.now) }
     {
         let (open, inside) = self.enter(Kind::OpenBracket, levels)?;
-        let mut items = Vec::new(alloc);
+        let mut items = Vec::new(self.alloc);
         let mut more = !self.begins(Kind::CloseBracket);
         while more {
-            let item = self.ternary(alloc, inside, ternaries)?;
+            let item = self.ternary(inside, ternaries)?;
             put(&mut items, item)?;
             more = self.more(Kind::CloseBracket);
         }
@@ -146,23 +140,18 @@ impl<'a> Parser<'_, 'a> {
     // A dictionary.
     #[cycle(expression)]
     #[tactic(auto, unfolding(crate::specs::ReadingExpressions::entered_at))]
-    fn dictionary(
-        &mut self,
-        alloc: Global,
-        levels: u32,
-        ternaries: bool,
-    ) -> Result<Expression<'a>, ReadError>
+    fn dictionary(&mut self, levels: u32, ternaries: bool) -> Result<Expression<'a>, ReadError>
         ensures read { Gives expression_of result (lexemes self.new.rest.now)
             (entered_at Kind.OpenBrace levels (λ e. dictionary_at e ternaries) (lexemes self.old.rest.now)) }
         ensures shorter { OnOk result (length self.new.rest.now < length self.old.rest.now) }
     {
         let (open, inside) = self.enter(Kind::OpenBrace, levels)?;
-        let mut entries = Vec::new(alloc);
+        let mut entries = Vec::new(self.alloc);
         let mut more = !self.begins(Kind::CloseBrace);
         while more {
-            let key = self.ternary(alloc, inside, ternaries)?;
+            let key = self.ternary(inside, ternaries)?;
             let key = self.closed(Kind::Colon, key)?;
-            let value = self.ternary(alloc, inside, ternaries)?;
+            let value = self.ternary(inside, ternaries)?;
             put(&mut entries, Entry { key, value })?;
             more = self.more(Kind::CloseBrace);
         }
@@ -176,19 +165,14 @@ impl<'a> Parser<'_, 'a> {
     // A call of a function, or an atom.
     #[cycle(expression)]
     #[tactic(auto, using(crate::proofs::ExpressionTails::base_call, crate::proofs::ExpressionTails::atom_group, crate::proofs::ExpressionTails::atom_list, crate::proofs::ExpressionTails::atom_dictionary, crate::proofs::ExpressionTails::atom_single), unfolding(crate::specs::ReadingExpressions::call_at, crate::specs::ReadingExpressions::entered_at, crate::specs::ReadingExpressions::group_at))]
-    pub(super) fn base(
-        &mut self,
-        alloc: Global,
-        levels: u32,
-        ternaries: bool,
-    ) -> Result<Expression<'a>, ReadError>
+    pub(super) fn base(&mut self, levels: u32, ternaries: bool) -> Result<Expression<'a>, ReadError>
         ensures read { Gives expression_of result (lexemes self.new.rest.now)
             (base_at (inner_at levels) ternaries (lexemes self.old.rest.now)) }
         ensures shorter { OnOk result (length self.new.rest.now < length self.old.rest.now) }
     {
         if self.two_begin(Kind::Name, Kind::OpenParenthesis) {
             let name = self.take(Kind::Name)?;
-            let arguments = self.arguments(alloc, levels, ternaries)?;
+            let arguments = self.arguments(levels, ternaries)?;
             Ok(Expression::Call {
                 line: name.line,
                 name: name.text,
@@ -196,12 +180,12 @@ impl<'a> Parser<'_, 'a> {
             })
         } else if self.begins(Kind::OpenParenthesis) {
             let (_, levels) = self.enter(Kind::OpenParenthesis, levels)?;
-            let inner = self.ternary(alloc, levels, ternaries)?;
+            let inner = self.ternary(levels, ternaries)?;
             Ok(self.closed(Kind::CloseParenthesis, inner)?)
         } else if self.begins(Kind::OpenBracket) {
-            self.list(alloc, levels, ternaries)
+            self.list(levels, ternaries)
         } else if self.begins(Kind::OpenBrace) {
-            self.dictionary(alloc, levels, ternaries)
+            self.dictionary(levels, ternaries)
         } else {
             self.single()
         }

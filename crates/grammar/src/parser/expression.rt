@@ -204,7 +204,6 @@ impl<'a> Parser<'_, 'a> {
     #[tactic(auto, unfolding(crate::specs::ReadingExpressions::conjunction_at, crate::specs::ReadingExpressions::product_at))]
     fn part(
         &mut self,
-        alloc: Global,
         levels: u32,
         ternaries: bool,
         rank: Rank,
@@ -214,10 +213,10 @@ impl<'a> Parser<'_, 'a> {
         ensures shorter { OnOk result (length self.new.rest.now < length self.old.rest.now) }
     {
         match rank {
-            Rank::Or => self.chain(alloc, levels, ternaries, Rank::And),
-            Rank::And => self.comparison(alloc, levels, ternaries),
-            Rank::Sum => self.chain(alloc, levels, ternaries, Rank::Product),
-            Rank::Product => self.unary(alloc, levels, ternaries),
+            Rank::Or => self.chain(levels, ternaries, Rank::And),
+            Rank::And => self.comparison(levels, ternaries),
+            Rank::Sum => self.chain(levels, ternaries, Rank::Product),
+            Rank::Product => self.unary(levels, ternaries),
         }
     }
 
@@ -226,7 +225,6 @@ impl<'a> Parser<'_, 'a> {
     #[tactic(auto, using(crate::proofs::ExpressionTails::chain_alone), unfolding(crate::specs::ReadingExpressions::chain_at))]
     fn chain(
         &mut self,
-        alloc: Global,
         levels: u32,
         ternaries: bool,
         rank: Rank,
@@ -236,14 +234,14 @@ impl<'a> Parser<'_, 'a> {
         ensures shorter { OnOk result (length self.new.rest.now < length self.old.rest.now) }
     {
         let line = self.first_line();
-        let first = self.part(alloc, levels, ternaries, rank)?;
+        let first = self.part(levels, ternaries, rank)?;
         if !self.operates(rank) {
             return Ok(first);
         }
-        let first = boxed(alloc, first)?;
-        let mut others = Vec::new(alloc);
+        let first = boxed(self.alloc, first)?;
+        let mut others = Vec::new(self.alloc);
         while let Some(operator) = self.operator(rank) {
-            let value = self.part(alloc, levels, ternaries, rank)?;
+            let value = self.part(levels, ternaries, rank)?;
             put(&mut others, Operand { operator, value })?;
         }
         Ok(Expression::Chain {
@@ -256,25 +254,20 @@ impl<'a> Parser<'_, 'a> {
     // A sum, or two that are compared.
     #[cycle(expression)]
     #[tactic(auto, unfolding(crate::specs::ReadingExpressions::comparison_at, crate::specs::ReadingExpressions::compared_at, crate::specs::ReadingExpressions::sum_at, crate::specs::Reading::optional_at, crate::specs::Reading::or_at))]
-    fn comparison(
-        &mut self,
-        alloc: Global,
-        levels: u32,
-        ternaries: bool,
-    ) -> Result<Expression<'a>, ReadError>
+    fn comparison(&mut self, levels: u32, ternaries: bool) -> Result<Expression<'a>, ReadError>
         ensures read { Gives expression_of result (lexemes self.new.rest.now)
             (comparison_at (unary_at levels ternaries) (lexemes self.old.rest.now)) }
         ensures shorter { OnOk result (length self.new.rest.now < length self.old.rest.now) }
     {
         let line = self.first_line();
-        let first = self.chain(alloc, levels, ternaries, Rank::Sum)?;
+        let first = self.chain(levels, ternaries, Rank::Sum)?;
         if !self.compares() {
             return Ok(first);
         }
-        let first = boxed(alloc, first)?;
+        let first = boxed(self.alloc, first)?;
         let operator = self.comparison_operator()?;
-        let value = self.chain(alloc, levels, ternaries, Rank::Sum)?;
-        let mut others = Vec::with_capacity(alloc, 1)?;
+        let value = self.chain(levels, ternaries, Rank::Sum)?;
+        let mut others = Vec::with_capacity(self.alloc, 1)?;
         put(&mut others, Operand { operator, value })?;
         Ok(Expression::Chain {
             first,
@@ -288,7 +281,6 @@ impl<'a> Parser<'_, 'a> {
     #[tactic(auto, using(crate::proofs::ExpressionTails::ternary_alone), unfolding(crate::specs::ReadingExpressions::disjunction_at))]
     pub(super) fn ternary(
         &mut self,
-        alloc: Global,
         levels: u32,
         ternaries: bool,
     ) -> Result<Expression<'a>, ReadError>
@@ -300,17 +292,17 @@ impl<'a> Parser<'_, 'a> {
             return Ok(alone);
         }
         let line = self.first_line();
-        let test = self.chain(alloc, levels, ternaries, Rank::Or)?;
+        let test = self.chain(levels, ternaries, Rank::Or)?;
         if !self.asks(ternaries) {
             return Ok(test);
         }
-        let test = boxed(alloc, test)?;
+        let test = boxed(self.alloc, test)?;
         self.take(Kind::Question)?;
-        let yes = self.chain(alloc, levels, false, Rank::Or)?;
+        let yes = self.chain(levels, false, Rank::Or)?;
         let yes = self.closed(Kind::Colon, yes)?;
-        let yes = boxed(alloc, yes)?;
-        let no = self.chain(alloc, levels, false, Rank::Or)?;
-        let no = boxed(alloc, no)?;
+        let yes = boxed(self.alloc, yes)?;
+        let no = self.chain(levels, false, Rank::Or)?;
+        let no = boxed(self.alloc, no)?;
         Ok(Expression::Ternary {
             test,
             yes,
@@ -321,14 +313,10 @@ impl<'a> Parser<'_, 'a> {
 
     // An expression, where so many levels may still be opened.
     #[tactic(auto, unfolding(crate::specs::ReadingExpressions::expr_at))]
-    pub(super) fn expression(
-        &mut self,
-        alloc: Global,
-        levels: u32,
-    ) -> Result<Expression<'a>, ReadError>
+    pub(super) fn expression(&mut self, levels: u32) -> Result<Expression<'a>, ReadError>
         ensures read { Gives expression_of result (lexemes self.new.rest.now) (expr_at levels (lexemes self.old.rest.now)) }
         ensures shorter { OnOk result (length self.new.rest.now < length self.old.rest.now) }
     {
-        self.ternary(alloc, levels, true)
+        self.ternary(levels, true)
     }
 }

@@ -13,7 +13,6 @@ use super::{Parser, fitted, put};
 use crate::stop::ReadError;
 use crate::tree::{Argument, Expression, Link, Prefix};
 use lexer::token::Kind;
-use std::alloc::Global;
 
 // The token that a prefix operator is.
 fn word_of(prefix: Prefix) -> Kind
@@ -73,7 +72,6 @@ impl<'a> Parser<'_, 'a> {
     #[tactic(auto, unfolding(crate::specs::ReadingExpressions::entered_at))]
     pub(super) fn arguments(
         &mut self,
-        alloc: Global,
         levels: u32,
         ternaries: bool,
     ) -> Result<Vec<Argument<'a>>, ReadError>
@@ -82,12 +80,12 @@ impl<'a> Parser<'_, 'a> {
         ensures shorter { OnOk result (length self.new.rest.now < length self.old.rest.now) }
     {
         let (_, inside) = self.enter(Kind::OpenParenthesis, levels)?;
-        let mut items = Vec::new(alloc);
+        let mut items = Vec::new(self.alloc);
         let mut behind = false;
         let mut more = !self.begins(Kind::CloseParenthesis);
         while more {
             let name = self.label(behind)?;
-            let value = self.ternary(alloc, inside, ternaries)?;
+            let value = self.ternary(inside, ternaries)?;
             behind = name.is_some();
             put(&mut items, Argument { name, value })?;
             more = self.more(Kind::CloseParenthesis);
@@ -99,7 +97,7 @@ impl<'a> Parser<'_, 'a> {
     // What is asked of a value: a method or an index.
     #[cycle(expression)]
     #[tactic(auto, using(crate::proofs::ExpressionTails::link_method, crate::proofs::ExpressionTails::link_index), unfolding(crate::specs::ReadingExpressions::method_at, crate::specs::ReadingExpressions::entered_at, crate::specs::ReadingExpressions::index_at))]
-    fn link(&mut self, alloc: Global, levels: u32, ternaries: bool) -> Result<Link<'a>, ReadError>
+    fn link(&mut self, levels: u32, ternaries: bool) -> Result<Link<'a>, ReadError>
         ensures read { Gives link_of result (lexemes self.new.rest.now)
             (link_at (inner_at levels) ternaries (lexemes self.old.rest.now)) }
         ensures shorter { OnOk result (length self.new.rest.now < length self.old.rest.now) }
@@ -107,14 +105,14 @@ impl<'a> Parser<'_, 'a> {
         if self.begins(Kind::Dot) {
             self.take(Kind::Dot)?;
             let name = self.take(Kind::Name)?;
-            let arguments = self.arguments(alloc, levels, ternaries)?;
+            let arguments = self.arguments(levels, ternaries)?;
             return Ok(Link::Method {
                 name: name.text,
                 arguments,
             });
         }
         let (_, levels) = self.enter(Kind::OpenBracket, levels)?;
-        let index = self.ternary(alloc, levels, ternaries)?;
+        let index = self.ternary(levels, ternaries)?;
         let index = self.closed(Kind::CloseBracket, index)?;
         Ok(Link::Index { index })
     }
@@ -135,7 +133,6 @@ impl<'a> Parser<'_, 'a> {
     #[cycle(expression)]
     pub(super) fn unary(
         &mut self,
-        alloc: Global,
         levels: u32,
         ternaries: bool,
     ) -> Result<Expression<'a>, ReadError>
@@ -145,8 +142,8 @@ impl<'a> Parser<'_, 'a> {
     {
         if let Some(prefix) = self.prefix() {
             let (word, levels) = self.enter(word_of(prefix), levels)?;
-            let value = self.unary(alloc, levels, ternaries)?;
-            let value = boxed(alloc, value)?;
+            let value = self.unary(levels, ternaries)?;
+            let value = boxed(self.alloc, value)?;
             let line = word.line as usize;
             return Ok(Expression::Prefix {
                 prefix,
@@ -155,14 +152,14 @@ impl<'a> Parser<'_, 'a> {
             });
         }
         let line = self.first_line();
-        let first = self.base(alloc, levels, ternaries)?;
+        let first = self.base(levels, ternaries)?;
         if !self.links_on() {
             return Ok(first);
         }
-        let first = boxed(alloc, first)?;
-        let mut links = Vec::new(alloc);
+        let first = boxed(self.alloc, first)?;
+        let mut links = Vec::new(self.alloc);
         while self.links_on() {
-            let link = self.link(alloc, levels, ternaries)?;
+            let link = self.link(levels, ternaries)?;
             put(&mut links, link)?;
         }
         let links = fitted(links);

@@ -4,19 +4,18 @@ ghost use Rattle.std.specs.Prelude.{◌≡◌, ◌<◌, ◌≤◌, length, map, 
 ghost use Rattle.std.specs.Option.{option_map};
 ghost use Rattle.lexer.specs.Lexeme.{lexemes};
 ghost use Rattle.grammar.specs.ExpressionTree.{expression_of};
-ghost use Rattle.grammar.specs.Reading.{Gives, begins, optional_at, two_begin};
+ghost use Rattle.grammar.specs.Reading.{Gives, begins, optional_at};
 ghost use Rattle.grammar.specs.ReadingExpressions.{expr_at};
 ghost use Rattle.grammar.specs.ReadingStatements.{GivesLine, begins_block, body_at, branch_at, conditional_at, ends_line, foreach_at};
-ghost use Rattle.grammar.specs.ReadingStatements.{in_body, leave_at, maybe_at, names_at, otherwise_at, parts_at, plain_at, second_at};
-ghost use Rattle.grammar.specs.ReadingStatements.{set_at, set_tree, sign_of, simple_at, stmt_at};
-ghost use Rattle.grammar.specs.Tree.{BreakTree, ContinueTree, branch_of, statement_of};
+ghost use Rattle.grammar.specs.ReadingStatements.{in_body, leave_at, leave_tree, leave_word, maybe_at, names_at, otherwise_at, parts_at};
+ghost use Rattle.grammar.specs.ReadingStatements.{plain_at, second_at, set_at, set_tree, sign_of, simple_at, stmt_at};
+ghost use Rattle.grammar.specs.Tree.{branch_of, statement_of};
 
 use super::expression::boxed;
 use super::{Parser, fitted, put};
 use crate::stop::{ReadError, Stop};
 use crate::tree::{Branch, Expression, Statement};
 use lexer::token::{Kind, Token};
-use std::alloc::Global;
 
 // What gives a name a value, or adds one to what it has.
 fn set<'a>(name: Token<'a>, adds: bool, value: Box<Expression<'a>>) -> Statement<'a>
@@ -37,17 +36,18 @@ fn set<'a>(name: Token<'a>, adds: bool, value: Box<Expression<'a>>) -> Statement
     }
 }
 
-impl<'a> Parser<'_, 'a> {
-    // Whether a name and this sign come.
-    fn begins_sign(&self, sign: Kind) -> bool
-        ensures { result ≡ two_begin Kind.Name sign (lexemes self.now.rest.now) }
-    {
-        match self.rest {
-            [first, second, ..] => first.is(Kind::Name) && second.is(sign),
-            _ => false,
-        }
+// What leaves a `foreach`, or its round alone.
+fn leaving<'a>(ends: bool, line: usize) -> Statement<'a>
+    ensures { statement_of result ≡ leave_tree ends line }
+{
+    if ends {
+        Statement::Break { line }
+    } else {
+        Statement::Continue { line }
     }
+}
 
+impl<'a> Parser<'_, 'a> {
     // Whether the word of a block comes.
     fn begins_block(&self) -> bool
         ensures { result ≡ begins_block (lexemes self.now.rest.now) }
@@ -85,59 +85,40 @@ impl<'a> Parser<'_, 'a> {
 
     // A name, `=` or `+=`, and a value.
     #[tactic(auto, unfolding(crate::specs::ReadingStatements::set_at))]
-    fn assign(&mut self, alloc: Global, adds: bool, levels: u32) -> Result<Statement<'a>, ReadError>
+    fn assign(&mut self, adds: bool, levels: u32) -> Result<Statement<'a>, ReadError>
         ensures read { Gives statement_of result (lexemes self.new.rest.now)
             (set_at (sign_of adds) (set_tree adds) (expr_at levels) (lexemes self.old.rest.now)) }
         ensures shorter { OnOk result (length self.new.rest.now < length self.old.rest.now) }
     {
         let name = self.take(Kind::Name)?;
         self.take(if adds { Kind::PlusAssign } else { Kind::Assign })?;
-        let value = self.expression(alloc, levels)?;
-        let value = boxed(alloc, value)?;
+        let value = self.expression(levels)?;
+        let value = boxed(self.alloc, value)?;
         Ok(set(name, adds, value))
     }
 
     // An expression alone.
     #[tactic(auto, unfolding(crate::specs::ReadingStatements::plain_at))]
-    fn plain(&mut self, alloc: Global, levels: u32) -> Result<Statement<'a>, ReadError>
+    fn plain(&mut self, levels: u32) -> Result<Statement<'a>, ReadError>
         ensures read { Gives statement_of result (lexemes self.new.rest.now)
             (plain_at (expr_at levels) (lexemes self.old.rest.now)) }
         ensures shorter { OnOk result (length self.new.rest.now < length self.old.rest.now) }
     {
         let line = self.first_line();
-        let value = self.expression(alloc, levels)?;
+        let value = self.expression(levels)?;
         Ok(Statement::Expression { value, line })
     }
 
-    // A `break`, where a `foreach` is open.
-    #[tactic(auto, using(crate::proofs::StatementTails::break_cases))]
-    fn leave_loop(&mut self, inside: bool) -> Result<Statement<'a>, ReadError>
+    // A `break` or a `continue`, where a `foreach` is open.
+    #[tactic(auto, using(crate::proofs::StatementTails::leave_cases))]
+    fn leave(&mut self, ends: bool, inside: bool) -> Result<Statement<'a>, ReadError>
         ensures read { Gives statement_of result (lexemes self.new.rest.now)
-            (leave_at Kind.Break BreakTree inside (lexemes self.old.rest.now)) }
+            (leave_at (leave_word ends) (leave_tree ends) inside (lexemes self.old.rest.now)) }
         ensures shorter { OnOk result (length self.new.rest.now < length self.old.rest.now) }
     {
         if inside {
-            let word = self.take(Kind::Break)?;
-            Ok(Statement::Break {
-                line: word.line as usize,
-            })
-        } else {
-            Err(self.unexpected())
-        }
-    }
-
-    // A `continue`, where a `foreach` is open.
-    #[tactic(auto, using(crate::proofs::StatementTails::continue_cases))]
-    fn leave_round(&mut self, inside: bool) -> Result<Statement<'a>, ReadError>
-        ensures read { Gives statement_of result (lexemes self.new.rest.now)
-            (leave_at Kind.Continue ContinueTree inside (lexemes self.old.rest.now)) }
-        ensures shorter { OnOk result (length self.new.rest.now < length self.old.rest.now) }
-    {
-        if inside {
-            let word = self.take(Kind::Continue)?;
-            Ok(Statement::Continue {
-                line: word.line as usize,
-            })
+            let word = self.take(if ends { Kind::Break } else { Kind::Continue })?;
+            Ok(leaving(ends, word.line as usize))
         } else {
             Err(self.unexpected())
         }
@@ -145,48 +126,38 @@ impl<'a> Parser<'_, 'a> {
 
     // A statement of one line.
     #[tactic(auto, using(crate::proofs::StatementTails::simple_cases))]
-    fn simple(
-        &mut self,
-        alloc: Global,
-        inside: bool,
-        levels: u32,
-    ) -> Result<Statement<'a>, ReadError>
+    fn simple(&mut self, inside: bool, levels: u32) -> Result<Statement<'a>, ReadError>
         ensures read { Gives statement_of result (lexemes self.new.rest.now) (simple_at inside levels (lexemes self.old.rest.now)) }
         ensures shorter { OnOk result (length self.new.rest.now < length self.old.rest.now) }
     {
         if self.begins(Kind::Break) {
-            self.leave_loop(inside)
+            self.leave(true, inside)
         } else if self.begins(Kind::Continue) {
-            self.leave_round(inside)
-        } else if self.begins_sign(Kind::Assign) {
-            self.assign(alloc, false, levels)
-        } else if self.begins_sign(Kind::PlusAssign) {
-            self.assign(alloc, true, levels)
+            self.leave(false, inside)
+        } else if self.two_begin(Kind::Name, Kind::Assign) {
+            self.assign(false, levels)
+        } else if self.two_begin(Kind::Name, Kind::PlusAssign) {
+            self.assign(true, levels)
         } else {
-            self.plain(alloc, levels)
+            self.plain(levels)
         }
     }
 
     // A statement, where so many levels may still be opened; inside says whether a `foreach` is open.
     #[cycle(statement)]
     #[tactic(auto, using(crate::proofs::StatementTails::statement_cases))]
-    fn statement(
-        &mut self,
-        alloc: Global,
-        inside: bool,
-        levels: u32,
-    ) -> Result<Statement<'a>, ReadError>
+    fn statement(&mut self, inside: bool, levels: u32) -> Result<Statement<'a>, ReadError>
         ensures read { Gives statement_of result (lexemes self.new.rest.now) (stmt_at inside levels (lexemes self.old.rest.now)) }
         ensures shorter { OnOk result (length self.new.rest.now < length self.old.rest.now) }
     {
         if !self.begins_block() {
-            self.simple(alloc, inside, levels)
+            self.simple(inside, levels)
         } else if levels == 0 {
             Err(ReadError::Stop(Stop::TooDeep(self.rest.len())))
         } else if self.begins(Kind::Foreach) {
-            self.foreach(alloc, levels - 1)
+            self.foreach(levels - 1)
         } else {
-            self.conditional(alloc, inside, levels - 1)
+            self.conditional(inside, levels - 1)
         }
     }
 
@@ -231,16 +202,16 @@ impl<'a> Parser<'_, 'a> {
     // A `foreach`, up to its `endforeach`.
     #[cycle(statement)]
     #[tactic(auto, unfolding(crate::specs::ReadingStatements::foreach_at))]
-    fn foreach(&mut self, alloc: Global, levels: u32) -> Result<Statement<'a>, ReadError>
+    fn foreach(&mut self, levels: u32) -> Result<Statement<'a>, ReadError>
         ensures read { Gives statement_of result (lexemes self.new.rest.now)
             (foreach_at (expr_at levels) (stmt_at true levels) (lexemes self.old.rest.now)) }
         ensures shorter { OnOk result (length self.new.rest.now < length self.old.rest.now) }
     {
         let word = self.take(Kind::Foreach)?;
         let (first, second) = self.names()?;
-        let round = self.branch(alloc, true, levels)?;
+        let round = self.branch(true, levels)?;
         let round = self.closed(Kind::EndForeach, round)?;
-        let round = boxed(alloc, round)?;
+        let round = boxed(self.alloc, round)?;
         Ok(Statement::Foreach {
             line: word.line as usize,
             first,
@@ -252,19 +223,14 @@ impl<'a> Parser<'_, 'a> {
     // An `if`, up to its `endif`.
     #[cycle(statement)]
     #[tactic(auto, unfolding(crate::specs::ReadingStatements::conditional_at))]
-    fn conditional(
-        &mut self,
-        alloc: Global,
-        inside: bool,
-        levels: u32,
-    ) -> Result<Statement<'a>, ReadError>
+    fn conditional(&mut self, inside: bool, levels: u32) -> Result<Statement<'a>, ReadError>
         ensures read { Gives statement_of result (lexemes self.new.rest.now)
             (conditional_at (expr_at levels) (stmt_at inside levels) (lexemes self.old.rest.now)) }
         ensures shorter { OnOk result (length self.new.rest.now < length self.old.rest.now) }
     {
         let word = self.take(Kind::If)?;
-        let branches = self.parts(alloc, inside, levels)?;
-        let otherwise = self.otherwise(alloc, inside, levels)?;
+        let branches = self.parts(inside, levels)?;
+        let otherwise = self.otherwise(inside, levels)?;
         let (branches, otherwise) = self.closed(Kind::EndIf, (branches, otherwise))?;
         Ok(Statement::If {
             line: word.line as usize,
@@ -276,15 +242,15 @@ impl<'a> Parser<'_, 'a> {
     // A condition, or what a `foreach` goes over, and the statements behind it.
     #[cycle(statement)]
     #[tactic(auto, unfolding(crate::specs::ReadingStatements::branch_at))]
-    fn branch(&mut self, alloc: Global, inside: bool, levels: u32) -> Result<Branch<'a>, ReadError>
+    fn branch(&mut self, inside: bool, levels: u32) -> Result<Branch<'a>, ReadError>
         ensures read { Gives branch_of result (lexemes self.new.rest.now)
             (branch_at (expr_at levels) (stmt_at inside levels) (lexemes self.old.rest.now)) }
         ensures shorter { OnOk result (length self.new.rest.now < length self.old.rest.now) }
     {
         let line = self.first_line();
-        let condition = self.expression(alloc, levels)?;
+        let condition = self.expression(levels)?;
         let condition = self.closed(Kind::Newline, condition)?;
-        let body = self.body(alloc, inside, levels)?;
+        let body = self.body(inside, levels)?;
         Ok(Branch {
             condition,
             line,
@@ -294,22 +260,17 @@ impl<'a> Parser<'_, 'a> {
 
     // The parts of an `if` that have a condition.
     #[cycle(statement)]
-    fn parts(
-        &mut self,
-        alloc: Global,
-        inside: bool,
-        levels: u32,
-    ) -> Result<Vec<Branch<'a>>, ReadError>
+    fn parts(&mut self, inside: bool, levels: u32) -> Result<Vec<Branch<'a>>, ReadError>
         ensures read { Gives (λ v. map branch_of v.items) result (lexemes self.new.rest.now)
             (parts_at (expr_at levels) (stmt_at inside levels) (lexemes self.old.rest.now)) }
         ensures shorter { OnOk result (length self.new.rest.now < length self.old.rest.now) }
     {
-        let mut parts = Vec::new(alloc);
-        let first = self.branch(alloc, inside, levels)?;
+        let mut parts = Vec::new(self.alloc);
+        let first = self.branch(inside, levels)?;
         put(&mut parts, first)?;
         while self.begins(Kind::Elif) {
             self.take(Kind::Elif)?;
-            let other = self.branch(alloc, inside, levels)?;
+            let other = self.branch(inside, levels)?;
             put(&mut parts, other)?;
         }
         Ok(fitted(parts))
@@ -318,39 +279,29 @@ impl<'a> Parser<'_, 'a> {
     // What stands behind `else`, or nothing.
     #[cycle(statement)]
     #[tactic(auto, using(crate::proofs::StatementTails::otherwise_cases), unfolding(crate::specs::ReadingStatements::last_part_at))]
-    fn otherwise(
-        &mut self,
-        alloc: Global,
-        inside: bool,
-        levels: u32,
-    ) -> Result<Vec<Statement<'a>>, ReadError>
+    fn otherwise(&mut self, inside: bool, levels: u32) -> Result<Vec<Statement<'a>>, ReadError>
         ensures read { Gives (λ v. map statement_of v.items) result (lexemes self.new.rest.now)
             (otherwise_at (stmt_at inside levels) (lexemes self.old.rest.now)) }
         ensures shorter { OnOk result (length self.new.rest.now ≤ length self.old.rest.now) }
     {
         if !self.begins(Kind::Else) {
-            return Ok(Vec::new(alloc));
+            return Ok(Vec::new(self.alloc));
         }
         self.take(Kind::Else)?;
         self.take(Kind::Newline)?;
-        self.body(alloc, inside, levels)
+        self.body(inside, levels)
     }
 
     // The statements up to the next part or the end of a block.
     #[cycle(statement)]
-    fn body(
-        &mut self,
-        alloc: Global,
-        inside: bool,
-        levels: u32,
-    ) -> Result<Vec<Statement<'a>>, ReadError>
+    fn body(&mut self, inside: bool, levels: u32) -> Result<Vec<Statement<'a>>, ReadError>
         ensures read { Gives (λ v. map statement_of v.items) result (lexemes self.new.rest.now)
             (body_at (stmt_at inside levels) (lexemes self.old.rest.now)) }
         ensures shorter { OnOk result (length self.new.rest.now ≤ length self.old.rest.now) }
     {
-        let mut statements = Vec::new(alloc);
+        let mut statements = Vec::new(self.alloc);
         while self.in_body() {
-            self.line(alloc, inside, levels, &mut statements)?;
+            self.line(inside, levels, &mut statements)?;
             self.take(Kind::Newline)?;
         }
         Ok(fitted(statements))
@@ -361,7 +312,6 @@ impl<'a> Parser<'_, 'a> {
     #[tactic(auto, using(crate::proofs::StatementTails::line_cases))]
     pub(super) fn line(
         &mut self,
-        alloc: Global,
         inside: bool,
         levels: u32,
         statements: &mut Vec<Statement<'a>>,
@@ -373,7 +323,7 @@ impl<'a> Parser<'_, 'a> {
         if self.ends_line() {
             return Ok(());
         }
-        let statement = self.statement(alloc, inside, levels)?;
+        let statement = self.statement(inside, levels)?;
         put(statements, statement)?;
         Ok(())
     }

@@ -234,20 +234,20 @@ unary-returns-then-not-links_on-clause-read t c =
     postfix_alone c.args.levels c.args.ternaries (lexemes c.args.self.now.rest.now) (sym c.prefix.ensures ∙ c.in_default.is) (expression_of c.in_ok-first.first) (lexemes c.base.new.self.rest.now)
     c.in_ok-first.ensures.read (sym c.links_on.ensures ∙ c.if-not-links_on.true)
 
-pub unary-loop-alloc-init : goal.unary-loop-alloc-init
+pub unary-loop-self-init : goal.unary-loop-self-init
 unfolding links_at
-unary-loop-alloc-init t c = record {
+unary-loop-self-init t c = record {
   within = omega (arith, c.in_ok-first.ensures.shorter);
   read = rw c.new-links.ensures.items (still_first _ _ (lexemes c.base.new.self.rest.now));
 }
 
-pub unary-loop-alloc-preserved : goal.unary-loop-alloc-preserved
-unary-loop-alloc-preserved t c =
-    let e : map link_of c.put.new.items.items ≡ map link_of c.loop-alloc.links.items ++ link_of c.in_ok-link.link ∷ [] = rw c.in_ok-put.ensures (map_push _ c.loop-alloc.links.items c.in_ok-link.link) in
+pub unary-loop-self-preserved : goal.unary-loop-self-preserved
+unary-loop-self-preserved t c =
+    let e : map link_of c.put.new.items.items ≡ map link_of c.loop-self.links.items ++ link_of c.in_ok-link.link ∷ [] = rw c.in_ok-put.ensures (map_push _ c.loop-self.links.items c.in_ok-link.link) in
     record {
-      within = omega (arith, c.in_ok-link.ensures.shorter, c.loop-alloc.invariant.within);
-      read = rw e (still_more links_on (link_at (inner_at c.args.levels) c.args.ternaries) (map link_of c.loop-alloc.links.items) (lexemes c.loop-alloc.self.rest.now) _ (link_of c.in_ok-link.link) (lexemes c.link.new.self.rest.now) c.loop-alloc.invariant.read
-          (sym c.links_on-in-loop-alloc.ensures ∙ c.loop-alloc-test.true) c.in_ok-link.ensures.read (omega (arith, c.in_ok-link.ensures.shorter, length_lexemes c.link.new.self.rest.now, length_lexemes c.loop-alloc.self.rest.now)));
+      within = omega (arith, c.in_ok-link.ensures.shorter, c.loop-self.invariant.within);
+      read = rw e (still_more links_on (link_at (inner_at c.args.levels) c.args.ternaries) (map link_of c.loop-self.links.items) (lexemes c.loop-self.self.rest.now) _ (link_of c.in_ok-link.link) (lexemes c.link.new.self.rest.now) c.loop-self.invariant.read
+          (sym c.links_on-in-loop-self.ensures ∙ c.loop-self-test.true) c.in_ok-link.ensures.read (omega (arith, c.in_ok-link.ensures.shorter, length_lexemes c.link.new.self.rest.now, length_lexemes c.loop-self.self.rest.now)));
     }
 
 pub unary-returns-in_err-link-clause-read : goal.unary-returns-in_err-link-clause-read
@@ -255,15 +255,15 @@ unary-returns-in_err-link-clause-read t c =
     let p = err_from_is_err_and c.from_residual-in_err-link.result c.from_residual-in_err-link.ensures.1 in
     rw (p.1, p.2) (postfix_links_fail c.args.levels c.args.ternaries (lexemes c.args.self.now.rest.now) (sym c.prefix.ensures ∙ c.in_default.is) (expression_of c.in_ok-first.first) (lexemes c.base.new.self.rest.now)
     c.in_ok-first.ensures.read c.in_err-link.field-0.0
-    (still_fails links_on (link_at (inner_at c.args.levels) c.args.ternaries) (map link_of c.loop-alloc.links.items) (lexemes c.loop-alloc.self.rest.now) _ c.in_err-link.field-0.0 c.loop-alloc.invariant.read
-    (sym c.links_on-in-loop-alloc.ensures ∙ c.loop-alloc-test.true) c.in_err-link.ensures.read))
+    (still_fails links_on (link_at (inner_at c.args.levels) c.args.ternaries) (map link_of c.loop-self.links.items) (lexemes c.loop-self.self.rest.now) _ c.in_err-link.field-0.0 c.loop-self.invariant.read
+    (sym c.links_on-in-loop-self.ensures ∙ c.loop-self-test.true) c.in_err-link.ensures.read))
 
 pub unary-returns-clause-read : goal.unary-returns-clause-read
 unary-returns-clause-read t c = returned _ _ _ _
     (postfix_more c.args.levels c.args.ternaries (lexemes c.args.self.now.rest.now) (sym c.prefix.ensures ∙ c.in_default.is) (expression_of c.in_ok-first.first) (lexemes c.base.new.self.rest.now)
-    c.in_ok-first.ensures.read (map link_of c.loop-alloc.links.items) (lexemes c.loop-alloc.self.rest.now) (sym c.links_on.ensures ∙ c.if-not-links_on.false)
-    (still_ends links_on (link_at (inner_at c.args.levels) c.args.ternaries) (map link_of c.loop-alloc.links.items) (lexemes c.loop-alloc.self.rest.now) _ c.loop-alloc.invariant.read
-    (sym c.links_on-in-loop-alloc.ensures ∙ c.loop-alloc-test.false)))
+    c.in_ok-first.ensures.read (map link_of c.loop-self.links.items) (lexemes c.loop-self.self.rest.now) (sym c.links_on.ensures ∙ c.if-not-links_on.false)
+    (still_ends links_on (link_at (inner_at c.args.levels) c.args.ternaries) (map link_of c.loop-self.links.items) (lexemes c.loop-self.self.rest.now) _ c.loop-self.invariant.read
+    (sym c.links_on-in-loop-self.ensures ∙ c.loop-self-test.false)))
     (ap (λ (ls : List LinkTree). PostfixTree (expression_of c.in_ok-first.first) (links ls) (first_line (lexemes c.args.self.now.rest.now))) (ap (map link_of) (sym c.fitted-links.ensures))
     ∙ postfix_seen c.in_ok-first-2.first c.fitted-links.result c.first_line-line.result _ _ (ap expression_of (sym c.in_ok-first-2.ensures)) (sym c.first_line-line.ensures))
 
@@ -400,7 +400,7 @@ pub unary-returns-then-not-links_on-clause-shorter : goal.unary-returns-then-not
 unary-returns-then-not-links_on-clause-shorter t c = c.in_ok-first.ensures.shorter
 
 pub unary-returns-clause-shorter : goal.unary-returns-clause-shorter
-unary-returns-clause-shorter t c = c.loop-alloc.invariant.within
+unary-returns-clause-shorter t c = c.loop-self.invariant.within
 
 pub list-returns-clause-shorter : goal.list-returns-clause-shorter
 list-returns-clause-shorter t c = lt_trans c.in_ok-items.ensures.shorter c.loop-more.invariant.within
@@ -420,8 +420,8 @@ dictionary-loop-more-smaller t c = le_lt _ _ _ c.more-more.ensures.within (lt_tr
 pub arguments-loop-more-smaller : goal.arguments-loop-more-smaller
 arguments-loop-more-smaller t c = le_lt _ _ _ c.more-more.ensures.within (lt_le _ _ _ c.in_ok-value.ensures.shorter c.in_ok-name.ensures.shorter)
 
-pub unary-loop-alloc-smaller : goal.unary-loop-alloc-smaller
-unary-loop-alloc-smaller t c = c.in_ok-link.ensures.shorter
+pub unary-loop-self-smaller : goal.unary-loop-self-smaller
+unary-loop-self-smaller t c = c.in_ok-link.ensures.shorter
 
 pub chain-loop-operator-smaller : goal.chain-loop-operator-smaller
 chain-loop-operator-smaller t c = lt_le _ _ _ c.in_ok-value.ensures.shorter c.operator.ensures.within

@@ -53,16 +53,16 @@ invariant-chain-loop-operator l =
 abbrev pub decreases-chain-loop-operator : goal.decreases-chain-loop-operator
 decreases-chain-loop-operator l = length l.self.rest.now
 
-abbrev pub invariant-unary-loop-alloc : goal.invariant-unary-loop-alloc
-invariant-unary-loop-alloc l =
+abbrev pub invariant-unary-loop-self : goal.invariant-unary-loop-self
+invariant-unary-loop-self l =
     record {
       within : length l.self.rest.now < length l.fn.self.rest.now;
       read : StillReads links_on (link_at (inner_at l.levels) l.ternaries) (map link_of l.links.items) (lexemes l.self.rest.now)
           (links_at (inner_at l.levels) l.ternaries (lexemes l.initial.self.rest.now));
     }
 
-abbrev pub decreases-unary-loop-alloc : goal.decreases-unary-loop-alloc
-decreases-unary-loop-alloc l = length l.self.rest.now
+abbrev pub decreases-unary-loop-self : goal.decreases-unary-loop-self
+decreases-unary-loop-self l = length l.self.rest.now
 
 abbrev pub invariant-list-loop-more : goal.invariant-list-loop-more
 invariant-list-loop-more l =

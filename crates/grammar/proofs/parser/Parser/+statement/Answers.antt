@@ -27,8 +27,8 @@ le_lt a b c p q = omega arith
 at_most : (a b : ℕ) → a < b → a ≤ b
 at_most a b p = omega arith
 
-pub body-loop-alloc-init : goal.body-loop-alloc-init
-body-loop-alloc-init t c =
+pub body-loop-self-init : goal.body-loop-self-init
+body-loop-self-init t c =
     let r = stmt_at c.args.inside c.args.levels in
     let ts = lexemes c.args.self.now.rest.now in
     record {
@@ -40,31 +40,31 @@ body-loop-alloc-init t c =
 pub body-returns-in_err-line-clause-read : goal.body-returns-in_err-line-clause-read
 body-returns-in_err-line-clause-read t c =
     let p = err_from_is_err_and c.from_residual.result c.from_residual.ensures.1 in
-    rw (p.1, p.2) (body_line_fails (stmt_at c.args.inside c.args.levels) (map statement_of c.loop-alloc.statements.items)
-    (lexemes c.loop-alloc.self.rest.now) _ c.loop-alloc.invariant.read (sym c.in_body.ensures ∙ c.loop-alloc-test.true)
+    rw (p.1, p.2) (body_line_fails (stmt_at c.args.inside c.args.levels) (map statement_of c.loop-self.statements.items)
+    (lexemes c.loop-self.self.rest.now) _ c.loop-self.invariant.read (sym c.in_body.ensures ∙ c.loop-self-test.true)
     c.in_err-line.field-0.0 c.in_err-line.ensures.read)
 
 pub body-returns-in_err-take-clause-read : goal.body-returns-in_err-take-clause-read
 body-returns-in_err-take-clause-read t c =
     let p = err_from_is_err_and c.from_residual-in_err-take.result c.from_residual-in_err-take.ensures.1 in
-    rw (p.1, p.2) (body_newline_fails (stmt_at c.args.inside c.args.levels) (map statement_of c.loop-alloc.statements.items)
-    (lexemes c.loop-alloc.self.rest.now) _ c.loop-alloc.invariant.read (sym c.in_body.ensures ∙ c.loop-alloc-test.true)
+    rw (p.1, p.2) (body_newline_fails (stmt_at c.args.inside c.args.levels) (map statement_of c.loop-self.statements.items)
+    (lexemes c.loop-self.self.rest.now) _ c.loop-self.invariant.read (sym c.in_body.ensures ∙ c.loop-self-test.true)
     c.in_ok-line.field-0 (map statement_of c.line.new.statements.items) (lexemes c.line.new.self.rest.now)
     c.in_err-take.field-0.0 c.in_ok-line.ensures.read c.in_err-take.ensures.read)
 
-pub body-loop-alloc-preserved : goal.body-loop-alloc-preserved
-body-loop-alloc-preserved t c =
+pub body-loop-self-preserved : goal.body-loop-self-preserved
+body-loop-self-preserved t c =
     record {
-      within = omega (arith, c.in_ok-line.ensures.shorter, c.in_ok-take.ensures.shorter, c.loop-alloc.invariant.within);
-      read = body_more (stmt_at c.args.inside c.args.levels) (map statement_of c.loop-alloc.statements.items)
-          (lexemes c.loop-alloc.self.rest.now) _ c.loop-alloc.invariant.read (sym c.in_body.ensures ∙ c.loop-alloc-test.true)
+      within = omega (arith, c.in_ok-line.ensures.shorter, c.in_ok-take.ensures.shorter, c.loop-self.invariant.within);
+      read = body_more (stmt_at c.args.inside c.args.levels) (map statement_of c.loop-self.statements.items)
+          (lexemes c.loop-self.self.rest.now) _ c.loop-self.invariant.read (sym c.in_body.ensures ∙ c.loop-self-test.true)
           c.in_ok-line.field-0 (map statement_of c.line.new.statements.items) (lexemes c.line.new.self.rest.now)
           (lexeme_of c.in_ok-take.field-0) (lexemes c.take.new.self.rest.now) c.in_ok-line.ensures.read c.in_ok-take.ensures.read
           (omega (
             arith,
             c.in_ok-line.ensures.shorter,
             c.in_ok-take.ensures.shorter,
-            length_lexemes c.loop-alloc.self.rest.now,
+            length_lexemes c.loop-self.self.rest.now,
             length_lexemes c.take.new.self.rest.now,
           ));
     }
@@ -75,8 +75,8 @@ parts-returns-in_err-first-clause-read t c =
     rw (p.1, p.2) (parts_fails (expr_at c.args.levels) (stmt_at c.args.inside c.args.levels)
     (lexemes c.args.self.now.rest.now) c.in_err-first.field-0.0 c.in_err-first.ensures.read)
 
-pub parts-loop-alloc-init : goal.parts-loop-alloc-init
-parts-loop-alloc-init t c =
+pub parts-loop-self-init : goal.parts-loop-self-init
+parts-loop-self-init t c =
     let expr = expr_at c.args.levels in
     let r = stmt_at c.args.inside c.args.levels in
     let e : map branch_of c.put.new.items.items ≡ branch_of c.in_ok-first.first ∷ [] =
@@ -87,23 +87,23 @@ parts-loop-alloc-init t c =
           (lexemes c.branch-self.new.self.rest.now) c.in_ok-first.ensures.read);
     }
 
-pub parts-loop-alloc-preserved : goal.parts-loop-alloc-preserved
-parts-loop-alloc-preserved t c =
+pub parts-loop-self-preserved : goal.parts-loop-self-preserved
+parts-loop-self-preserved t c =
     let a = c.in_ok-other.other in
-    let e : map branch_of c.put-in-loop-alloc.new.items.items ≡ map branch_of c.loop-alloc.parts.items ++ branch_of a ∷ [] =
-    rw c.in_ok-put-2.ensures (map_push _ c.loop-alloc.parts.items a) in
+    let e : map branch_of c.put-in-loop-self.new.items.items ≡ map branch_of c.loop-self.parts.items ++ branch_of a ∷ [] =
+    rw c.in_ok-put-2.ensures (map_push _ c.loop-self.parts.items a) in
     record {
-      within = omega (arith, c.in_ok-take.ensures.shorter, c.in_ok-other.ensures.shorter, c.loop-alloc.invariant.within);
-      read = rw e (parts_more (expr_at c.args.levels) (stmt_at c.args.inside c.args.levels) (map branch_of c.loop-alloc.parts.items)
-          (lexemes c.loop-alloc.self.rest.now) _ (lexeme_of c.in_ok-take.field-0) (lexemes c.take.new.self.rest.now) (branch_of a)
-          (lexemes c.branch-self-in-loop-alloc.new.self.rest.now)
-          c.loop-alloc.invariant.read (sym c.begins.ensures ∙ c.loop-alloc-test.true) c.in_ok-take.ensures.read c.in_ok-other.ensures.read
+      within = omega (arith, c.in_ok-take.ensures.shorter, c.in_ok-other.ensures.shorter, c.loop-self.invariant.within);
+      read = rw e (parts_more (expr_at c.args.levels) (stmt_at c.args.inside c.args.levels) (map branch_of c.loop-self.parts.items)
+          (lexemes c.loop-self.self.rest.now) _ (lexeme_of c.in_ok-take.field-0) (lexemes c.take.new.self.rest.now) (branch_of a)
+          (lexemes c.branch-self-in-loop-self.new.self.rest.now)
+          c.loop-self.invariant.read (sym c.begins.ensures ∙ c.loop-self-test.true) c.in_ok-take.ensures.read c.in_ok-other.ensures.read
           (omega (
             arith,
             c.in_ok-take.ensures.shorter,
             c.in_ok-other.ensures.shorter,
-            length_lexemes c.loop-alloc.self.rest.now,
-            length_lexemes c.branch-self-in-loop-alloc.new.self.rest.now,
+            length_lexemes c.loop-self.self.rest.now,
+            length_lexemes c.branch-self-in-loop-self.new.self.rest.now,
           )));
     }
 
@@ -112,20 +112,20 @@ parts-returns-in_err-take-clause-read t c =
     let expr = expr_at c.args.levels in
     let r = stmt_at c.args.inside c.args.levels in
     let p = err_from_is_err_and c.from_residual-in_err-take.result c.from_residual-in_err-take.ensures.1 in
-    rw (p.1, p.2) (parts_stop expr r (map branch_of c.loop-alloc.parts.items)
-    (lexemes c.loop-alloc.self.rest.now) _ c.in_err-take.field-0.0 c.loop-alloc.invariant.read
-    (sym c.begins.ensures ∙ c.loop-alloc-test.true)
-    (elif_word_fails expr r (lexemes c.loop-alloc.self.rest.now) c.in_err-take.field-0.0 c.in_err-take.ensures.read))
+    rw (p.1, p.2) (parts_stop expr r (map branch_of c.loop-self.parts.items)
+    (lexemes c.loop-self.self.rest.now) _ c.in_err-take.field-0.0 c.loop-self.invariant.read
+    (sym c.begins.ensures ∙ c.loop-self-test.true)
+    (elif_word_fails expr r (lexemes c.loop-self.self.rest.now) c.in_err-take.field-0.0 c.in_err-take.ensures.read))
 
 pub parts-returns-in_err-other-clause-read : goal.parts-returns-in_err-other-clause-read
 parts-returns-in_err-other-clause-read t c =
     let expr = expr_at c.args.levels in
     let r = stmt_at c.args.inside c.args.levels in
     let p = err_from_is_err_and c.from_residual-in_err-other.result c.from_residual-in_err-other.ensures.1 in
-    rw (p.1, p.2) (parts_stop expr r (map branch_of c.loop-alloc.parts.items)
-    (lexemes c.loop-alloc.self.rest.now) _ c.in_err-other.field-0.0 c.loop-alloc.invariant.read
-    (sym c.begins.ensures ∙ c.loop-alloc-test.true)
-    (elif_branch_fails expr r (lexemes c.loop-alloc.self.rest.now) (lexeme_of c.in_ok-take.field-0) (lexemes c.take.new.self.rest.now)
+    rw (p.1, p.2) (parts_stop expr r (map branch_of c.loop-self.parts.items)
+    (lexemes c.loop-self.self.rest.now) _ c.in_err-other.field-0.0 c.loop-self.invariant.read
+    (sym c.begins.ensures ∙ c.loop-self-test.true)
+    (elif_branch_fails expr r (lexemes c.loop-self.self.rest.now) (lexeme_of c.in_ok-take.field-0) (lexemes c.take.new.self.rest.now)
     c.in_err-other.field-0.0 c.in_ok-take.ensures.read c.in_err-other.ensures.read))
 
 pub line-returns-then-ends_line-clause-read : goal.line-returns-then-ends_line-clause-read
@@ -150,13 +150,13 @@ pub branch-returns-clause-shorter : goal.branch-returns-clause-shorter
 branch-returns-clause-shorter t c = le_lt _ _ _ c.in_ok-body.ensures.shorter (lt_trans c.in_ok-condition-2.ensures.shorter c.in_ok-condition.ensures.shorter)
 
 pub parts-returns-clause-shorter : goal.parts-returns-clause-shorter
-parts-returns-clause-shorter t c = c.loop-alloc.invariant.within
+parts-returns-clause-shorter t c = c.loop-self.invariant.within
 
-pub parts-loop-alloc-smaller : goal.parts-loop-alloc-smaller
-parts-loop-alloc-smaller t c = lt_trans c.in_ok-other.ensures.shorter c.in_ok-take.ensures.shorter
+pub parts-loop-self-smaller : goal.parts-loop-self-smaller
+parts-loop-self-smaller t c = lt_trans c.in_ok-other.ensures.shorter c.in_ok-take.ensures.shorter
 
-pub body-loop-alloc-smaller : goal.body-loop-alloc-smaller
-body-loop-alloc-smaller t c = lt_le _ _ _ c.in_ok-take.ensures.shorter c.in_ok-line.ensures.shorter
+pub body-loop-self-smaller : goal.body-loop-self-smaller
+body-loop-self-smaller t c = lt_le _ _ _ c.in_ok-take.ensures.shorter c.in_ok-line.ensures.shorter
 
 pub line-returns-clause-shorter : goal.line-returns-clause-shorter
 line-returns-clause-shorter t c = at_most _ _ c.in_ok-statement.ensures.shorter
@@ -202,13 +202,13 @@ line-returns-in_err-statement-clause-read t c =
 
 pub parts-returns-clause-read : goal.parts-returns-clause-read
 parts-returns-clause-read t c =
-    parts_end (expr_at c.args.levels) (stmt_at c.args.inside c.args.levels) (map branch_of c.loop-alloc.parts.items) (lexemes c.loop-alloc.self.rest.now) _ c.loop-alloc.invariant.read (sym c.begins.ensures ∙ c.loop-alloc-test.false)
-    ∙ ap (λ (l : List BranchTree). Ok (l, lexemes c.loop-alloc.self.rest.now)) (ap (map branch_of) (sym c.fitted.ensures))
+    parts_end (expr_at c.args.levels) (stmt_at c.args.inside c.args.levels) (map branch_of c.loop-self.parts.items) (lexemes c.loop-self.self.rest.now) _ c.loop-self.invariant.read (sym c.begins.ensures ∙ c.loop-self-test.false)
+    ∙ ap (λ (l : List BranchTree). Ok (l, lexemes c.loop-self.self.rest.now)) (ap (map branch_of) (sym c.fitted.ensures))
 
 pub body-returns-clause-read : goal.body-returns-clause-read
 body-returns-clause-read t c =
-    body_end (stmt_at c.args.inside c.args.levels) (map statement_of c.loop-alloc.statements.items) (lexemes c.loop-alloc.self.rest.now) _ c.loop-alloc.invariant.read (sym c.in_body.ensures ∙ c.loop-alloc-test.false)
-    ∙ ap (λ (l : List StatementTree). Ok (l, lexemes c.loop-alloc.self.rest.now)) (ap (map statement_of) (sym c.fitted.ensures))
+    body_end (stmt_at c.args.inside c.args.levels) (map statement_of c.loop-self.statements.items) (lexemes c.loop-self.self.rest.now) _ c.loop-self.invariant.read (sym c.in_body.ensures ∙ c.loop-self-test.false)
+    ∙ ap (λ (l : List StatementTree). Ok (l, lexemes c.loop-self.self.rest.now)) (ap (map statement_of) (sym c.fitted.ensures))
 
 pub statement-returns-then-not-begins_block-clause-read : goal.statement-returns-then-not-begins_block-clause-read
 statement-returns-then-not-begins_block-clause-read t c = rw (stmt_simple c.args.inside c.args.levels (lexemes c.args.self.now.rest.now) (sym c.begins_block.ensures ∙ c.if-not-begins_block.true)) c.simple.ensures.read

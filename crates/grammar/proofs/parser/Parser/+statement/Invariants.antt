@@ -30,24 +30,24 @@ decreases-foreach l = 10 * l.levels + 7
 abbrev pub decreases-conditional : goal.decreases-conditional
 decreases-conditional l = 10 * l.levels + 7
 
-abbrev pub invariant-body-loop-alloc : goal.invariant-body-loop-alloc
-invariant-body-loop-alloc l =
+abbrev pub invariant-body-loop-self : goal.invariant-body-loop-self
+invariant-body-loop-self l =
     record {
       within : length l.self.rest.now ≤ length l.fn.self.rest.now;
       read : StillBody (stmt_at l.inside l.levels) (map statement_of l.statements.items) (lexemes l.self.rest.now)
           (body_at (stmt_at l.inside l.levels) (lexemes l.fn.self.rest.now));
     }
 
-abbrev pub decreases-body-loop-alloc : goal.decreases-body-loop-alloc
-decreases-body-loop-alloc l = length l.self.rest.now
+abbrev pub decreases-body-loop-self : goal.decreases-body-loop-self
+decreases-body-loop-self l = length l.self.rest.now
 
-abbrev pub invariant-parts-loop-alloc : goal.invariant-parts-loop-alloc
-invariant-parts-loop-alloc l =
+abbrev pub invariant-parts-loop-self : goal.invariant-parts-loop-self
+invariant-parts-loop-self l =
     record {
       within : length l.self.rest.now < length l.fn.self.rest.now;
       read : StillParts (expr_at l.levels) (stmt_at l.inside l.levels) (map branch_of l.parts.items) (lexemes l.self.rest.now)
           (parts_at (expr_at l.levels) (stmt_at l.inside l.levels) (lexemes l.fn.self.rest.now));
     }
 
-abbrev pub decreases-parts-loop-alloc : goal.decreases-parts-loop-alloc
-decreases-parts-loop-alloc l = length l.self.rest.now
+abbrev pub decreases-parts-loop-self : goal.decreases-parts-loop-self
+decreases-parts-loop-self l = length l.self.rest.now

@@ -15,33 +15,33 @@ returns-in_err-line c =
           (lines_fail c.args.levels (lexemes c.args.self.now.rest.now) c.in_err-line.field-0.0 c.in_err-line.ensures.read);
     }
 
-pub loop-alloc-init : goal.loop-alloc-init
-loop-alloc-init c =
+pub loop-self-init : goal.loop-self-init
+loop-self-init c =
     lines_first c.args.levels c.in_ok-line.field-0 (lexemes c.args.self.now.rest.now) (map statement_of c.line.new.statements.items)
     (lexemes c.line.new.self.rest.now) (subst (λ (l : List StatementTree).
     GivesLine l (map statement_of c.line.new.statements.items) (Ok c.in_ok-line.field-0) (lexemes c.line.new.self.rest.now)
     (line_at c.args.levels (lexemes c.args.self.now.rest.now))) (ap (map statement_of) c.new-statements.ensures.items) c.in_ok-line.ensures.read)
 
-pub loop-alloc-preserved : goal.loop-alloc-preserved
-loop-alloc-preserved c =
-    lines_more c.args.levels (map statement_of c.loop-alloc.statements.items) (lexemes c.loop-alloc.self.rest.now) _ c.loop-alloc.invariant
-    (sym c.begins.ensures ∙ c.loop-alloc-test.true) c.in_ok-line-2.field-0 (lexeme_of c.in_ok-take.field-0) (lexemes c.take.new.self.rest.now)
-    (map statement_of c.line-in-loop-alloc.new.statements.items) (lexemes c.line-in-loop-alloc.new.self.rest.now)
+pub loop-self-preserved : goal.loop-self-preserved
+loop-self-preserved c =
+    lines_more c.args.levels (map statement_of c.loop-self.statements.items) (lexemes c.loop-self.self.rest.now) _ c.loop-self.invariant
+    (sym c.begins.ensures ∙ c.loop-self-test.true) c.in_ok-line-2.field-0 (lexeme_of c.in_ok-take.field-0) (lexemes c.take.new.self.rest.now)
+    (map statement_of c.line-in-loop-self.new.statements.items) (lexemes c.line-in-loop-self.new.self.rest.now)
     c.in_ok-take.ensures.read c.in_ok-line-2.ensures.read
     (omega (
       arith,
       c.in_ok-take.ensures.shorter,
       c.in_ok-line-2.ensures.shorter,
-      length_lexemes c.loop-alloc.self.rest.now,
-      length_lexemes c.line-in-loop-alloc.new.self.rest.now,
+      length_lexemes c.loop-self.self.rest.now,
+      length_lexemes c.line-in-loop-self.new.self.rest.now,
     ))
 
 pub returns-in_err-take : goal.returns-in_err-take
 returns-in_err-take c =
     let p = err_from_is_err_and c.from_residual-in_err-take.result c.from_residual-in_err-take.ensures.1 in
     record {
-      read = rw (p.1, p.2) (lines_newline_fails c.args.levels (map statement_of c.loop-alloc.statements.items)
-          (lexemes c.loop-alloc.self.rest.now) _ c.loop-alloc.invariant (sym c.begins.ensures ∙ c.loop-alloc-test.true)
+      read = rw (p.1, p.2) (lines_newline_fails c.args.levels (map statement_of c.loop-self.statements.items)
+          (lexemes c.loop-self.self.rest.now) _ c.loop-self.invariant (sym c.begins.ensures ∙ c.loop-self-test.true)
           c.in_err-take.field-0.0 c.in_err-take.ensures.read);
     }
 
@@ -49,8 +49,8 @@ pub returns-in_err-line-2 : goal.returns-in_err-line-2
 returns-in_err-line-2 c =
     let p = err_from_is_err_and c.from_residual-in_err-line-2.result c.from_residual-in_err-line-2.ensures.1 in
     record {
-      read = rw (p.1, p.2) (lines_line_fails c.args.levels (map statement_of c.loop-alloc.statements.items)
-          (lexemes c.loop-alloc.self.rest.now) _ c.loop-alloc.invariant (sym c.begins.ensures ∙ c.loop-alloc-test.true)
+      read = rw (p.1, p.2) (lines_line_fails c.args.levels (map statement_of c.loop-self.statements.items)
+          (lexemes c.loop-self.self.rest.now) _ c.loop-self.invariant (sym c.begins.ensures ∙ c.loop-self-test.true)
           (lexeme_of c.in_ok-take.field-0) (lexemes c.take.new.self.rest.now) c.in_err-line-2.field-0.0
           c.in_ok-take.ensures.read c.in_err-line-2.ensures.read);
     }

@@ -5,9 +5,9 @@ use Rattle.grammar.specs.Tree.{statement_of}
 use Rattle.grammar.proofs.StatementTails.{StillLines}
 use Rattle.grammar.proofs.parser.Parser.lines.Given as goal
 
-abbrev pub invariant-loop-alloc : goal.invariant-loop-alloc
-invariant-loop-alloc l = StillLines l.levels (map statement_of l.statements.items) (lexemes l.self.rest.now)
+abbrev pub invariant-loop-self : goal.invariant-loop-self
+invariant-loop-self l = StillLines l.levels (map statement_of l.statements.items) (lexemes l.self.rest.now)
     (file_at l.levels (lexemes l.fn.self.rest.now))
 
-abbrev pub decreases-loop-alloc : goal.decreases-loop-alloc
-decreases-loop-alloc l = length l.self.rest.now
+abbrev pub decreases-loop-self : goal.decreases-loop-self
+decreases-loop-self l = length l.self.rest.now
