@@ -67,8 +67,8 @@ pub parsed_only : (source : List ℕ) (n m : ℕ) (f g : FileTree) → Spells n 
 parsed_only source n m f g h i = file_only n m h.tokens f g h.spelled (subst (λ (ts : List Lexeme). (file m).spells g ts []) (lexed_only source i.tokens h.tokens i.are_tokens h.are_tokens) i.spelled)
 
 has_fault : (source : List ℕ) (ts : List Lexeme) (s : Stop) → AreTokens source ts → all_of (file_at most_levels) ts ≡ Err s → HasFault source (located source ts s)
-has_fault source ts (Unexpected left) a e = record { tokens = ts; are_tokens = a; index = length ts - left; unexpected = file_unexpected most_levels ts left e; here = refl }
-has_fault source ts (TooDeep left) a e = record { tokens = ts; are_tokens = a; index = length ts - left; too_deep = file_too_deep most_levels ts left e; here = refl }
+has_fault source ts (Unexpected left) a e = record { tokens = ts; are_tokens = a; index = length ts - left; holding = file_unexpected most_levels ts left e; here = refl }
+has_fault source ts (TooDeep left) a e = record { tokens = ts; are_tokens = a; index = length ts - left; holding = file_too_deep most_levels ts left e; here = refl }
 
 pub parsed_fault : (source : List ℕ) (f : SyntaxFault) → parsed source ≡ Err f → HasFault source f
 parsed_fault source f e = elim (cases_lexed (lexed source)) [
@@ -110,18 +110,18 @@ one_of source Faults.Grammar Faults.Token line other h g = absurd (no_tokens_at 
 one_of source Faults.Nesting Faults.Token line other h g = absurd (no_tokens_at source other h.tokens g h.are_tokens)
 one_of source Faults.Grammar Faults.Grammar line other h g =
     let same = lexed_only source h.tokens g.tokens h.are_tokens g.are_tokens in
-    let u = subst (λ (ts : List Lexeme). IsUnexpected file most_levels ts h.index) same h.unexpected in
-    fault_same Faults.Grammar line other (line_at source h.tokens g.tokens h.index g.index line other same (file_one_unexpected most_levels g.tokens h.index g.index u g.unexpected) h.here g.here)
+    let u = subst (λ (ts : List Lexeme). IsUnexpected file most_levels ts h.index) same h.holding in
+    fault_same Faults.Grammar line other (line_at source h.tokens g.tokens h.index g.index line other same (file_one_unexpected most_levels g.tokens h.index g.index u g.holding) h.here g.here)
 one_of source Faults.Nesting Faults.Nesting line other h g =
     let same = lexed_only source h.tokens g.tokens h.are_tokens g.are_tokens in
-    let u = subst (λ (ts : List Lexeme). IsTooDeep file most_levels ts h.index) same h.too_deep in
-    fault_same Faults.Nesting line other (line_at source h.tokens g.tokens h.index g.index line other same (file_one_too_deep most_levels g.tokens h.index g.index u g.too_deep) h.here g.here)
+    let u = subst (λ (ts : List Lexeme). IsTooDeep file most_levels ts h.index) same h.holding in
+    fault_same Faults.Nesting line other (line_at source h.tokens g.tokens h.index g.index line other same (file_one_too_deep most_levels g.tokens h.index g.index u g.holding) h.here g.here)
 one_of source Faults.Grammar Faults.Nesting line other h g =
     let same = lexed_only source h.tokens g.tokens h.are_tokens g.are_tokens in
-    absurd (file_not_both most_levels g.tokens h.index g.index (subst (λ (ts : List Lexeme). IsUnexpected file most_levels ts h.index) same h.unexpected) g.too_deep)
+    absurd (file_not_both most_levels g.tokens h.index g.index (subst (λ (ts : List Lexeme). IsUnexpected file most_levels ts h.index) same h.holding) g.holding)
 one_of source Faults.Nesting Faults.Grammar line other h g =
     let same = lexed_only source h.tokens g.tokens h.are_tokens g.are_tokens in
-    absurd (file_not_both most_levels g.tokens g.index h.index g.unexpected (subst (λ (ts : List Lexeme). IsTooDeep file most_levels ts h.index) same h.too_deep))
+    absurd (file_not_both most_levels g.tokens g.index h.index g.holding (subst (λ (ts : List Lexeme). IsTooDeep file most_levels ts h.index) same h.holding))
 
 one_fault : (source : List ℕ) (f g : SyntaxFault) → HasFault source f → HasFault source g → f ≡ g
 one_fault source f g h i = one_of source f.kind g.kind f.line g.line h i
@@ -130,10 +130,10 @@ no_file_by : (source : List ℕ) (k : FaultKind) (line : ℕ) (t : FileTree) →
 no_file_by source Faults.Token line t h s = no_tokens_at source line s.tokens h s.are_tokens
 no_file_by source Faults.Grammar line t h s =
     let same = lexed_only source h.tokens s.tokens h.are_tokens s.are_tokens in
-    file_none_unexpected most_levels s.tokens t h.index s.spelled (subst (λ (ts : List Lexeme). IsUnexpected file most_levels ts h.index) same h.unexpected)
+    file_none_unexpected most_levels s.tokens t h.index s.spelled (subst (λ (ts : List Lexeme). IsUnexpected file most_levels ts h.index) same h.holding)
 no_file_by source Faults.Nesting line t h s =
     let same = lexed_only source h.tokens s.tokens h.are_tokens s.are_tokens in
-    file_none_too_deep most_levels s.tokens t h.index s.spelled (subst (λ (ts : List Lexeme). IsTooDeep file most_levels ts h.index) same h.too_deep)
+    file_none_too_deep most_levels s.tokens t h.index s.spelled (subst (λ (ts : List Lexeme). IsTooDeep file most_levels ts h.index) same h.holding)
 
 cases_parsed : (r : Result FileTree SyntaxFault) → ((t : FileTree) × (r ≡ Ok t)) ⊎ ((g : SyntaxFault) × (r ≡ Err g))
 cases_parsed (Ok t) = inl (t, refl)

@@ -9,7 +9,7 @@ use Rattle.grammar.specs.ExpressionTree.{ExpressionTree, NameTree}
 use Rattle.grammar.specs.Tree.{StatementTree, AssignTree, AppendTree, ValueTree, BreakTree, ContinueTree}
 use Rattle.grammar.specs.Form.{Form, token, give, ◌>>=◌, ◌or◌}
 use Rattle.grammar.specs.Expressions.{expr}
-use Rattle.grammar.specs.Statements.{assign, append, plain, leave, simple}
+use Rattle.grammar.specs.Statements.{set, plain, leave, simple}
 use Rattle.grammar.specs.Reading.{Reader, begins, or_at, two_begin}
 use Rattle.grammar.specs.ReadingExpressions.{expr_at}
 use Rattle.grammar.specs.ReadingStatements.{set_at, plain_at, leave_at, simple_at, ends_line}
@@ -137,7 +137,7 @@ starts-leave k tree true = starts-bind (token k) _ (λ l. is l k) (starts-token 
 starts-leave k tree false = starts-never (λ l. is l k)
 
 abbrev named : ℕ → Form StatementTree
-named n = assign (expr n) or (append (expr n) or plain (expr n))
+named n = set Kinds.Assign AssignTree (expr n) or (set Kinds.PlusAssign AppendTree (expr n) or plain (expr n))
 
 abbrev opens_continue : Kind → Bool
 opens_continue l = cond (is l Kinds.Continue) true (opens_expr l)

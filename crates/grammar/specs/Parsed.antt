@@ -50,26 +50,19 @@ pub record Spells (levels : ℕ) (source : List ℕ) (f : FileTree) : Type 0 whe
   pub are_tokens : AreTokens source tokens
   pub spelled : (file levels).spells f tokens []
 
--- the tokens begin no file from the one on this line on
-pub record IsUnexpectedOn (source : List ℕ) (line : ℕ) : Type 0 where
+-- of the tokens of the source this holds at the one on this line
+pub record HoldsOn (holds : List Lexeme → ℕ → Type 0) (source : List ℕ) (line : ℕ) : Type 0 where
   pub tokens : List Lexeme
   pub are_tokens : AreTokens source tokens
   pub index : ℕ
-  pub unexpected : IsUnexpected file most_levels tokens index
   pub here : line ≡ line_of source tokens index
+  pub holding : holds tokens index
 
--- the token on this line is the first that opens a level too many
-pub record IsTooDeepOn (source : List ℕ) (line : ℕ) : Type 0 where
-  pub tokens : List Lexeme
-  pub are_tokens : AreTokens source tokens
-  pub index : ℕ
-  pub too_deep : IsTooDeep file most_levels tokens index
-  pub here : line ≡ line_of source tokens index
-
+-- no token begins on this line; or the tokens begin no file from the one on it on; or that is the first that opens a level too many
 abbrev pub FaultsBy : FaultKind → List ℕ → ℕ → Type 0
 FaultsBy Faults.Token source line = IsUnreadable source line
-FaultsBy Faults.Grammar source line = IsUnexpectedOn source line
-FaultsBy Faults.Nesting source line = IsTooDeepOn source line
+FaultsBy Faults.Grammar source line = HoldsOn (IsUnexpected file most_levels) source line
+FaultsBy Faults.Nesting source line = HoldsOn (IsTooDeep file most_levels) source line
 
 -- the source has this fault
 abbrev pub HasFault : List ℕ → SyntaxFault → Type 0

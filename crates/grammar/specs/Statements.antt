@@ -13,21 +13,13 @@ use Rattle.grammar.specs.Expressions.{expr}
 
 -- ---- statements of one line
 
--- NAME "=" expr
-abbrev pub assign : Form ExpressionTree → Form StatementTree
-assign expr = do
+-- NAME, this sign and expr
+abbrev pub set : Kind → (List ℕ → ℕ → ExpressionTree → StatementTree) → Form ExpressionTree → Form StatementTree
+set sign tree expr = do
   t ← token Name
-  q ← token Assign
+  q ← token sign
   e ← expr
-  give (AssignTree t.text t.line e)
-
--- NAME "+=" expr
-abbrev pub append : Form ExpressionTree → Form StatementTree
-append expr = do
-  t ← token Name
-  q ← token PlusAssign
-  e ← expr
-  give (AppendTree t.text t.line e)
+  give (tree t.text t.line e)
 
 -- expr
 abbrev pub plain : Form ExpressionTree → Form StatementTree
@@ -47,7 +39,7 @@ leave k tree false = never
 abbrev pub simple : Bool → ℕ → Form StatementTree
 simple inside n =
     leave Break BreakTree inside
-    or (leave Continue ContinueTree inside or (assign (expr n) or (append (expr n) or plain (expr n))))
+    or (leave Continue ContinueTree inside or (set Assign AssignTree (expr n) or (set PlusAssign AppendTree (expr n) or plain (expr n))))
 
 -- ---- blocks
 

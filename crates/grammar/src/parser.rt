@@ -23,6 +23,9 @@ use std::alloc::{AllocError, Global};
 /// How many levels may be open: brackets, blocks and prefix operators, one inside another.
 pub const LEVELS: u32 = 64;
 
+// What was read, or why reading stops.
+type Read<T> = Result<T, ReadError>;
+
 // The tokens that are still to be read, and where what they spell is put.
 #[derive(Drop)]
 struct Parser<'t, 'a> {
@@ -50,7 +53,7 @@ fn fitted<T>(items: Vec<T>) -> Vec<T>
 impl<'t, 'a> Parser<'t, 'a> {
     // Takes the first token, where it is of this kind.
     #[tactic(auto, using(crate::proofs::Tails::token_cases))]
-    fn take(&mut self, kind: Kind) -> Result<Token<'a>, ReadError>
+    fn take(&mut self, kind: Kind) -> Read<Token<'a>>
         ensures read { Gives lexeme_of result (lexemes self.new.rest.now) (token_at kind (lexemes self.old.rest.now)) }
         ensures shorter { OnOk result (length self.new.rest.now < length self.old.rest.now) }
     {
@@ -65,7 +68,7 @@ impl<'t, 'a> Parser<'t, 'a> {
 
     // What was read, once a token of this kind has closed it.
     #[tactic(auto, using(crate::proofs::Tails::first_taken))]
-    fn closed<T: Drop>(&mut self, kind: Kind, value: T) -> Result<T, ReadError>
+    fn closed<T: Drop>(&mut self, kind: Kind, value: T) -> Read<T>
         ensures read { Gives (λ v. first_of (lexemes self.old.rest.now)) result (lexemes self.new.rest.now)
             (token_at kind (lexemes self.old.rest.now)) }
         ensures same { IfOk result (λ v. v ≡ value) }
@@ -93,7 +96,7 @@ impl<'t, 'a> Parser<'t, 'a> {
     }
 
     // The statements of the lines.
-    fn lines(&mut self, levels: u32) -> Result<Vec<Statement<'a>>, ReadError>
+    fn lines(&mut self, levels: u32) -> Read<Vec<Statement<'a>>>
         ensures read { Gives (λ v. map statement_of v.items) result (lexemes self.new.rest.now)
             (file_at levels (lexemes self.old.rest.now)) }
     {
@@ -108,7 +111,7 @@ impl<'t, 'a> Parser<'t, 'a> {
 
     // The file that all tokens spell.
     #[tactic(auto, using(crate::proofs::Tails::all_cases))]
-    fn file(&mut self, levels: u32) -> Result<File<'a>, ReadError>
+    fn file(&mut self, levels: u32) -> Read<File<'a>>
         ensures { GivesAll file_of result (all_of (file_at levels) (lexemes self.old.rest.now)) }
     {
         let statements = self.lines(levels)?;

@@ -63,6 +63,7 @@ pub enum Statement<'a> {
 
 /// A part of an `if`: a condition, and the statements that are run where it holds. A `foreach` has its list in the condition's place.
 #[cycle(statement)]
+#[derive(Drop)]
 pub struct Branch<'a> {
     pub condition: Expression<'a>,
     /// The line of the condition's first token.
@@ -187,6 +188,7 @@ pub enum Operator {
 
 /// An operator and the value behind it.
 #[cycle(tree)]
+#[derive(Drop)]
 pub struct Operand<'a> {
     pub operator: Operator,
     pub value: Expression<'a>,
@@ -202,6 +204,7 @@ pub enum Prefix {
 
 /// `key : value`
 #[cycle(tree)]
+#[derive(Drop)]
 pub struct Entry<'a> {
     pub key: Expression<'a>,
     pub value: Expression<'a>,
@@ -209,6 +212,7 @@ pub struct Entry<'a> {
 
 /// An argument, with its name where it is given by one. Those with a name stand behind the others.
 #[cycle(tree)]
+#[derive(Drop)]
 pub struct Argument<'a> {
     pub name: Option<&'a str>,
     pub value: Expression<'a>,
@@ -230,7 +234,7 @@ pub enum Link<'a> {
 
 // ---- letting go
 //
-// Written out, so that a caller lets go of a node by one call, and not variant by variant.
+// Written out where there are variants, so that a caller lets go of a node by one call, and not variant by variant.
 
 impl Drop for Statement<'_> {
     #[cycle(statement)]
@@ -261,17 +265,6 @@ impl Drop for Statement<'_> {
                 round: _,
             } => {}
         }
-    }
-}
-
-impl Drop for Branch<'_> {
-    #[cycle(statement)]
-    fn drop(self) {
-        let Branch {
-            condition: _,
-            line: _,
-            body: _,
-        } = self;
     }
 }
 
@@ -317,30 +310,6 @@ impl Drop for Expression<'_> {
                 line: _,
             } => {}
         }
-    }
-}
-
-impl Drop for Operand<'_> {
-    #[cycle(tree)]
-    fn drop(self) {
-        let Operand {
-            operator: _,
-            value: _,
-        } = self;
-    }
-}
-
-impl Drop for Entry<'_> {
-    #[cycle(tree)]
-    fn drop(self) {
-        let Entry { key: _, value: _ } = self;
-    }
-}
-
-impl Drop for Argument<'_> {
-    #[cycle(tree)]
-    fn drop(self) {
-        let Argument { name: _, value: _ } = self;
     }
 }
 

@@ -9,8 +9,7 @@ ghost use Rattle.grammar.specs.Reading.{Gives, head_is, more_at};
 ghost use Rattle.grammar.specs.ReadingExpressions.{base_at, dictionary_at, ends_expression, entered_at, inner_at, list_at, single_at};
 ghost use Rattle.grammar.specs.ReadingExpressions.{single_of, ternary_at, unary_at};
 
-use super::{Parser, fitted, put};
-use crate::stop::ReadError;
+use super::{Parser, Read, fitted, put};
 use crate::tree::{Entry, Expression, Literal};
 use lexer::token::{Kind, Token};
 
@@ -85,7 +84,7 @@ impl<'a> Parser<'_, 'a> {
 
     // A name or a literal.
     #[tactic(auto, using(crate::proofs::Alone::single_cases))]
-    fn single(&mut self) -> Result<Expression<'a>, ReadError>
+    fn single(&mut self) -> Read<Expression<'a>>
         ensures read { Gives expression_of result (lexemes self.new.rest.now) (single_at (lexemes self.old.rest.now)) }
         ensures shorter { OnOk result (length self.new.rest.now < length self.old.rest.now) }
     {
@@ -117,7 +116,7 @@ impl<'a> Parser<'_, 'a> {
     // A list.
     #[cycle(expression)]
     #[tactic(auto, unfolding(crate::specs::ReadingExpressions::entered_at))]
-    fn list(&mut self, levels: u32, ternaries: bool) -> Result<Expression<'a>, ReadError>
+    fn list(&mut self, levels: u32, ternaries: bool) -> Read<Expression<'a>>
         ensures read { Gives expression_of result (lexemes self.new.rest.now)
             (entered_at Kind.OpenBracket levels (λ e. list_at e ternaries) (lexemes self.old.rest.now)) }
         ensures shorter { OnOk result (length self.new.rest.now < length self.old.rest.now) }
@@ -140,7 +139,7 @@ impl<'a> Parser<'_, 'a> {
     // A dictionary.
     #[cycle(expression)]
     #[tactic(auto, unfolding(crate::specs::ReadingExpressions::entered_at))]
-    fn dictionary(&mut self, levels: u32, ternaries: bool) -> Result<Expression<'a>, ReadError>
+    fn dictionary(&mut self, levels: u32, ternaries: bool) -> Read<Expression<'a>>
         ensures read { Gives expression_of result (lexemes self.new.rest.now)
             (entered_at Kind.OpenBrace levels (λ e. dictionary_at e ternaries) (lexemes self.old.rest.now)) }
         ensures shorter { OnOk result (length self.new.rest.now < length self.old.rest.now) }
@@ -165,7 +164,7 @@ impl<'a> Parser<'_, 'a> {
     // A call of a function, or an atom.
     #[cycle(expression)]
     #[tactic(auto, using(crate::proofs::ExpressionTails::base_call, crate::proofs::ExpressionTails::atom_group, crate::proofs::ExpressionTails::atom_list, crate::proofs::ExpressionTails::atom_dictionary, crate::proofs::ExpressionTails::atom_single), unfolding(crate::specs::ReadingExpressions::call_at, crate::specs::ReadingExpressions::entered_at, crate::specs::ReadingExpressions::group_at))]
-    pub(super) fn base(&mut self, levels: u32, ternaries: bool) -> Result<Expression<'a>, ReadError>
+    pub(super) fn base(&mut self, levels: u32, ternaries: bool) -> Read<Expression<'a>>
         ensures read { Gives expression_of result (lexemes self.new.rest.now)
             (base_at (inner_at levels) ternaries (lexemes self.old.rest.now)) }
         ensures shorter { OnOk result (length self.new.rest.now < length self.old.rest.now) }

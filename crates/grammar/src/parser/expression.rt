@@ -10,7 +10,7 @@ ghost use Rattle.grammar.specs.Reading.{Gives, begins, head_is, two_begin};
 ghost use Rattle.grammar.specs.ReadingExpressions.{chain_at, ternary_at, comparison_at, comparison_operator_at, compares, enter_at};
 ghost use Rattle.grammar.specs.ReadingExpressions.{expr_at, not_in_at, operator_of, part_at, unary_at};
 
-use super::{Parser, fitted, put};
+use super::{Parser, Read, fitted, put};
 use crate::stop::{ReadError, Stop};
 use crate::tree::{Expression, Operand, Operator};
 use lexer::token::{Kind, Token};
@@ -134,7 +134,7 @@ impl<'a> Parser<'_, 'a> {
 
     // Takes `not in`.
     #[tactic(auto, unfolding(crate::specs::ReadingExpressions::not_in_at))]
-    fn not_in(&mut self) -> Result<Operator, ReadError>
+    fn not_in(&mut self) -> Read<Operator>
         ensures read { Gives (λ o. o) result (lexemes self.new.rest.now) (not_in_at (lexemes self.old.rest.now)) }
         ensures shorter { OnOk result (length self.new.rest.now < length self.old.rest.now) }
     {
@@ -144,7 +144,7 @@ impl<'a> Parser<'_, 'a> {
     }
 
     // Takes a comparison.
-    fn comparison_operator(&mut self) -> Result<Operator, ReadError>
+    fn comparison_operator(&mut self) -> Read<Operator>
         ensures read { Gives (λ o. o) result (lexemes self.new.rest.now) (comparison_operator_at (lexemes self.old.rest.now)) }
         ensures shorter { OnOk result (length self.new.rest.now < length self.old.rest.now) }
     {
@@ -183,7 +183,7 @@ impl<'a> Parser<'_, 'a> {
 
     // Takes a token that opens a level, with the levels that may be opened behind it.
     #[tactic(auto, using(crate::proofs::ExpressionTails::enter_cases))]
-    pub(super) fn enter(&mut self, kind: Kind, levels: u32) -> Result<(Token<'a>, u32), ReadError>
+    pub(super) fn enter(&mut self, kind: Kind, levels: u32) -> Read<(Token<'a>, u32)>
         ensures read { Gives (λ x. (lexeme_of x.0, x.1)) result (lexemes self.new.rest.now)
             (enter_at kind levels (lexemes self.old.rest.now)) }
         ensures shorter { OnOk result (length self.new.rest.now < length self.old.rest.now) }
@@ -202,12 +202,7 @@ impl<'a> Parser<'_, 'a> {
     // A part of a chain of this rank.
     #[cycle(expression)]
     #[tactic(auto, unfolding(crate::specs::ReadingExpressions::conjunction_at, crate::specs::ReadingExpressions::product_at))]
-    fn part(
-        &mut self,
-        levels: u32,
-        ternaries: bool,
-        rank: Rank,
-    ) -> Result<Expression<'a>, ReadError>
+    fn part(&mut self, levels: u32, ternaries: bool, rank: Rank) -> Read<Expression<'a>>
         ensures read { Gives expression_of result (lexemes self.new.rest.now)
             (part_at rank (unary_at levels ternaries) (lexemes self.old.rest.now)) }
         ensures shorter { OnOk result (length self.new.rest.now < length self.old.rest.now) }
@@ -223,12 +218,7 @@ impl<'a> Parser<'_, 'a> {
     // Parts with operators of this rank between them.
     #[cycle(expression)]
     #[tactic(auto, using(crate::proofs::ExpressionTails::chain_alone), unfolding(crate::specs::ReadingExpressions::chain_at))]
-    fn chain(
-        &mut self,
-        levels: u32,
-        ternaries: bool,
-        rank: Rank,
-    ) -> Result<Expression<'a>, ReadError>
+    fn chain(&mut self, levels: u32, ternaries: bool, rank: Rank) -> Read<Expression<'a>>
         ensures read { Gives expression_of result (lexemes self.new.rest.now)
             (chain_at (operator_of rank) (part_at rank (unary_at levels ternaries)) (lexemes self.old.rest.now)) }
         ensures shorter { OnOk result (length self.new.rest.now < length self.old.rest.now) }
@@ -254,7 +244,7 @@ impl<'a> Parser<'_, 'a> {
     // A sum, or two that are compared.
     #[cycle(expression)]
     #[tactic(auto, unfolding(crate::specs::ReadingExpressions::comparison_at, crate::specs::ReadingExpressions::compared_at, crate::specs::ReadingExpressions::sum_at, crate::specs::Reading::optional_at, crate::specs::Reading::or_at))]
-    fn comparison(&mut self, levels: u32, ternaries: bool) -> Result<Expression<'a>, ReadError>
+    fn comparison(&mut self, levels: u32, ternaries: bool) -> Read<Expression<'a>>
         ensures read { Gives expression_of result (lexemes self.new.rest.now)
             (comparison_at (unary_at levels ternaries) (lexemes self.old.rest.now)) }
         ensures shorter { OnOk result (length self.new.rest.now < length self.old.rest.now) }
@@ -279,11 +269,7 @@ impl<'a> Parser<'_, 'a> {
     // An expression, in which a ternary may stand or not.
     #[cycle(expression)]
     #[tactic(auto, using(crate::proofs::ExpressionTails::ternary_alone), unfolding(crate::specs::ReadingExpressions::disjunction_at))]
-    pub(super) fn ternary(
-        &mut self,
-        levels: u32,
-        ternaries: bool,
-    ) -> Result<Expression<'a>, ReadError>
+    pub(super) fn ternary(&mut self, levels: u32, ternaries: bool) -> Read<Expression<'a>>
         ensures read { Gives expression_of result (lexemes self.new.rest.now)
             (ternary_at (unary_at levels) ternaries (lexemes self.old.rest.now)) }
         ensures shorter { OnOk result (length self.new.rest.now < length self.old.rest.now) }
@@ -313,7 +299,7 @@ impl<'a> Parser<'_, 'a> {
 
     // An expression, where so many levels may still be opened.
     #[tactic(auto, unfolding(crate::specs::ReadingExpressions::expr_at))]
-    pub(super) fn expression(&mut self, levels: u32) -> Result<Expression<'a>, ReadError>
+    pub(super) fn expression(&mut self, levels: u32) -> Read<Expression<'a>>
         ensures read { Gives expression_of result (lexemes self.new.rest.now) (expr_at levels (lexemes self.old.rest.now)) }
         ensures shorter { OnOk result (length self.new.rest.now < length self.old.rest.now) }
     {

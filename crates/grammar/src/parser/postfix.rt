@@ -9,8 +9,7 @@ ghost use Rattle.grammar.specs.ReadingExpressions.{entered_at, inner_at, items_a
 ghost use Rattle.grammar.specs.ReadingExpressions.{unary_at, word_of};
 
 use super::expression::boxed;
-use super::{Parser, fitted, put};
-use crate::stop::ReadError;
+use super::{Parser, Read, fitted, put};
 use crate::tree::{Argument, Expression, Link, Prefix};
 use lexer::token::Kind;
 
@@ -44,7 +43,7 @@ impl<'a> Parser<'_, 'a> {
 
     // The name of an argument and the colon behind it, if they come; they have to behind an argument that has a name.
     #[tactic(auto, using(crate::proofs::ExpressionTails::label_cases))]
-    fn label(&mut self, behind: bool) -> Result<Option<&'a str>, ReadError>
+    fn label(&mut self, behind: bool) -> Read<Option<&'a str>>
         ensures read { Gives (option_map (λ name. name.now)) result (lexemes self.new.rest.now)
             (label_at behind (lexemes self.old.rest.now)) }
         ensures shorter { OnOk result (length self.new.rest.now ≤ length self.old.rest.now) }
@@ -58,7 +57,7 @@ impl<'a> Parser<'_, 'a> {
 
     // A name and a colon.
     #[tactic(auto, unfolding(crate::specs::ReadingExpressions::name_colon_at))]
-    fn name_colon(&mut self) -> Result<&'a str, ReadError>
+    fn name_colon(&mut self) -> Read<&'a str>
         ensures read { Gives (λ name. name.now) result (lexemes self.new.rest.now) (name_colon_at (lexemes self.old.rest.now)) }
         ensures shorter { OnOk result (length self.new.rest.now < length self.old.rest.now) }
     {
@@ -70,11 +69,7 @@ impl<'a> Parser<'_, 'a> {
     // The arguments of a call, in their parentheses.
     #[cycle(expression)]
     #[tactic(auto, unfolding(crate::specs::ReadingExpressions::entered_at))]
-    pub(super) fn arguments(
-        &mut self,
-        levels: u32,
-        ternaries: bool,
-    ) -> Result<Vec<Argument<'a>>, ReadError>
+    pub(super) fn arguments(&mut self, levels: u32, ternaries: bool) -> Read<Vec<Argument<'a>>>
         ensures read { Gives (λ v. map argument_of v.items) result (lexemes self.new.rest.now)
             (entered_at Kind.OpenParenthesis levels (λ e. items_at e ternaries) (lexemes self.old.rest.now)) }
         ensures shorter { OnOk result (length self.new.rest.now < length self.old.rest.now) }
@@ -97,7 +92,7 @@ impl<'a> Parser<'_, 'a> {
     // What is asked of a value: a method or an index.
     #[cycle(expression)]
     #[tactic(auto, using(crate::proofs::ExpressionTails::link_method, crate::proofs::ExpressionTails::link_index), unfolding(crate::specs::ReadingExpressions::method_at, crate::specs::ReadingExpressions::entered_at, crate::specs::ReadingExpressions::index_at))]
-    fn link(&mut self, levels: u32, ternaries: bool) -> Result<Link<'a>, ReadError>
+    fn link(&mut self, levels: u32, ternaries: bool) -> Read<Link<'a>>
         ensures read { Gives link_of result (lexemes self.new.rest.now)
             (link_at (inner_at levels) ternaries (lexemes self.old.rest.now)) }
         ensures shorter { OnOk result (length self.new.rest.now < length self.old.rest.now) }
@@ -131,11 +126,7 @@ impl<'a> Parser<'_, 'a> {
     // What stands between operators, where so many levels may still be opened: a prefix operator and its value, or a value and
     // what is asked of it.
     #[cycle(expression)]
-    pub(super) fn unary(
-        &mut self,
-        levels: u32,
-        ternaries: bool,
-    ) -> Result<Expression<'a>, ReadError>
+    pub(super) fn unary(&mut self, levels: u32, ternaries: bool) -> Read<Expression<'a>>
         ensures read { Gives expression_of result (lexemes self.new.rest.now)
             (unary_at levels ternaries (lexemes self.old.rest.now)) }
         ensures shorter { OnOk result (length self.new.rest.now < length self.old.rest.now) }

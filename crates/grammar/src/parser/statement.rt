@@ -12,7 +12,7 @@ ghost use Rattle.grammar.specs.ReadingStatements.{plain_at, second_at, set_at, s
 ghost use Rattle.grammar.specs.Tree.{branch_of, statement_of};
 
 use super::expression::boxed;
-use super::{Parser, fitted, put};
+use super::{Parser, Read, fitted, put};
 use crate::stop::{ReadError, Stop};
 use crate::tree::{Branch, Expression, Statement};
 use lexer::token::{Kind, Token};
@@ -85,7 +85,7 @@ impl<'a> Parser<'_, 'a> {
 
     // A name, `=` or `+=`, and a value.
     #[tactic(auto, unfolding(crate::specs::ReadingStatements::set_at))]
-    fn assign(&mut self, adds: bool, levels: u32) -> Result<Statement<'a>, ReadError>
+    fn assign(&mut self, adds: bool, levels: u32) -> Read<Statement<'a>>
         ensures read { Gives statement_of result (lexemes self.new.rest.now)
             (set_at (sign_of adds) (set_tree adds) (expr_at levels) (lexemes self.old.rest.now)) }
         ensures shorter { OnOk result (length self.new.rest.now < length self.old.rest.now) }
@@ -99,7 +99,7 @@ impl<'a> Parser<'_, 'a> {
 
     // An expression alone.
     #[tactic(auto, unfolding(crate::specs::ReadingStatements::plain_at))]
-    fn plain(&mut self, levels: u32) -> Result<Statement<'a>, ReadError>
+    fn plain(&mut self, levels: u32) -> Read<Statement<'a>>
         ensures read { Gives statement_of result (lexemes self.new.rest.now)
             (plain_at (expr_at levels) (lexemes self.old.rest.now)) }
         ensures shorter { OnOk result (length self.new.rest.now < length self.old.rest.now) }
@@ -111,7 +111,7 @@ impl<'a> Parser<'_, 'a> {
 
     // A `break` or a `continue`, where a `foreach` is open.
     #[tactic(auto, using(crate::proofs::StatementTails::leave_cases))]
-    fn leave(&mut self, ends: bool, inside: bool) -> Result<Statement<'a>, ReadError>
+    fn leave(&mut self, ends: bool, inside: bool) -> Read<Statement<'a>>
         ensures read { Gives statement_of result (lexemes self.new.rest.now)
             (leave_at (leave_word ends) (leave_tree ends) inside (lexemes self.old.rest.now)) }
         ensures shorter { OnOk result (length self.new.rest.now < length self.old.rest.now) }
@@ -126,7 +126,7 @@ impl<'a> Parser<'_, 'a> {
 
     // A statement of one line.
     #[tactic(auto, using(crate::proofs::StatementTails::simple_cases))]
-    fn simple(&mut self, inside: bool, levels: u32) -> Result<Statement<'a>, ReadError>
+    fn simple(&mut self, inside: bool, levels: u32) -> Read<Statement<'a>>
         ensures read { Gives statement_of result (lexemes self.new.rest.now) (simple_at inside levels (lexemes self.old.rest.now)) }
         ensures shorter { OnOk result (length self.new.rest.now < length self.old.rest.now) }
     {
@@ -146,7 +146,7 @@ impl<'a> Parser<'_, 'a> {
     // A statement, where so many levels may still be opened; inside says whether a `foreach` is open.
     #[cycle(statement)]
     #[tactic(auto, using(crate::proofs::StatementTails::statement_cases))]
-    fn statement(&mut self, inside: bool, levels: u32) -> Result<Statement<'a>, ReadError>
+    fn statement(&mut self, inside: bool, levels: u32) -> Read<Statement<'a>>
         ensures read { Gives statement_of result (lexemes self.new.rest.now) (stmt_at inside levels (lexemes self.old.rest.now)) }
         ensures shorter { OnOk result (length self.new.rest.now < length self.old.rest.now) }
     {
@@ -163,7 +163,7 @@ impl<'a> Parser<'_, 'a> {
 
     // A comma and a name.
     #[tactic(auto, unfolding(crate::specs::ReadingStatements::second_at))]
-    fn comma_name(&mut self) -> Result<&'a str, ReadError>
+    fn comma_name(&mut self) -> Read<&'a str>
         ensures read { Gives (λ name. name.now) result (lexemes self.new.rest.now) (second_at (lexemes self.old.rest.now)) }
         ensures shorter { OnOk result (length self.new.rest.now < length self.old.rest.now) }
     {
@@ -174,7 +174,7 @@ impl<'a> Parser<'_, 'a> {
 
     // The second name of a `foreach`, if there is one.
     #[tactic(auto, using(crate::proofs::StatementTails::optional_cases))]
-    fn second(&mut self) -> Result<Option<&'a str>, ReadError>
+    fn second(&mut self) -> Read<Option<&'a str>>
         ensures read { Gives (option_map (λ name. name.now)) result (lexemes self.new.rest.now)
             (optional_at (begins Kind.Comma) second_at (lexemes self.old.rest.now)) }
         ensures shorter { OnOk result (length self.new.rest.now ≤ length self.old.rest.now) }
@@ -188,7 +188,7 @@ impl<'a> Parser<'_, 'a> {
 
     // The names of a `foreach`, up to the colon.
     #[tactic(auto, unfolding(crate::specs::ReadingStatements::names_at))]
-    fn names(&mut self) -> Result<(&'a str, Option<&'a str>), ReadError>
+    fn names(&mut self) -> Read<(&'a str, Option<&'a str>)>
         ensures read { Gives (λ p. (p.0.now, option_map (λ name. name.now) p.1)) result (lexemes self.new.rest.now)
             (names_at (lexemes self.old.rest.now)) }
         ensures shorter { OnOk result (length self.new.rest.now < length self.old.rest.now) }
@@ -202,7 +202,7 @@ impl<'a> Parser<'_, 'a> {
     // A `foreach`, up to its `endforeach`.
     #[cycle(statement)]
     #[tactic(auto, unfolding(crate::specs::ReadingStatements::foreach_at))]
-    fn foreach(&mut self, levels: u32) -> Result<Statement<'a>, ReadError>
+    fn foreach(&mut self, levels: u32) -> Read<Statement<'a>>
         ensures read { Gives statement_of result (lexemes self.new.rest.now)
             (foreach_at (expr_at levels) (stmt_at true levels) (lexemes self.old.rest.now)) }
         ensures shorter { OnOk result (length self.new.rest.now < length self.old.rest.now) }
@@ -223,7 +223,7 @@ impl<'a> Parser<'_, 'a> {
     // An `if`, up to its `endif`.
     #[cycle(statement)]
     #[tactic(auto, unfolding(crate::specs::ReadingStatements::conditional_at))]
-    fn conditional(&mut self, inside: bool, levels: u32) -> Result<Statement<'a>, ReadError>
+    fn conditional(&mut self, inside: bool, levels: u32) -> Read<Statement<'a>>
         ensures read { Gives statement_of result (lexemes self.new.rest.now)
             (conditional_at (expr_at levels) (stmt_at inside levels) (lexemes self.old.rest.now)) }
         ensures shorter { OnOk result (length self.new.rest.now < length self.old.rest.now) }
@@ -242,7 +242,7 @@ impl<'a> Parser<'_, 'a> {
     // A condition, or what a `foreach` goes over, and the statements behind it.
     #[cycle(statement)]
     #[tactic(auto, unfolding(crate::specs::ReadingStatements::branch_at))]
-    fn branch(&mut self, inside: bool, levels: u32) -> Result<Branch<'a>, ReadError>
+    fn branch(&mut self, inside: bool, levels: u32) -> Read<Branch<'a>>
         ensures read { Gives branch_of result (lexemes self.new.rest.now)
             (branch_at (expr_at levels) (stmt_at inside levels) (lexemes self.old.rest.now)) }
         ensures shorter { OnOk result (length self.new.rest.now < length self.old.rest.now) }
@@ -260,7 +260,7 @@ impl<'a> Parser<'_, 'a> {
 
     // The parts of an `if` that have a condition.
     #[cycle(statement)]
-    fn parts(&mut self, inside: bool, levels: u32) -> Result<Vec<Branch<'a>>, ReadError>
+    fn parts(&mut self, inside: bool, levels: u32) -> Read<Vec<Branch<'a>>>
         ensures read { Gives (λ v. map branch_of v.items) result (lexemes self.new.rest.now)
             (parts_at (expr_at levels) (stmt_at inside levels) (lexemes self.old.rest.now)) }
         ensures shorter { OnOk result (length self.new.rest.now < length self.old.rest.now) }
@@ -279,7 +279,7 @@ impl<'a> Parser<'_, 'a> {
     // What stands behind `else`, or nothing.
     #[cycle(statement)]
     #[tactic(auto, using(crate::proofs::StatementTails::otherwise_cases), unfolding(crate::specs::ReadingStatements::last_part_at))]
-    fn otherwise(&mut self, inside: bool, levels: u32) -> Result<Vec<Statement<'a>>, ReadError>
+    fn otherwise(&mut self, inside: bool, levels: u32) -> Read<Vec<Statement<'a>>>
         ensures read { Gives (λ v. map statement_of v.items) result (lexemes self.new.rest.now)
             (otherwise_at (stmt_at inside levels) (lexemes self.old.rest.now)) }
         ensures shorter { OnOk result (length self.new.rest.now ≤ length self.old.rest.now) }
@@ -294,7 +294,7 @@ impl<'a> Parser<'_, 'a> {
 
     // The statements up to the next part or the end of a block.
     #[cycle(statement)]
-    fn body(&mut self, inside: bool, levels: u32) -> Result<Vec<Statement<'a>>, ReadError>
+    fn body(&mut self, inside: bool, levels: u32) -> Read<Vec<Statement<'a>>>
         ensures read { Gives (λ v. map statement_of v.items) result (lexemes self.new.rest.now)
             (body_at (stmt_at inside levels) (lexemes self.old.rest.now)) }
         ensures shorter { OnOk result (length self.new.rest.now ≤ length self.old.rest.now) }
@@ -315,7 +315,7 @@ impl<'a> Parser<'_, 'a> {
         inside: bool,
         levels: u32,
         statements: &mut Vec<Statement<'a>>,
-    ) -> Result<(), ReadError>
+    ) -> Read<()>
         ensures read { GivesLine (map statement_of statements.old.items) (map statement_of statements.new.items) result
             (lexemes self.new.rest.now) (maybe_at (stmt_at inside levels) (lexemes self.old.rest.now)) }
         ensures shorter { OnOk result (length self.new.rest.now ≤ length self.old.rest.now) }
