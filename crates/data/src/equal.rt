@@ -1,7 +1,6 @@
 //! Equality by structure.
 
 ghost use Rattle.std.specs.Prelude.{◌≡◌, ◌↔◌, IsTrue};
-ghost use Rattle.data.specs.Data.{keys_in};
 ghost use Rattle.data.specs.Same.{same};
 ghost use Rattle.data.specs.View.{data_of, items_of};
 ghost use Rattle.data.specs.declared.object.Object.TheVariants.{CustomTarget, CustomOutput, File};
@@ -41,7 +40,8 @@ fn are_equal(value: &Value, other: &Value) -> bool
         },
         Value::Dictionary(dictionary) => match other {
             Value::Dictionary(other) => {
-                equal_keys(dictionary, other) && equal_items(dictionary.values(), other.values())
+                equal_texts(dictionary.keys(), other.keys())
+                    && equal_items(dictionary.values(), other.values())
             }
             _ => false,
         },
@@ -61,20 +61,6 @@ fn equal_items(items: &[Value], others: &[Value]) -> bool
     }
     for (i, item) in items.iter().enumerate() {
         if !are_equal(item, &others[i]) {
-            return false;
-        }
-    }
-    true
-}
-
-fn equal_keys(dictionary: &Dictionary, other: &Dictionary) -> bool
-    ensures { IsTrue result ↔ (keys_in dictionary.now ≡ keys_in other.now) }
-{
-    if dictionary.len() != other.len() {
-        return false;
-    }
-    for i in 0..dictionary.len() {
-        if dictionary.key(i) != other.key(i) {
             return false;
         }
     }

@@ -10,12 +10,10 @@ use Rattle.data.specs.Data.{Data, boolean, integer, text, list, dictionary, obje
 -- no object, and nothing that holds one
 abbrev mutual
   pub is_printable : Data → Bool
-  is_printable (boolean b) = true
-  is_printable (integer z) = true
-  is_printable (text t) = true
   is_printable (list ds) = are_printable ds
   is_printable (dictionary es) = are_entries_printable es
   is_printable (object o) = false
+  is_printable _ = true
 
   pub are_printable : Items → Bool
   are_printable no_items = true

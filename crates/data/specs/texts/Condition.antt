@@ -8,12 +8,12 @@ use Rattle.data.specs.texts.Version.{version_order}
 
 -- whether a relation allows the order in which two versions stand
 abbrev pub allows : Relation → Ordering → Bool
-allows relation.AtLeast order = is_ge order
-allows relation.AtMost order = is_le order
-allows relation.NotEqual order = is_ne order
-allows relation.Equal order = is_eq order
-allows relation.Above order = is_gt order
-allows relation.Below order = is_lt order
+allows relation.AtLeast = is_ge
+allows relation.AtMost = is_le
+allows relation.NotEqual = is_ne
+allows relation.Equal = is_eq
+allows relation.Above = is_gt
+allows relation.Below = is_lt
 
 abbrev pub begins_with : List ℕ → List ℕ → Bool
 begins_with bytes sign = bytes_eq (take (length sign) bytes) sign

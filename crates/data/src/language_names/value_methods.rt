@@ -1,8 +1,7 @@
 //! The methods of values by their names, for each type of the page "Reference manual".
 ghost use Rattle.std.specs.Prelude.{◌≡◌};
 ghost use Rattle.data.specs.language_names.ValueMethods.{boolean_method_named, dictionary_method_named, integer_method_named};
-ghost use Rattle.data.specs.language_names.ValueMethods.{list_method_named};
-ghost use Rattle.data.specs.language_names.ValueMethods.{text_method_named};
+ghost use Rattle.data.specs.language_names.ValueMethods.{list_method_named, text_method_named};
 
 /// A method of booleans.
 #[derive(Clone, Copy)]

@@ -14,22 +14,24 @@ pub equal_items-are_equal-requires : goal.equal_items-are_equal-requires
 equal_items-are_equal-requires t c =
     (omega (arith, c.decreases, weight-le-items_weight c.args.items.now c.loop-i.i c.index-items-i.result c.loop-i-test.true, ap (λ v. weight (data_of v)) c.index-items-i.is), tt)
 
-pub are_equal-equal_items-requires-then-equal_keys : goal.are_equal-equal_items-requires-then-equal_keys
-are_equal-equal_items-requires-then-equal_keys t c =
+pub are_equal-equal_items-requires-then-equal_texts : goal.are_equal-equal_items-requires-then-equal_texts
+are_equal-equal_items-requires-then-equal_texts t c =
     let es = c.in-Dictionary.dictionary.value in
-    let values : items_weight (items_of c.values.result.now) ≡ items_weight (entry_values es) = ap items_weight c.values.ensures.values ∙ ap (λ x. items_weight (entry_values x)) c.deref-then-equal_keys.ensures in
+    let values : items_weight (items_of c.values.result.now) ≡ items_weight (entry_values es) = ap items_weight c.values.ensures.values ∙ ap (λ x. items_weight (entry_values x)) c.deref-then-equal_texts.ensures in
     let whole : weight (data_of c.args.value.now) ≡ entries_weight es + 1 = ap (λ v. weight (data_of v)) c.in-Dictionary.is in
     (omega (arith, c.decreases, whole, values, items_weight-le-entries_weight es), tt)
 
-pub are_equal-returns-then-equal_keys : goal.are_equal-returns-then-equal_keys
-are_equal-returns-then-equal_keys t c =
+pub are_equal-returns-then-equal_texts : goal.are_equal-returns-then-equal_texts
+are_equal-returns-then-equal_texts t c =
     let es = c.in-Dictionary.dictionary.value in
     let fs = c.in-Dictionary-other.other.value in
-    let keys : keys_in es ≡ keys_in fs = ap keys_in (sym c.deref-in-Dictionary-other.ensures) ∙ c.equal_keys.ensures.0 c.if-equal_keys.true ∙ ap keys_in c.deref-in-Dictionary-other-2.ensures in
-    let left : items_of c.values.result.now ≡ entry_values es = c.values.ensures.values ∙ ap entry_values c.deref-then-equal_keys.ensures in
-    let right : items_of c.values-then-equal_keys.result.now ≡ entry_values fs = c.values-then-equal_keys.ensures.values ∙ ap entry_values c.deref-then-equal_keys-2.ensures in
+    let mine : c.keys.result.now ≡ keys_in es = c.keys.ensures ∙ ap keys_in c.deref-in-Dictionary-other.ensures in
+    let others : c.keys-in-Dictionary-other.result.now ≡ keys_in fs = c.keys-in-Dictionary-other.ensures ∙ ap keys_in c.deref-in-Dictionary-other-2.ensures in
+    let keys : keys_in es ≡ keys_in fs = sym mine ∙ c.equal_texts.ensures.0 c.if-equal_texts.true ∙ others in
+    let left : items_of c.values.result.now ≡ entry_values es = c.values.ensures.values ∙ ap entry_values c.deref-then-equal_texts.ensures in
+    let right : items_of c.values-then-equal_texts.result.now ≡ entry_values fs = c.values-then-equal_texts.ensures.values ∙ ap entry_values c.deref-then-equal_texts-2.ensures in
     let is : data_of c.args.value.now ≡ dictionary es = ap data_of c.in-Dictionary.is in
     let is' : data_of c.args.other.now ≡ dictionary fs = ap data_of c.in-Dictionary-other.is in (
-      λ h. is ∙ ap dictionary (entries_from es fs keys (sym left ∙ c.equal_items-then-equal_keys.ensures.0 h ∙ right)) ∙ sym is',
-      λ e. c.equal_items-then-equal_keys.ensures.1 (left ∙ ap entry_values (dictionary_inj es fs (sym is ∙ e ∙ is')) ∙ sym right),
+      λ h. is ∙ ap dictionary (entries_from es fs keys (sym left ∙ c.equal_items-then-equal_texts.ensures.0 h ∙ right)) ∙ sym is',
+      λ e. c.equal_items-then-equal_texts.ensures.1 (left ∙ ap entry_values (dictionary_inj es fs (sym is ∙ e ∙ is')) ∙ sym right),
     )
