@@ -5,6 +5,7 @@ use Rattle.grammar.specs.Tree.{StatementTree, BranchTree}
 use Rattle.code.specs.declared.file_draft.FileDraft.{FileDraft}
 use Rattle.code.specs.declared.node.BranchNode.{BranchNode}
 use Rattle.code.specs.Draft.{IsFront, Grows, trees_in}
+use Rattle.code.specs.Nodes.{are_below}
 use Rattle.code.specs.Statements.{statement_at, statement_trees, branch_at, branch_within}
 
 -- the trees of a draft's statements
@@ -23,7 +24,7 @@ pub record IsStatement (d : FileDraft) (i : ℕ) (s : StatementTree) : Type 0 wh
 
 -- these statements are there, and are what is wanted
 pub record AreStatements (d : FileDraft) (numbers : List ℕ) (wanted : List StatementTree) : Type 0 where
-  pub within : IsTrue (list_all (λ i. nat_lt i (length (statements_in d))) numbers)
+  pub within : IsTrue (are_below (length (statements_in d)) numbers)
   pub are : map (statement_at (statements_in d)) numbers ≡ wanted
 
 -- the conditions and statements of these parts of an `if` are there, and are what is wanted

@@ -53,6 +53,10 @@ trees names nodes = fold (with_node names) [] nodes
 
 -- ---- Tests: all parts are among the first n nodes, and a name among the first k names.
 
+-- each of these numbers is below n
+abbrev pub are_below : ℕ → List ℕ → Bool
+are_below n numbers = list_all (λ i. nat_lt i n) numbers
+
 abbrev pub entry_within : ℕ → EntryNode → Bool
 entry_within n e = nat_lt e.key n && nat_lt e.value n
 
@@ -69,7 +73,7 @@ link_within n (Index i) = nat_lt i n
 abbrev pub within : ℕ → ℕ → Node → Bool
 within k n (flat.Name number line) = nat_lt number k
 within k n (flat.Literal line node) = true
-within k n (flat.List items line) = list_all (λ i. nat_lt i n) items.items
+within k n (flat.List items line) = are_below n items.items
 within k n (flat.Dictionary es line) = list_all (entry_within n) es.items
 within k n (flat.Call call line) = list_all (argument_within n) call.value.arguments.items
 within k n (flat.Postfix first ls line) = nat_lt first n && list_all (link_within n) ls.items

@@ -8,7 +8,7 @@ use Rattle.grammar.specs.Tree.{statements, branches}
 use Rattle.code.specs.declared.node.StatementNode.{StatementNode}
 use Rattle.code.specs.declared.node.StatementNode.TheVariants as flat
 use Rattle.code.specs.declared.node.BranchNode.{BranchNode}
-use Rattle.code.specs.Nodes.{tree_at}
+use Rattle.code.specs.Nodes.{are_below, tree_at}
 
 -- the name with a number; there is always one
 abbrev pub name_at : List (List ℕ) → ℕ → List ℕ
@@ -50,7 +50,7 @@ set_node false name line value = flat.Assign name line value
 -- ---- Tests: all parts are among the first n statements, expressions among the first m, names among the first k.
 
 abbrev pub branch_within : ℕ → ℕ → BranchNode → Bool
-branch_within m n b = nat_lt b.condition m && list_all (λ i. nat_lt i n) b.body.items
+branch_within m n b = nat_lt b.condition m && are_below n b.body.items
 
 -- a name, where there is one
 abbrev pub second_within : ℕ → Option ℕ → Bool
@@ -63,10 +63,10 @@ statement_within k m n (flat.Append name line value) = nat_lt name k && nat_lt v
 statement_within k m n (flat.Expression value line) = nat_lt value m
 statement_within k m n (flat.Break line) = true
 statement_within k m n (flat.Continue line) = true
-statement_within k m n (flat.If node) = list_all (branch_within m n) node.value.branches.items && list_all (λ i. nat_lt i n)
-    node.value.otherwise.items
+statement_within k m n (flat.If node) = list_all (branch_within m n) node.value.branches.items
+    && are_below n node.value.otherwise.items
 statement_within k m n (flat.Foreach node) = nat_lt node.value.first k && (second_within k node.value.second
-    && (nat_lt node.value.list m && list_all (λ i. nat_lt i n) node.value.body.items))
+    && (nat_lt node.value.list m && are_below n node.value.body.items))
 
 -- each statement stands after its parts, where the first of these has the number n
 abbrev pub all_placed : ℕ → ℕ → ℕ → List StatementNode → Bool

@@ -1,7 +1,6 @@
 //! The code of a file.
-ghost use Rattle.std.specs.Prelude.{IsTrue, length, nat_lt};
-ghost use Rattle.std.specs.List.{list_all};
-ghost use Rattle.code.specs.Nodes.{all_within};
+ghost use Rattle.std.specs.Prelude.{IsTrue, length};
+ghost use Rattle.code.specs.Nodes.{all_within, are_below};
 ghost use Rattle.code.specs.Statements.{all_placed};
 
 use crate::node::{Node, StatementNode};
@@ -18,5 +17,5 @@ pub struct Code {
     pub names: usize,
     pub ghost ordered: { IsTrue (all_within names 0 nodes.items) },
     pub ghost placed: { IsTrue (all_placed names (length nodes.items) 0 statements.items) },
-    pub ghost whole: { IsTrue (list_all (λ i. nat_lt i (length statements.items)) body.items) },
+    pub ghost whole: { IsTrue (are_below (length statements.items) body.items) },
 }

@@ -1,10 +1,10 @@
 //! Statements, made flat.
-ghost use Rattle.std.specs.Prelude.{◌≡◌, IsTrue, IfOk, map, length, nat_lt};
-ghost use Rattle.std.specs.List.{list_all};
+ghost use Rattle.std.specs.Prelude.{◌≡◌, IsTrue, IfOk, map, length};
 ghost use Rattle.std.specs.Option.{option_map};
 ghost use Rattle.grammar.specs.ExpressionTree.{expression_of};
 ghost use Rattle.grammar.specs.ReadingStatements.{set_tree};
 ghost use Rattle.grammar.specs.Tree.{ValueTree, ForeachTree, IfTree, statement_of, branch_of, branches as branch_trees, statements};
+ghost use Rattle.code.specs.Nodes.{are_below};
 ghost use Rattle.code.specs.Statements.{statement_at, name_at, second_within, set_node};
 
 use crate::file_draft::FileDraft;
@@ -88,7 +88,7 @@ impl FileDraft {
         list_line: usize,
         body: Vec<usize>,
     ) -> Result<usize, AllocError>
-        requires { IsTrue (list_all (λ i. nat_lt i (length (statements_in self.old))) body.items) }
+        requires { IsTrue (are_below (length (statements_in self.old)) body.items) }
         ensures extends { Extends self.old self.new }
         ensures is { IfOk result (λ i. IsStatement self.new i
             (ForeachTree line first.now (option_map (λ n. n.now) second.entry) (expression_of list.now) list_line
