@@ -12,12 +12,11 @@ use crate::operators::lists::{append, append_all, merge};
 use crate::operators::logic::negation;
 use crate::operators::membership::{absence, membership};
 use crate::operators::operator::{Binary, Unary};
-use crate::operators::relations::{
-    equality, inequality, is_greater, is_greater_or_equal, is_less, is_less_or_equal,
-};
+use crate::operators::relations::{equality, inequality, order};
 use crate::operators::text_sums::{concatenate, path_text};
 use data::{Refusal, Value};
 use std::alloc::{AllocError, Global};
+use std::cmp::Ordering;
 
 /// What an operator gives for one operand, or E6 for a wrong type and E7 for an integer out of range.
 pub fn unary(operator: Unary, operand: Value) -> Result<Value, Refusal>
@@ -90,10 +89,10 @@ fn examined(
         Binary::Divide => quotient(alloc, left, right),
         Binary::Equal => Ok(boolean(equality(left, right))),
         Binary::NotEqual => Ok(boolean(inequality(left, right))),
-        Binary::Less => Ok(boolean(is_less(left, right))),
-        Binary::LessOrEqual => Ok(boolean(is_less_or_equal(left, right))),
-        Binary::Greater => Ok(boolean(is_greater(left, right))),
-        Binary::GreaterOrEqual => Ok(boolean(is_greater_or_equal(left, right))),
+        Binary::Less => Ok(boolean(order(left, right).map(Ordering::is_lt))),
+        Binary::LessOrEqual => Ok(boolean(order(left, right).map(Ordering::is_le))),
+        Binary::Greater => Ok(boolean(order(left, right).map(Ordering::is_gt))),
+        Binary::GreaterOrEqual => Ok(boolean(order(left, right).map(Ordering::is_ge))),
         Binary::In => Ok(boolean(membership(left, right))),
         Binary::NotIn => Ok(boolean(absence(left, right))),
     }

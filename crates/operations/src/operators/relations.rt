@@ -1,7 +1,6 @@
 //! Equality and order.
 
 ghost use Rattle.std.specs.Prelude.{◌≡◌, false, not, option_map};
-ghost use Rattle.std.specs.Ordering.{is_lt, is_le, is_gt, is_ge};
 ghost use Rattle.data.specs.Prelude.{data_of};
 ghost use Rattle.operations.specs.operators.Operations.{are_integers};
 ghost use Rattle.operations.specs.operators.Types.{is_one_kind, is_one_type};
@@ -28,40 +27,8 @@ pub fn inequality(left: &Value, right: &Value) -> Option<bool>
     Some(!equality(left, right)?)
 }
 
-/// Whether a text is below another.
-pub fn is_less(left: &Value, right: &Value) -> Option<bool>
-    requires { are_integers (data_of left.now) (data_of right.now) ≡ false }
-    ensures { result ≡ option_map is_lt (order_row (data_of left.now) (data_of right.now)) }
-{
-    Some(order(left, right)?.is_lt())
-}
-
-/// Whether a text is not above another.
-pub fn is_less_or_equal(left: &Value, right: &Value) -> Option<bool>
-    requires { are_integers (data_of left.now) (data_of right.now) ≡ false }
-    ensures { result ≡ option_map is_le (order_row (data_of left.now) (data_of right.now)) }
-{
-    Some(order(left, right)?.is_le())
-}
-
-/// Whether a text is above another.
-pub fn is_greater(left: &Value, right: &Value) -> Option<bool>
-    requires { are_integers (data_of left.now) (data_of right.now) ≡ false }
-    ensures { result ≡ option_map is_gt (order_row (data_of left.now) (data_of right.now)) }
-{
-    Some(order(left, right)?.is_gt())
-}
-
-/// Whether a text is not below another.
-pub fn is_greater_or_equal(left: &Value, right: &Value) -> Option<bool>
-    requires { are_integers (data_of left.now) (data_of right.now) ≡ false }
-    ensures { result ≡ option_map is_ge (order_row (data_of left.now) (data_of right.now)) }
-{
-    Some(order(left, right)?.is_ge())
-}
-
-// How two texts are ordered, by their bytes. Two integers are told before.
-fn order(left: &Value, right: &Value) -> Option<Ordering>
+/// How two texts are ordered, by their bytes. Two integers are told before.
+pub fn order(left: &Value, right: &Value) -> Option<Ordering>
     requires { are_integers (data_of left.now) (data_of right.now) ≡ false }
     ensures { result ≡ order_row (data_of left.now) (data_of right.now) }
 {
