@@ -173,15 +173,7 @@ fn equal_programs(program: &Program, other: &Program) -> bool
 fn equal_texts(texts: &[Text], others: &[Text]) -> bool
     ensures { IsTrue result ↔ (texts.now ≡ others.now) }
 {
-    if texts.len() != others.len() {
-        return false;
-    }
-    for (i, text) in texts.iter().enumerate() {
-        if text.as_str() != others[i].as_str() {
-            return false;
-        }
-    }
-    true
+    texts == others
 }
 
 fn equal_sources(sources: &[Source], others: &[Source]) -> bool
