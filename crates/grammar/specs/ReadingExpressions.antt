@@ -1,5 +1,5 @@
 -- Reading expressions, as functions.
-use Rattle.std.specs.Prelude.{ℕ, zero, suc, Bool, true, false, cond, if◌then◌else◌, List, length, Ok, Option, Some, None}
+use Rattle.std.specs.Prelude.{ℕ, zero, suc, Bool, true, false, cond, ◌||◌, if◌then◌else◌, List, length, Ok, Option, Some, None}
 use Rattle.std.specs.Option.{option_map, option_to_list}
 use Rattle.lexer.specs.Lexeme.{Lexeme}
 use Rattle.lexer.specs.Kinds.{is}
@@ -162,13 +162,8 @@ single_at ts = or_at (begins Kinds.Name) name_at literal_at ts
 
 -- kinds that go on with no expression: an element, an argument, an entry or a statement ends before them
 abbrev pub ends_expression : Kind → Bool
-ends_expression Kinds.Comma = true
-ends_expression Kinds.CloseParenthesis = true
-ends_expression Kinds.CloseBracket = true
-ends_expression Kinds.CloseBrace = true
-ends_expression Kinds.Colon = true
-ends_expression Kinds.Newline = true
-ends_expression _ = false
+ends_expression k = is k Kinds.Comma || (is k Kinds.Colon || (is k Kinds.Newline || (is k Kinds.CloseParenthesis
+    || (is k Kinds.CloseBracket || is k Kinds.CloseBrace))))
 
 -- ---- arguments
 
