@@ -14,41 +14,48 @@ use Rattle.data.specs.declared.language_names.value_methods.DictionaryMethod.The
 use Rattle.data.specs.declared.language_names.value_methods.TextMethod.{TextMethod}
 use Rattle.data.specs.declared.language_names.value_methods.TextMethod.TheVariants as of_text
 
+-- what many methods take
+abbrev pub nothing : List ℕ
+nothing = codes "no arguments"
+
+abbrev pub one_text : List ℕ
+one_text = codes "one text"
+
 abbrev pub boolean_takes : BooleanMethod → List ℕ
-boolean_takes of_boolean.ToInt = codes "no arguments"
+boolean_takes of_boolean.ToInt = nothing
 boolean_takes of_boolean.ToString = codes "no arguments, or two texts"
 
 abbrev pub integer_takes : IntegerMethod → List ℕ
-integer_takes of_integer.IsEven = codes "no arguments"
-integer_takes of_integer.IsOdd = codes "no arguments"
-integer_takes of_integer.ToString = codes "no arguments"
+integer_takes of_integer.IsEven = nothing
+integer_takes of_integer.IsOdd = nothing
+integer_takes of_integer.ToString = nothing
 
 abbrev pub list_takes : ListMethod → List ℕ
 list_takes of_list.Contains = codes "one value"
 list_takes of_list.Get = codes "an integer, or an integer and a value in its place"
-list_takes of_list.Length = codes "no arguments"
+list_takes of_list.Length = nothing
 
 abbrev pub dictionary_takes : DictionaryMethod → List ℕ
 dictionary_takes of_dictionary.Get = codes "a text, or a text and a value in its place"
-dictionary_takes of_dictionary.HasKey = codes "one text"
-dictionary_takes of_dictionary.Keys = codes "no arguments"
+dictionary_takes of_dictionary.HasKey = one_text
+dictionary_takes of_dictionary.Keys = nothing
 
 abbrev pub text_takes : TextMethod → List ℕ
-text_takes of_text.Contains = codes "one text"
-text_takes of_text.StartsWith = codes "one text"
-text_takes of_text.EndsWith = codes "one text"
+text_takes of_text.Contains = one_text
+text_takes of_text.StartsWith = one_text
+text_takes of_text.EndsWith = one_text
 text_takes of_text.Format = codes "values that are no objects and hold none"
 text_takes of_text.Join = codes "texts and lists of texts"
 text_takes of_text.Replace = codes "two texts, of which the first is not empty"
 text_takes of_text.Split = codes "no arguments, or one text that is not empty"
-text_takes of_text.SplitLines = codes "no arguments"
+text_takes of_text.SplitLines = nothing
 text_takes of_text.Strip = codes "no arguments, or one text"
 text_takes of_text.Substring = codes "at most two integers"
 text_takes of_text.ToInt = codes "no arguments, of a text that is an integer"
-text_takes of_text.ToLower = codes "no arguments"
-text_takes of_text.ToUpper = codes "no arguments"
-text_takes of_text.Underscorify = codes "no arguments"
-text_takes of_text.VersionCompare = codes "one text"
+text_takes of_text.ToLower = nothing
+text_takes of_text.ToUpper = nothing
+text_takes of_text.Underscorify = nothing
+text_takes of_text.VersionCompare = one_text
 
 -- the words of a method, where there is one
 abbrev pub words_of : {A : Type 0} → (A → List ℕ) → Option A → List ℕ
