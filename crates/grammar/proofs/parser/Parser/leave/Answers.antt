@@ -1,7 +1,6 @@
 use Rattle.std.proofs.Common.{◌≡◌, sym}
 use Rattle.std.proofs.lemmas.Result.{err_from_is_err_and}
 use Rattle.lexer.specs.Lexeme.{lexemes}
-use Rattle.grammar.specs.Reading.{Fails, token_at}
 use Rattle.grammar.specs.ReadingStatements.{leave_tree, leave_word}
 use Rattle.grammar.proofs.StatementTails.{leave_fails}
 use Rattle.grammar.proofs.parser.Parser.leave.Goals.{then-ends, else-ends}
