@@ -14,7 +14,7 @@ use Rattle.targets.specs.Files.{is_library}
 use Rattle.targets.specs.Sources.{brought, listed, generated}
 use Rattle.targets.specs.target_edges.Parts.{front_words, shared_held, options_held, includes_held, arguments_held, words_held}
 use Rattle.targets.specs.target_edges.Parts.{compiles_held}
-use Rattle.targets.specs.target_edges.Words.{word_if, include_words, includes, standard_words, optimization_words, warning_words}
+use Rattle.targets.specs.target_edges.Words.{word_if, include_words, includes, value_words, warning_words}
 use Rattle.targets.specs.target_edges.Words.{option_words, argument_words, compile_words}
 use Rattle.targets.proofs.Holding.{and_true}
 
@@ -101,16 +101,10 @@ word_held : (b : Bool) (w : Text) → value_held w ≡ true → all_held (word_i
 word_held false w h = refl
 word_held true w h = rw h refl
 
-standard_held : (standard : Text) → all_held (standard_words standard) ≡ value_held standard
-standard_held standard = elim (cases_Bool (bytes_eq standard (codes "none"))) [
-  | inl e ↦ ap (λ b. all_held (if b then [] else (codes "-std=" ++ standard) ∷ [])) e ∙ sym (ap value_held ((bytes_eq-Decides standard (codes "none")).0 e))
-  | inr e ↦ ap (λ b. all_held (if b then [] else (codes "-std=" ++ standard) ∷ [])) e ∙ and_true (value_held standard)
-]
-
-optimization_held : (level : Text) → all_held (optimization_words level) ≡ value_held level
-optimization_held level = elim (cases_Bool (bytes_eq level (codes "plain"))) [
-  | inl e ↦ ap (λ b. all_held (if b then [] else (codes "-O" ++ level) ∷ [])) e ∙ sym (ap value_held ((bytes_eq-Decides level (codes "plain")).0 e))
-  | inr e ↦ ap (λ b. all_held (if b then [] else (codes "-O" ++ level) ∷ [])) e ∙ and_true (value_held level)
+value_words_held : (front value none : Text) → value_held none ≡ true → value_held (front ++ value) ≡ value_held value → all_held (value_words front value none) ≡ value_held value
+value_words_held front value none none_held front_held = elim (cases_Bool (bytes_eq value none)) [
+  | inl e ↦ ap (λ b. all_held (if b then [] else (front ++ value) ∷ [])) e ∙ sym (ap value_held ((bytes_eq-Decides value none).0 e) ∙ none_held)
+  | inr e ↦ ap (λ b. all_held (if b then [] else (front ++ value) ∷ [])) e ∙ (and_true (value_held (front ++ value)) ∙ front_held)
 ]
 
 behind_true : (xs ys : List Text) → all_held xs ≡ true → all_held (xs ++ ys) ≡ all_held ys
@@ -128,16 +122,17 @@ warnings_held level =
 options_are : (f : FlagsData) → all_held (option_words f) ≡ options_held f
 options_are f =
     let debug = word_if f.is_debug (codes "-g") in
-    let behind = optimization_words f.optimization ++ debug in
-    let standard = standard_words f.c_std in
+    let optimization = value_words (codes "-O") f.optimization (codes "plain") in
+    let behind = optimization ++ debug in
+    let standard = value_words (codes "-std=") f.c_std (codes "none") in
     let errors = word_if f.is_werror (codes "-Werror") in
     behind_true (warning_words f.warning_level) (errors ++ (standard ++ behind)) (warnings_held f.warning_level)
     ∙ behind_true errors (standard ++ behind) (word_held f.is_werror (codes "-Werror") refl)
     ∙ list_all-append value_held standard behind
-    ∙ ap (λ b. b && all_held behind) (standard_held f.c_std)
+    ∙ ap (λ b. b && all_held behind) (value_words_held (codes "-std=") f.c_std (codes "none") refl refl)
     ∙ ap (λ b. value_held f.c_std && b)
-    (list_all-append value_held (optimization_words f.optimization) debug
-    ∙ ap (λ b. b && all_held debug) (optimization_held f.optimization)
+    (list_all-append value_held optimization debug
+    ∙ ap (λ b. b && all_held debug) (value_words_held (codes "-O") f.optimization (codes "plain") refl refl)
     ∙ ap (λ b. value_held f.optimization && b) (word_held f.is_debug (codes "-g") refl)
     ∙ and_true (value_held f.optimization))
 

@@ -1,4 +1,5 @@
 /// What edges take from the options.
+#[derive(Drop)]
 pub struct Flags {
     /// `warning_level`, 0 to 3.
     pub warning_level: usize,
@@ -14,20 +15,6 @@ pub struct Flags {
     pub c_link_args: Vec<String>,
 }
 
-impl Drop for Flags {
-    fn drop(self) {
-        let Flags {
-            warning_level: _,
-            is_werror: _,
-            c_std: _,
-            optimization: _,
-            is_debug: _,
-            c_args: _,
-            c_link_args: _,
-        } = self;
-    }
-}
-
 /// The type of an option (the manual's page "Build options").
 #[derive(Clone, Copy)]
 pub enum OptionType {
@@ -40,6 +27,7 @@ pub enum OptionType {
 }
 
 /// The value of an option.
+#[derive(Drop)]
 pub enum OptionValue {
     Text(String),
     Boolean(bool),
@@ -47,32 +35,12 @@ pub enum OptionValue {
     Texts(Vec<String>),
 }
 
-impl Drop for OptionValue {
-    fn drop(self) {
-        match self {
-            OptionValue::Text(_) => {}
-            OptionValue::Boolean(_) => {}
-            OptionValue::Integer(_) => {}
-            OptionValue::Texts(_) => {}
-        }
-    }
-}
-
 /// An option as it is listed.
+#[derive(Drop)]
 pub struct OptionEntry {
     pub name: String,
     pub kind: OptionType,
     pub value: OptionValue,
-}
-
-impl Drop for OptionEntry {
-    fn drop(self) {
-        let OptionEntry {
-            name: _,
-            kind: _,
-            value: _,
-        } = self;
-    }
 }
 
 /// What `project`, the options and the machine file say of a project.
@@ -113,18 +81,9 @@ impl Drop for Facts {
 }
 
 /// What edges take from the project: its facts, and the words of `add_project_arguments` and `add_project_link_arguments`.
+#[derive(Drop)]
 pub struct Surroundings {
     pub facts: Facts,
     pub arguments: Vec<String>,
     pub link_arguments: Vec<String>,
-}
-
-impl Drop for Surroundings {
-    fn drop(self) {
-        let Surroundings {
-            facts: _,
-            arguments: _,
-            link_arguments: _,
-        } = self;
-    }
 }

@@ -8,7 +8,7 @@ ghost use Rattle.targets.specs.Files.{numbered_names, link_names, link_paths, ou
 ghost use Rattle.targets.specs.Inputs.{input_view};
 ghost use Rattle.targets.specs.View.{build_view, custom_view};
 
-use crate::edge::object_path;
+use crate::edge::{lent_text, object_path};
 use crate::sources::Input;
 use crate::target::{BuildTarget, CustomTarget, Kind};
 use paths::path_in;
@@ -43,10 +43,7 @@ fn so_number(target: &BuildTarget) -> Option<&str>
 {
     match &target.soversion {
         Some(number) => Some(number.as_str()),
-        None => match &target.version {
-            Some(version) => Some(first_number(version)),
-            None => None,
-        },
+        None => Some(first_number(target.version.as_ref()?)),
     }
 }
 
@@ -57,10 +54,7 @@ fn file_number(target: &BuildTarget) -> Option<&str>
 {
     match &target.version {
         Some(version) => Some(version.as_str()),
-        None => match &target.soversion {
-            Some(number) => Some(number.as_str()),
-            None => None,
-        },
+        None => lent_text(&target.soversion),
     }
 }
 

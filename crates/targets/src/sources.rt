@@ -63,33 +63,26 @@ fn push_made(inputs: &mut Vec<Input>, paths: &[String]) -> Result<(), AllocError
     Ok(())
 }
 
-fn push_source(
-    inputs: &mut Vec<Input>,
-    alloc: Global,
-    depth: usize,
-    source: &Source,
-) -> Result<(), AllocError>
+fn push_source(inputs: &mut Vec<Input>, depth: usize, source: &Source) -> Result<(), AllocError>
     ensures { IfOk result (λ _. map input_view inputs.new.items
         ≡ map input_view inputs.old.items ++ c_inputs_in depth (source_view source.now)) }
 {
     match source {
-        Source::Tree(path) => push_input(inputs, source_path(alloc, depth, path)?, path.clone()?),
+        Source::Tree(path) => {
+            let seen = source_path(*inputs.allocator(), depth, path)?;
+            push_input(inputs, seen, path.clone()?)
+        }
         Source::Built(path) => push_input(inputs, path.clone()?, path.clone()?),
         Source::Made(paths) => push_made(inputs, paths),
     }
 }
 
-fn push_sources(
-    inputs: &mut Vec<Input>,
-    alloc: Global,
-    depth: usize,
-    sources: &[Source],
-) -> Result<(), AllocError>
+fn push_sources(inputs: &mut Vec<Input>, depth: usize, sources: &[Source]) -> Result<(), AllocError>
     ensures { IfOk result (λ _. map input_view inputs.new.items
         ≡ map input_view inputs.old.items ++ flat_map (c_inputs_in depth) (map source_view sources.now)) }
 {
     for source in sources {
-        push_source(inputs, alloc, depth, source)?;
+        push_source(inputs, depth, source)?;
     }
     Ok(())
 }
@@ -118,9 +111,9 @@ fn all_inputs(alloc: Global, depth: usize, target: &BuildTarget) -> Result<Vec<I
         ++ flat_map (λ l. flat_map (c_inputs_in depth) (map source_view l.value.sources.items)) target.now.dependencies.items) }
 {
     let mut inputs = Vec::new(alloc);
-    push_sources(&mut inputs, alloc, depth, &target.own.sources)?;
+    push_sources(&mut inputs, depth, &target.own.sources)?;
     for lists in &target.dependencies {
-        push_sources(&mut inputs, alloc, depth, &lists.sources)?;
+        push_sources(&mut inputs, depth, &lists.sources)?;
     }
     Ok(inputs)
 }
@@ -233,17 +226,13 @@ pub fn has_foreign_source(target: &BuildTarget) -> bool
 
 // ---- paths
 
-fn push_paths(
-    paths: &mut Vec<String>,
-    alloc: Global,
-    depth: usize,
-    source: &Source,
-) -> Result<(), AllocError>
+fn push_paths(paths: &mut Vec<String>, depth: usize, source: &Source) -> Result<(), AllocError>
     ensures { IfOk result (λ _. texts paths.new.items ≡ texts paths.old.items ++ source_paths depth (source_view source.now)) }
 {
     match source {
         Source::Tree(path) => {
-            paths.push(source_path(alloc, depth, path)?)?;
+            let seen = source_path(*paths.allocator(), depth, path)?;
+            paths.push(seen)?;
             Ok(())
         }
         Source::Built(path) => {
@@ -264,7 +253,7 @@ pub fn source_paths(
 {
     let mut paths = Vec::new(alloc);
     for source in sources {
-        push_paths(&mut paths, alloc, depth, source)?;
+        push_paths(&mut paths, depth, source)?;
     }
     Ok(paths)
 }

@@ -41,6 +41,7 @@ impl Kind {
 }
 
 /// A source of a target.
+#[derive(Drop)]
 pub enum Source {
     /// A file of the tree, by its path there.
     Tree(String),
@@ -50,20 +51,11 @@ pub enum Source {
     Made(Rc<Vec<String>>),
 }
 
-impl Drop for Source {
-    fn drop(self) {
-        match self {
-            Source::Tree(_) => {}
-            Source::Built(_) => {}
-            Source::Made(_) => {}
-        }
-    }
-}
-
 /// What a build target lists of its own, or what one call of `declare_dependency` or `dependency` brings to the targets that name it.
 ///
 /// A dependency that names others is its own lists and then theirs, so it is a list of these, and whoever joins dependencies shares
 /// them.
+#[derive(Drop)]
 pub struct Lists {
     pub sources: Vec<Source>,
     /// Folders of the tree, `""` for its root.
@@ -72,18 +64,6 @@ pub struct Lists {
     pub link_args: Vec<String>,
     /// The numbers of libraries.
     pub link_with: Vec<usize>,
-}
-
-impl Drop for Lists {
-    fn drop(self) {
-        let Lists {
-            sources: _,
-            include_folders: _,
-            compile_args: _,
-            link_args: _,
-            link_with: _,
-        } = self;
-    }
 }
 
 /// An executable or a library (the Reference manual's `executable`, `static_library` and `shared_library`).

@@ -50,19 +50,11 @@ pub struct Heading<'a> {
 }
 
 /// The sections that have ended, and the one that the next line belongs to.
+#[derive(Drop)]
 pub struct Reading {
     pub ended: SipMap<String, Section>,
     pub current: Option<OpenSection>,
     ghost fresh: { ForSome current (λ o. is_some (get_by_text ended (string_bytes o.name)) ≡ false) },
-}
-
-impl Drop for Reading {
-    fn drop(self) {
-        let Reading {
-            ended: _,
-            current: _,
-        } = self;
-    }
 }
 
 impl Reading {

@@ -37,6 +37,7 @@ impl Drop for OptionKind {
 }
 
 /// A value that an option has. Options of each type have values of a form of their own, so the value tells the type.
+#[derive(Drop)]
 pub enum OptionValue {
     Text(String),
     Boolean(bool),
@@ -45,19 +46,6 @@ pub enum OptionValue {
     Integer(i64),
     Array(Vec<String>),
     Feature(FeatureState),
-}
-
-impl Drop for OptionValue {
-    fn drop(self) {
-        match self {
-            OptionValue::Text(_) => {}
-            OptionValue::Boolean(_) => {}
-            OptionValue::Combo(_) => {}
-            OptionValue::Integer(_) => {}
-            OptionValue::Array(_) => {}
-            OptionValue::Feature(_) => {}
-        }
-    }
 }
 
 /// What a feature option says of its feature.

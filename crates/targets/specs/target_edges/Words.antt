@@ -23,11 +23,9 @@ include_words depth folder = (codes "-I" ++ build_folder folder) ∷ (codes "-I"
 abbrev pub includes : ℕ → BuildData → List Text
 includes depth t = first_kept (include_words depth t.folder ++ flat_map (include_words depth) (listed (λ l. l.include_folders) t))
 
-abbrev pub standard_words : Text → List Text
-standard_words standard = if bytes_eq standard (codes "none") then [] else (codes "-std=" ++ standard) ∷ []
-
-abbrev pub optimization_words : Text → List Text
-optimization_words level = if bytes_eq level (codes "plain") then [] else (codes "-O" ++ level) ∷ []
+-- the word that begins with this front and ends with an option's value, unless the value is the one that asks for no word
+abbrev pub value_words : Text → Text → Text → List Text
+value_words front value none = if bytes_eq value none then [] else (front ++ value) ∷ []
 
 abbrev pub warning_words : ℕ → List Text
 warning_words level =
@@ -39,7 +37,8 @@ abbrev pub option_words : FlagsData → List Text
 option_words f =
     warning_words f.warning_level
     ++ (word_if f.is_werror (codes "-Werror")
-    ++ (standard_words f.c_std ++ (optimization_words f.optimization ++ word_if f.is_debug (codes "-g"))))
+    ++ (value_words (codes "-std=") f.c_std (codes "none")
+    ++ (value_words (codes "-O") f.optimization (codes "plain") ++ word_if f.is_debug (codes "-g"))))
 
 -- arguments of the project, of the dependencies, of the option `c_args`, of the target
 abbrev pub argument_words : SurroundingsData → BuildData → List Text

@@ -1,11 +1,13 @@
-ghost use Rattle.std.specs.Prelude.{◌≡◌, option_map, string_bytes};
+ghost use Rattle.std.specs.Prelude.{◌≡◌};
 
 use crate::edge::parts::LentEdge;
 use crate::edge::rule::Rule;
+use crate::edge::texts::lent_text;
 
 /// A build edge (the Ninja manual's "build statement"): outputs, and the command that makes them.
 ///
 /// All paths are seen from the build folder.
+#[derive(Drop)]
 pub struct Edge {
     pub rule: Rule,
     pub outputs: Vec<String>,
@@ -23,31 +25,6 @@ pub struct Edge {
     pub description: String,
     /// The file in which the compiler names what it has read.
     pub depfile: Option<String>,
-}
-
-impl Drop for Edge {
-    fn drop(self) {
-        let Edge {
-            rule: _,
-            outputs: _,
-            inputs: _,
-            implicit: _,
-            order_only: _,
-            words: _,
-            redirect: _,
-            description: _,
-            depfile: _,
-        } = self;
-    }
-}
-
-fn lent_text(text: &Option<String>) -> Option<&str>
-    ensures { option_map (λ s. s.now) result ≡ option_map string_bytes text.now }
-{
-    match text {
-        None => None,
-        Some(string) => Some(string.as_str()),
-    }
 }
 
 impl Edge {

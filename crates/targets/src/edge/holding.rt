@@ -3,7 +3,7 @@ ghost use Rattle.std.specs.Prelude.{◌≡◌, map, option_map, string_bytes, �
 ghost use Rattle.std.specs.List.{list_all};
 ghost use Rattle.targets.specs.edge.Texts.{texts};
 ghost use Rattle.targets.specs.edge.Holding.{path_byte_held, path_held, value_byte_held, value_held, value_held_if, is_path, is_some_list};
-ghost use Rattle.targets.specs.edge.Holding.{paths_writable, values_writable, is_writable, are_writable};
+ghost use Rattle.targets.specs.edge.Holding.{paths_writable, is_writable, are_writable};
 ghost use Rattle.targets.specs.edge.View.{edge_view};
 
 use crate::edge::edge::Edge;
@@ -93,20 +93,15 @@ fn paths_are_writable(edge: &Edge) -> bool
         && are_paths(&edge.order_only)
 }
 
-fn values_are_writable(edge: &Edge) -> bool
-    ensures { result ≡ values_writable (edge_view edge.now) }
+fn is_writable(edge: &Edge) -> bool
+    ensures { result ≡ is_writable (edge_view edge.now) }
 {
-    is_some_list(&edge.words)
+    paths_are_writable(edge)
+        && is_some_list(&edge.words)
         && can_hold_values(&edge.words)
         && can_hold_optional(&edge.redirect)
         && can_hold_value(&edge.description)
         && can_hold_optional(&edge.depfile)
-}
-
-fn is_writable(edge: &Edge) -> bool
-    ensures { result ≡ is_writable (edge_view edge.now) }
-{
-    paths_are_writable(edge) && values_are_writable(edge)
 }
 
 fn all_writable(edges: &[Edge]) -> bool

@@ -1,5 +1,5 @@
 //! Lists of texts, and sets of them.
-ghost use Rattle.std.specs.Prelude.{◌≡◌, ◌++◌, bytes_eq, map, string_bytes, IfOk};
+ghost use Rattle.std.specs.Prelude.{◌≡◌, ◌++◌, ◌∷◌, [], bytes_eq, map, option_map, string_bytes, IfOk};
 ghost use Rattle.std.specs.List.{list_any};
 ghost use Rattle.targets.specs.edge.Texts.{texts, first_kept, holds, put_new};
 
@@ -7,12 +7,31 @@ use basics::tables::{SipSet, new_set};
 use basics::text_lists::copies;
 use std::alloc::{AllocError, Global};
 
+/// The text that there is, lent.
+pub fn lent_text(text: &Option<String>) -> Option<&str>
+    ensures { option_map (λ s. s.now) result ≡ option_map string_bytes text.now }
+{
+    match text {
+        None => None,
+        Some(string) => Some(string.as_str()),
+    }
+}
+
+/// Appends the text.
+pub fn push_text(to: &mut Vec<String>, text: &str) -> Result<(), AllocError>
+    ensures { IfOk result (λ _. texts to.new.items ≡ texts to.old.items ++ text.now ∷ []) }
+{
+    let text = String::from_str(*to.allocator(), text)?;
+    to.push(text)?;
+    Ok(())
+}
+
 /// Appends each of these texts.
-pub fn push_all(to: &mut Vec<String>, alloc: Global, parts: &[&str]) -> Result<(), AllocError>
+pub fn push_all(to: &mut Vec<String>, parts: &[&str]) -> Result<(), AllocError>
     ensures { IfOk result (λ _. texts to.new.items ≡ texts to.old.items ++ map (λ p. p.now) parts.now) }
 {
     for part in parts {
-        to.push(String::from_str(alloc, part)?)?;
+        push_text(to, part)?;
     }
     Ok(())
 }

@@ -3,8 +3,8 @@ ghost use Rattle.std.specs.Prelude.{◌≡◌, ◌++◌, flat_map, IfOk, string_
 ghost use Rattle.targets.specs.edge.Folders.{build_folder, source_folder};
 ghost use Rattle.targets.specs.edge.Texts.{texts};
 ghost use Rattle.targets.specs.View.{flags_view, surroundings_view, build_view};
-ghost use Rattle.targets.specs.target_edges.Words.{include_words, includes, warning_words, standard_words};
-ghost use Rattle.targets.specs.target_edges.Words.{optimization_words, option_words, argument_words, compile_words};
+ghost use Rattle.targets.specs.target_edges.Words.{include_words, includes, warning_words, value_words};
+ghost use Rattle.targets.specs.target_edges.Words.{option_words, argument_words, compile_words};
 ghost use Rattle.targets.specs.target_edges.Parts.{front_words};
 
 use crate::edge::{build_folder, copies, first_kept, push_all, push_copies, source_folder};
@@ -15,14 +15,10 @@ use std::alloc::{AllocError, Global};
 // ---- where headers are looked for
 
 // The words for a folder of the tree.
-fn push_include(
-    words: &mut Vec<String>,
-    alloc: Global,
-    depth: usize,
-    folder: &str,
-) -> Result<(), AllocError>
+fn push_include(words: &mut Vec<String>, depth: usize, folder: &str) -> Result<(), AllocError>
     ensures { IfOk result (λ _. texts words.new.items ≡ texts words.old.items ++ include_words depth folder.now) }
 {
+    let alloc = *words.allocator();
     let built = build_folder(folder);
     let source = source_folder(alloc, depth, folder)?;
     words.push(joined(alloc, "-I", built)?)?;
@@ -32,14 +28,13 @@ fn push_include(
 
 fn push_includes(
     words: &mut Vec<String>,
-    alloc: Global,
     depth: usize,
     folders: &[String],
 ) -> Result<(), AllocError>
     ensures { IfOk result (λ _. texts words.new.items ≡ texts words.old.items ++ flat_map (include_words depth) (texts folders.now)) }
 {
     for folder in folders {
-        push_include(words, alloc, depth, folder)?;
+        push_include(words, depth, folder)?;
     }
     Ok(())
 }
@@ -56,10 +51,10 @@ fn all_includes(
         ++ flat_map (λ l. flat_map (include_words depth) (texts l.value.include_folders.items)) target.now.dependencies.items) }
 {
     let mut words = Vec::new(alloc);
-    push_include(&mut words, alloc, depth, &target.folder)?;
-    push_includes(&mut words, alloc, depth, &target.own.include_folders)?;
+    push_include(&mut words, depth, &target.folder)?;
+    push_includes(&mut words, depth, &target.own.include_folders)?;
     for lists in &target.dependencies {
-        push_includes(&mut words, alloc, depth, &lists.include_folders)?;
+        push_includes(&mut words, depth, &lists.include_folders)?;
     }
     Ok(words)
 }
@@ -73,42 +68,39 @@ fn includes(alloc: Global, depth: usize, target: &BuildTarget) -> Result<Vec<Str
 
 // ---- what options and arguments say
 
-fn push_warnings(words: &mut Vec<String>, alloc: Global, level: usize) -> Result<(), AllocError>
+fn push_warnings(words: &mut Vec<String>, level: usize) -> Result<(), AllocError>
     ensures { IfOk result (λ _. texts words.new.items ≡ texts words.old.items ++ warning_words level) }
 {
-    push_if(words, alloc, level >= 1, "-Wall")?;
-    push_if(words, alloc, level >= 2, "-Wextra")?;
-    push_if(words, alloc, level >= 3, "-Wpedantic")
+    push_if(words, level >= 1, "-Wall")?;
+    push_if(words, level >= 2, "-Wextra")?;
+    push_if(words, level >= 3, "-Wpedantic")
 }
 
-fn push_standard(words: &mut Vec<String>, alloc: Global, standard: &str) -> Result<(), AllocError>
-    ensures { IfOk result (λ _. texts words.new.items ≡ texts words.old.items ++ standard_words standard.now) }
+// The word that gives the compiler an option's value, unless it is the one that asks for no word.
+fn push_value(
+    words: &mut Vec<String>,
+    front: &str,
+    value: &str,
+    none: &str,
+) -> Result<(), AllocError>
+    ensures { IfOk result (λ _. texts words.new.items ≡ texts words.old.items ++ value_words front.now value.now none.now) }
 {
-    if standard == "none" {
+    if value == none {
         return Ok(());
     }
-    words.push(joined(alloc, "-std=", standard)?)?;
+    let word = joined(*words.allocator(), front, value)?;
+    words.push(word)?;
     Ok(())
 }
 
-fn push_optimization(words: &mut Vec<String>, alloc: Global, level: &str) -> Result<(), AllocError>
-    ensures { IfOk result (λ _. texts words.new.items ≡ texts words.old.items ++ optimization_words level.now) }
-{
-    if level == "plain" {
-        return Ok(());
-    }
-    words.push(joined(alloc, "-O", level)?)?;
-    Ok(())
-}
-
-fn push_options(words: &mut Vec<String>, alloc: Global, flags: &Flags) -> Result<(), AllocError>
+fn push_options(words: &mut Vec<String>, flags: &Flags) -> Result<(), AllocError>
     ensures { IfOk result (λ _. texts words.new.items ≡ texts words.old.items ++ option_words (flags_view flags.now)) }
 {
-    push_warnings(words, alloc, flags.warning_level)?;
-    push_if(words, alloc, flags.is_werror, "-Werror")?;
-    push_standard(words, alloc, &flags.c_std)?;
-    push_optimization(words, alloc, &flags.optimization)?;
-    push_if(words, alloc, flags.is_debug, "-g")
+    push_warnings(words, flags.warning_level)?;
+    push_if(words, flags.is_werror, "-Werror")?;
+    push_value(words, "-std=", &flags.c_std, "none")?;
+    push_value(words, "-O", &flags.optimization, "plain")?;
+    push_if(words, flags.is_debug, "-g")
 }
 
 fn push_arguments(
@@ -137,8 +129,8 @@ fn compile_words(
     let mut words = copies(alloc, &facts.compiler)?;
     let mut folders = includes(alloc, facts.depth, target)?;
     words.append(&mut folders)?;
-    push_options(&mut words, alloc, &facts.flags)?;
-    push_if(&mut words, alloc, target.kind.is_library(), "-fPIC")?;
+    push_options(&mut words, &facts.flags)?;
+    push_if(&mut words, target.kind.is_library(), "-fPIC")?;
     push_arguments(&mut words, surroundings, target)?;
     Ok(words)
 }
@@ -152,6 +144,6 @@ pub fn front_words(
     ensures { IfOk result (λ v. texts v.items ≡ front_words (compile_words (surroundings_view surroundings.now) (build_view target.now))) }
 {
     let mut words = compile_words(alloc, surroundings, target)?;
-    push_all(&mut words, alloc, &["-MD", "-MQ"])?;
+    push_all(&mut words, &["-MD", "-MQ"])?;
     Ok(words)
 }

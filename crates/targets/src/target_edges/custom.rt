@@ -7,7 +7,7 @@ ghost use Rattle.targets.specs.View.{custom_view};
 ghost use Rattle.targets.specs.target_edges.Edges.{first_of, custom_rule, and_path, custom_edge};
 ghost use Rattle.targets.specs.target_edges.PartsView.{custom_parts_edge};
 
-use crate::edge::{LentEdge, Rule};
+use crate::edge::{LentEdge, Rule, lent_text};
 use crate::target_edges::parts::CustomParts;
 use crate::{CustomTarget, depfile_path, source_paths};
 use std::alloc::{AllocError, Global};
@@ -52,15 +52,6 @@ fn description(alloc: Global, paths: &[String]) -> Result<String, AllocError>
     Ok(text)
 }
 
-fn lent(path: &Option<String>) -> Option<&str>
-    ensures { option_map (λ p. p.now) result ≡ option_map string_bytes path.now }
-{
-    match path {
-        None => None,
-        Some(path) => Some(path.as_str()),
-    }
-}
-
 impl<'a> CustomParts<'a> {
     /// The edge.
     pub fn edge(&self) -> LentEdge<'_>
@@ -75,7 +66,7 @@ impl<'a> CustomParts<'a> {
             words: self.words,
             redirect: self.redirect,
             description: &self.description,
-            depfile: lent(&self.depfile),
+            depfile: lent_text(&self.depfile),
         }
     }
 }

@@ -15,7 +15,7 @@ ghost use Rattle.targets.specs.target_edges.Parts.{archive_held, link_held};
 
 use crate::edge::{
     Edge, Rule, are_paths, can_hold_values, copies, first_kept, is_path, push_all, push_copies,
-    strings,
+    push_text, strings,
 };
 use crate::target_edges::way::push_way;
 use crate::target_edges::words::{joined, push_brought_link_args};
@@ -38,14 +38,13 @@ pub struct Context<'a> {
 // The file of the library with a number.
 fn push_library(
     files: &mut Vec<String>,
-    alloc: Global,
     earlier: &[Linked],
     number: usize,
 ) -> Result<(), AllocError>
     ensures { IfOk result (λ _. texts files.new.items ≡ texts files.old.items ++ library_file (linked_views earlier.now) number) }
 {
     if let Some(file) = file_at(earlier, number) {
-        files.push(String::from_str(alloc, file)?)?;
+        push_text(files, file)?;
     }
     Ok(())
 }
@@ -60,7 +59,7 @@ fn library_files(
 {
     let mut files = Vec::with_capacity(alloc, numbers.len())?;
     for number in numbers {
-        push_library(&mut files, alloc, earlier, *number as usize)?;
+        push_library(&mut files, earlier, *number as usize)?;
     }
     Ok(files)
 }
@@ -189,15 +188,14 @@ fn search_words(alloc: Global, from: &str, folders: &[String]) -> Result<Vec<Str
 
 fn push_search_words(
     words: &mut Vec<String>,
-    alloc: Global,
-    earlier: &[Linked],
+    context: &Context,
     from: &str,
-    numbers: &[u32],
 ) -> Result<(), AllocError>
     ensures { IfOk result (λ _. texts words.new.items
-        ≡ texts words.old.items ++ search_words (linked_views earlier.now) from.now numbers.now) }
+        ≡ texts words.old.items ++ search_words (linked_views context.now.earlier.now) from.now context.now.libraries.now) }
 {
-    let all = shared_folders(alloc, earlier, numbers)?;
+    let alloc = context.alloc;
+    let all = shared_folders(alloc, context.earlier, context.libraries)?;
     let folders = first_kept(alloc, &all)?;
     push_copies(words, &search_words(alloc, from, &folders)?)
 }
@@ -210,28 +208,21 @@ fn name_word(alloc: Global, target: &BuildTarget) -> Result<String, AllocError>
     joined(alloc, "-Wl,-soname,", &name)
 }
 
-fn push_if_linked_shared(
-    words: &mut Vec<String>,
-    alloc: Global,
-    target: &BuildTarget,
-) -> Result<(), AllocError>
+fn push_if_linked_shared(words: &mut Vec<String>, target: &BuildTarget) -> Result<(), AllocError>
     ensures { IfOk result (λ _. texts words.new.items ≡ texts words.old.items ++ shared_library_words (build_view target.now)) }
 {
-    push_all(words, alloc, &["-shared", "-fPIC"])?;
-    words.push(name_word(alloc, target)?)?;
+    push_all(words, &["-shared", "-fPIC"])?;
+    let name = name_word(*words.allocator(), target)?;
+    words.push(name)?;
     Ok(())
 }
 
-fn push_shared(
-    words: &mut Vec<String>,
-    alloc: Global,
-    target: &BuildTarget,
-) -> Result<(), AllocError>
+fn push_shared(words: &mut Vec<String>, target: &BuildTarget) -> Result<(), AllocError>
     ensures { IfOk result (λ _. texts words.new.items ≡ texts words.old.items ++ shared_words target.now.kind (build_view target.now)) }
 {
     match target.kind {
         Kind::Executable | Kind::StaticLibrary => Ok(()),
-        Kind::SharedLibrary => push_if_linked_shared(words, alloc, target),
+        Kind::SharedLibrary => push_if_linked_shared(words, target),
     }
 }
 
@@ -264,13 +255,7 @@ fn push_behind(
         ≡ texts words.old.items ++ (search_words earlier t.folder context.now.libraries.now
         ++ link_arguments (surroundings_view context.now.surroundings.now) earlier context.now.libraries.now t)) }
 {
-    push_search_words(
-        words,
-        context.alloc,
-        context.earlier,
-        &target.folder,
-        context.libraries,
-    )?;
+    push_search_words(words, context, &target.folder)?;
     push_link_arguments(words, context, target)
 }
 
@@ -288,8 +273,8 @@ fn link_words(
 {
     let mut words = Vec::new(context.alloc);
     push_copies(&mut words, &context.surroundings.facts.compiler)?;
-    push_shared(&mut words, context.alloc, target)?;
-    push_all(&mut words, context.alloc, &["-o", file])?;
+    push_shared(&mut words, target)?;
+    push_all(&mut words, &["-o", file])?;
     push_copies(&mut words, objects)?;
     push_copies(&mut words, libraries)?;
     push_behind(&mut words, context, target)?;
@@ -307,7 +292,7 @@ fn archive_edge(
     ensures { IfOk result (λ e. edge_view e ≡ archiving (texts archiver.now) file.now (texts objects.items)) }
 {
     let mut words = copies(alloc, archiver)?;
-    push_all(&mut words, alloc, &["csr", file])?;
+    push_all(&mut words, &["csr", file])?;
     push_copies(&mut words, &objects)?;
     Ok(Edge {
         rule: Rule::Ar,
@@ -410,7 +395,7 @@ fn link_is_held(
         (library_files earlier context.now.libraries.now)) }
 {
     let mut words = Vec::new(context.alloc);
-    push_shared(&mut words, context.alloc, target)?;
+    push_shared(&mut words, target)?;
     push_behind(&mut words, context, target)?;
     Ok(parts_are_held(context, file, objects, &words))
 }

@@ -6,7 +6,7 @@ ghost use Rattle.targets.specs.View.{build_view};
 ghost use Rattle.targets.specs.target_edges.Words.{word_if};
 
 use crate::BuildTarget;
-use crate::edge::push_copies;
+use crate::edge::{push_copies, push_text};
 use std::alloc::{AllocError, Global};
 
 /// One text behind another.
@@ -20,16 +20,11 @@ pub fn joined(alloc: Global, front: &str, end: &str) -> Result<String, AllocErro
 }
 
 /// Appends the word where the test holds.
-pub fn push_if(
-    words: &mut Vec<String>,
-    alloc: Global,
-    test: bool,
-    word: &str,
-) -> Result<(), AllocError>
+pub fn push_if(words: &mut Vec<String>, test: bool, word: &str) -> Result<(), AllocError>
     ensures { IfOk result (λ _. texts words.new.items ≡ texts words.old.items ++ word_if test word.now) }
 {
     if test {
-        words.push(String::from_str(alloc, word)?)?;
+        push_text(words, word)?;
     }
     Ok(())
 }
