@@ -7,6 +7,8 @@ use Rattle.ports.specs.declared.event.Event.{Event}
 use Rattle.ports.specs.declared.event.Event.TheVariants.{Open, Byte, Close, Log, Fault}
 use Rattle.ports.specs.declared.memory_outputs.Span.{Span}
 use Rattle.ports.specs.Outputs.{OutputState}
+use Rattle.ports.specs.declared.plan.OutputCall.{OutputCall}
+use Rattle.ports.specs.declared.plan.OutputCall.TheVariants as calls
 use Rattle.ports.specs.declared.memory_outputs.Stream.{Stream}
 use Rattle.ports.specs.declared.memory_outputs.Stream.TheVariants.{ToOutput, ToLog, ToFault}
 
@@ -51,6 +53,12 @@ is_open_within len (Some span) = is_span_within len span
 
 unfoldable pub are_within : ℕ → List (Event Span) → Bool
 are_within len slots = list_all (is_within len) slots
+
+-- the call that takes what goes into a stream
+abbrev pub call_of : Stream → OutputCall
+call_of (ToOutput span) = calls.Put
+call_of ToLog = calls.Log
+call_of ToFault = calls.Fault
 
 -- what is kept of a byte
 abbrev pub slot_of : Stream → ℕ → Event Span

@@ -193,16 +193,13 @@ impl<'a, R: Files<File = File>, L: Write + Drop, F: Write + Drop> Outputs
     }
 
     fn open(&mut self, name: &str) -> Result<(), DeviceFault> {
-        match make_output(&mut self.disk, &mut self.faults, &mut self.current, name) {
-            Ok(output) => {
-                self.current = Some(output);
-                Ok(())
-            }
-            Err(_) => {
-                self.failures += 1;
-                Err(DeviceFault)
-            }
-        }
+        let made = make_output(&mut self.disk, &mut self.faults, &mut self.current, name);
+        let Ok(output) = made else {
+            self.failures += 1;
+            return Err(DeviceFault);
+        };
+        self.current = Some(output);
+        Ok(())
     }
 
     fn close(&mut self) -> Result<(), DeviceFault> {

@@ -1,7 +1,7 @@
 ghost use Rattle.std.specs.Prelude.{◌≡◌, ◌+◌, ◌-◌, ◌^◌, ◌≤◌, ◌<◌, ◌++◌, ◌∷◌, [], ◌||◌, ◌&&◌, IsTrue, true, IfOk, MatchResult, is_err};
 ghost use Rattle.std.specs.Prelude.{is_ok, if◌then◌else◌, length, map, min, nat_lt, vec_len, vec_capacity};
 ghost use Rattle.ports.specs.Slots.{events_at, open_at, are_within, is_open_within, is_within, name_at, event_at, event_now, is_full};
-ghost use Rattle.ports.specs.Slots.{room_of, slot_of};
+ghost use Rattle.ports.specs.Slots.{call_of, room_of, slot_of};
 ghost use Rattle.ports.specs.Outputs.{taken};
 ghost use Rattle.ports.specs.Plan.{is_due, is_output_call};
 
@@ -21,6 +21,17 @@ enum Stream {
     ToOutput(Span),
     ToLog,
     ToFault,
+}
+
+// The call that takes what goes into the stream.
+fn call(stream: Stream) -> OutputCall
+    ensures { result ≡ call_of stream }
+{
+    match stream {
+        Stream::ToOutput(_) => OutputCall::Put,
+        Stream::ToLog => OutputCall::Log,
+        Stream::ToFault => OutputCall::Fault,
+    }
 }
 
 fn slot(stream: Stream, byte: u8) -> Event<Span>
@@ -47,19 +58,18 @@ fn push_bytes(slots: &mut Vec<Event<Span>>, stream: Stream, bytes: &[u8])
 fn record_bytes(
     slots: &mut Vec<Event<Span>>,
     plan: &mut Plan<OutputCall>,
-    call: OutputCall,
     stream: Stream,
     bytes: &[u8],
 ) -> Result<usize, DeviceFault>
     ensures within { IfOk result (λ n. n ≤ length bytes.now) }
     ensures some { IfOk result (λ n. 0 < length bytes.now → 0 < n) }
     ensures items { slots.new.items ≡ slots.old.items ++ map (slot_of stream) (taken bytes.now result) }
-    ensures fails { is_err result ≡ (is_due (is_output_call plan.old.kind call) plan.old.number
+    ensures fails { is_err result ≡ (is_due (is_output_call plan.old.kind (call_of stream)) plan.old.number
         || (nat_lt 0 (length bytes.now) && is_full slots.old)) }
     ensures count { IfOk result (λ n. n ≡ min (min (length bytes.now) (room_of slots.old)) plan.old.piece) }
     ensures capacity { vec_capacity slots.new ≡ vec_capacity slots.old }
 {
-    if output_call_fails(plan, call) {
+    if output_call_fails(plan, call(stream)) {
         return Err(DeviceFault);
     }
     if bytes.is_empty() {
@@ -231,22 +241,14 @@ impl Outputs for MemOutputs {
     }
 
     fn open(&mut self, name: &str) -> Result<(), DeviceFault> {
-        let recorded = record_open(
-            &mut self.slots,
-            &mut self.names,
-            &mut self.plan,
-            name.as_bytes(),
-        );
-        match recorded {
-            Ok(span) => {
-                self.current = Some(span);
-                Ok(())
-            }
-            Err(fault) => {
-                self.failures += 1;
-                Err(fault)
-            }
-        }
+        let name = name.as_bytes();
+        let recorded = record_open(&mut self.slots, &mut self.names, &mut self.plan, name);
+        let Ok(span) = recorded else {
+            self.failures += 1;
+            return Err(DeviceFault);
+        };
+        self.current = Some(span);
+        Ok(())
     }
 
     fn close(&mut self) -> Result<(), DeviceFault> {
@@ -265,13 +267,7 @@ impl Outputs for MemOutputs {
 
     fn put(&mut self, bytes: &[u8]) -> Result<usize, DeviceFault> {
         let stream = Stream::ToOutput(self.current.unwrap());
-        let taken = record_bytes(
-            &mut self.slots,
-            &mut self.plan,
-            OutputCall::Put,
-            stream,
-            bytes,
-        );
+        let taken = record_bytes(&mut self.slots, &mut self.plan, stream, bytes);
         if taken.is_err() {
             self.failures += 1;
         }
@@ -279,13 +275,7 @@ impl Outputs for MemOutputs {
     }
 
     fn log(&mut self, bytes: &[u8]) -> Result<usize, DeviceFault> {
-        let taken = record_bytes(
-            &mut self.slots,
-            &mut self.plan,
-            OutputCall::Log,
-            Stream::ToLog,
-            bytes,
-        );
+        let taken = record_bytes(&mut self.slots, &mut self.plan, Stream::ToLog, bytes);
         if taken.is_err() {
             self.failures += 1;
         }
@@ -293,13 +283,7 @@ impl Outputs for MemOutputs {
     }
 
     fn fault(&mut self, bytes: &[u8]) -> Result<usize, DeviceFault> {
-        let taken = record_bytes(
-            &mut self.slots,
-            &mut self.plan,
-            OutputCall::Fault,
-            Stream::ToFault,
-            bytes,
-        );
+        let taken = record_bytes(&mut self.slots, &mut self.plan, Stream::ToFault, bytes);
         if taken.is_err() {
             self.failures += 1;
         }

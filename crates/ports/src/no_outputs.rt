@@ -36,16 +36,12 @@ impl Outputs for NoOutputs {
     }
 
     fn open(&mut self, name: &str) -> Result<(), DeviceFault> {
-        match String::from_str(self.alloc, name) {
-            Ok(name) => {
-                self.current = Some(name);
-                Ok(())
-            }
-            Err(_) => {
-                self.failures += 1;
-                Err(DeviceFault)
-            }
-        }
+        let Ok(name) = String::from_str(self.alloc, name) else {
+            self.failures += 1;
+            return Err(DeviceFault);
+        };
+        self.current = Some(name);
+        Ok(())
     }
 
     fn close(&mut self) -> Result<(), DeviceFault> {

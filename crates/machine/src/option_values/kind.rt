@@ -1,7 +1,7 @@
 //! Kinds of options, their types, and their values.
 
 ghost use Rattle.std.specs.Prelude.{◌≡◌};
-ghost use Rattle.machine.specs.option_values.Types.{name_of_type, type_named};
+ghost use Rattle.machine.specs.option_values.Types.{type_named};
 
 use crate::option_values::choices::Choices;
 
@@ -82,20 +82,6 @@ impl OptionType {
             "array" => Some(OptionType::Array),
             "feature" => Some(OptionType::Feature),
             _ => None,
-        }
-    }
-
-    /// The name of the type.
-    pub fn name(self) -> &'static str
-        ensures { result.now ≡ name_of_type self }
-    {
-        match self {
-            OptionType::Text => "string",
-            OptionType::Boolean => "boolean",
-            OptionType::Combo => "combo",
-            OptionType::Integer => "integer",
-            OptionType::Array => "array",
-            OptionType::Feature => "feature",
         }
     }
 }
