@@ -70,10 +70,7 @@ fn text_in(value: &OptionValue) -> Option<&str>
     match value {
         OptionValue::Text(text) => Some(text.as_str()),
         OptionValue::Combo(choice) => Some(choice.as_str()),
-        OptionValue::Boolean(_) => None,
-        OptionValue::Integer(_) => None,
-        OptionValue::Array(_) => None,
-        OptionValue::Feature(_) => None,
+        _ => None,
     }
 }
 
@@ -83,11 +80,7 @@ fn state_in(value: &OptionValue) -> Option<FeatureState>
 {
     match value {
         OptionValue::Feature(state) => Some(*state),
-        OptionValue::Text(_) => None,
-        OptionValue::Boolean(_) => None,
-        OptionValue::Combo(_) => None,
-        OptionValue::Integer(_) => None,
-        OptionValue::Array(_) => None,
+        _ => None,
     }
 }
 

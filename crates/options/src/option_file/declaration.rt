@@ -25,22 +25,13 @@ pub enum Given {
 }
 
 /// An option as its call declares it.
+#[derive(Drop)]
 pub struct Declaration {
     pub kind: OptionKind,
     /// The default that the call gives.
     pub value: Option<Given>,
     /// The line, from 1, of its statement.
     pub line: usize,
-}
-
-impl Drop for Declaration {
-    fn drop(self) {
-        let Declaration {
-            kind: _,
-            value: _,
-            line: _,
-        } = self;
-    }
 }
 
 /// The options of an option file, in the order of their calls. Their names differ, and none is that of an option that every

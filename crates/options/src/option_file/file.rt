@@ -57,14 +57,7 @@ fn expression_declares(
             arguments,
             ..
         } => function_declares(alloc, line, name, arguments),
-        Expression::Name { .. } => Ok(Err(Misfit::NoCall.refused(alloc)?)),
-        Expression::Literal { .. } => Ok(Err(Misfit::NoCall.refused(alloc)?)),
-        Expression::List { .. } => Ok(Err(Misfit::NoCall.refused(alloc)?)),
-        Expression::Dictionary { .. } => Ok(Err(Misfit::NoCall.refused(alloc)?)),
-        Expression::Postfix { .. } => Ok(Err(Misfit::NoCall.refused(alloc)?)),
-        Expression::Prefix { .. } => Ok(Err(Misfit::NoCall.refused(alloc)?)),
-        Expression::Chain { .. } => Ok(Err(Misfit::NoCall.refused(alloc)?)),
-        Expression::Ternary { .. } => Ok(Err(Misfit::NoCall.refused(alloc)?)),
+        _ => Ok(Err(Misfit::NoCall.refused(alloc)?)),
     }
 }
 
@@ -77,12 +70,7 @@ fn statement_declares(
 {
     match statement {
         Statement::Expression { value, line } => expression_declares(alloc, *line, value),
-        Statement::Assign { .. } => Ok(Err(Misfit::NoCall.refused(alloc)?)),
-        Statement::Append { .. } => Ok(Err(Misfit::NoCall.refused(alloc)?)),
-        Statement::Break { .. } => Ok(Err(Misfit::NoCall.refused(alloc)?)),
-        Statement::Continue { .. } => Ok(Err(Misfit::NoCall.refused(alloc)?)),
-        Statement::If { .. } => Ok(Err(Misfit::NoCall.refused(alloc)?)),
-        Statement::Foreach { .. } => Ok(Err(Misfit::NoCall.refused(alloc)?)),
+        _ => Ok(Err(Misfit::NoCall.refused(alloc)?)),
     }
 }
 

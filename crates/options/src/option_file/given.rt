@@ -54,14 +54,7 @@ fn negative_given(value: &Expression<'_>) -> Option<Given>
 {
     match value {
         Expression::Literal { literal, text, .. } => negative_literal(*literal, text),
-        Expression::Name { .. } => None,
-        Expression::List { .. } => None,
-        Expression::Dictionary { .. } => None,
-        Expression::Call { .. } => None,
-        Expression::Postfix { .. } => None,
-        Expression::Prefix { .. } => None,
-        Expression::Chain { .. } => None,
-        Expression::Ternary { .. } => None,
+        _ => None,
     }
 }
 
@@ -85,13 +78,7 @@ fn item_given(alloc: Global, value: &Expression<'_>) -> Result<Option<Given>, Al
             line,
         } => literal_given(alloc, *literal, text),
         Expression::Prefix { prefix, value, .. } => Ok(prefix_given(*prefix, value)),
-        Expression::Name { .. } => Ok(None),
-        Expression::List { .. } => Ok(None),
-        Expression::Dictionary { .. } => Ok(None),
-        Expression::Call { .. } => Ok(None),
-        Expression::Postfix { .. } => Ok(None),
-        Expression::Chain { .. } => Ok(None),
-        Expression::Ternary { .. } => Ok(None),
+        _ => Ok(None),
     }
 }
 
@@ -141,11 +128,6 @@ pub fn given(alloc: Global, value: &Expression<'_>) -> Result<Option<Given>, All
         Expression::List { items, .. } => list(alloc, items),
         Expression::Literal { .. } => item_given(alloc, value),
         Expression::Prefix { .. } => item_given(alloc, value),
-        Expression::Name { .. } => Ok(None),
-        Expression::Dictionary { .. } => Ok(None),
-        Expression::Call { .. } => Ok(None),
-        Expression::Postfix { .. } => Ok(None),
-        Expression::Chain { .. } => Ok(None),
-        Expression::Ternary { .. } => Ok(None),
+        _ => Ok(None),
     }
 }

@@ -28,24 +28,13 @@ pub enum Keyword {
 }
 
 /// What the keywords of a call give so far.
+#[derive(Drop)]
 pub struct Keywords {
     pub kind: Option<OptionType>,
     pub value: Option<Given>,
     pub choices: Option<Choices>,
     pub min: Option<i64>,
     pub max: Option<i64>,
-}
-
-impl Drop for Keywords {
-    fn drop(self) {
-        let Keywords {
-            kind: _,
-            value: _,
-            choices: _,
-            min: _,
-            max: _,
-        } = self;
-    }
 }
 
 impl Keyword {
@@ -79,10 +68,7 @@ pub(crate) fn type_in(given: &Given) -> Option<OptionType>
 {
     match given {
         Given::Text(name) => OptionType::named(name.as_str()),
-        Given::Boolean(_) => None,
-        Given::Integer(_) => None,
-        Given::Texts(_) => None,
-        Given::Other => None,
+        _ => None,
     }
 }
 
@@ -92,10 +78,7 @@ fn choices_in(alloc: Global, given: Given) -> Result<Option<Choices>, AllocError
 {
     match given {
         Given::Texts(items) => Ok(Some(Choices::new(alloc, items)?)),
-        Given::Text(_) => Ok(None),
-        Given::Boolean(_) => Ok(None),
-        Given::Integer(_) => Ok(None),
-        Given::Other => Ok(None),
+        _ => Ok(None),
     }
 }
 
@@ -105,10 +88,7 @@ pub(crate) fn bound_in(given: &Given) -> Option<i64>
 {
     match given {
         Given::Integer(number) => Some(*number),
-        Given::Text(_) => None,
-        Given::Boolean(_) => None,
-        Given::Texts(_) => None,
-        Given::Other => None,
+        _ => None,
     }
 }
 
