@@ -2,13 +2,21 @@
 use Rattle.std.specs.Prelude.{ℕ, Bool, nat_le, List, [], ◌∷◌, ◌++◌, map, flat_map, bytes_eq, codes, Option, Some, None, if◌then◌else◌}
 use Rattle.targets.specs.edge.Texts.{Path, Text, first_kept}
 use Rattle.targets.specs.edge.Folders.{build_folder, source_folder}
-use Rattle.targets.specs.Data.{FlagsData, SurroundingsData, BuildData}
+use Rattle.targets.specs.Data.{FlagsData, SurroundingsData, ListsData, BuildData}
 use Rattle.targets.specs.Sources.{brought, listed}
 use Rattle.targets.specs.Files.{is_static, is_shared, is_library, file_path, so_name}
 use Rattle.targets.specs.Libraries.{LinkedData, build_at}
 use Rattle.targets.specs.declared.target.Kind.{Kind}
 use Rattle.targets.specs.declared.target.Kind.TheVariants.{Executable, StaticLibrary, SharedLibrary}
+use Rattle.targets.specs.declared.target_edges.words.Brought.{Brought}
+use Rattle.targets.specs.declared.target_edges.words.Brought.TheVariants.{IncludeFolders, CompileArgs, LinkArgs}
 use Rattle.targets.specs.target_edges.Ways.{relative_way}
+
+-- what of these lists a dependency brings
+abbrev pub texts_of : Brought → ListsData → List Text
+texts_of IncludeFolders l = l.include_folders
+texts_of CompileArgs l = l.compile_args
+texts_of LinkArgs l = l.link_args
 
 abbrev pub word_if : Bool → Text → List Text
 word_if test word = if test then word ∷ [] else []

@@ -41,30 +41,18 @@ pub fn is_path(path: &str) -> bool
     !path.is_empty() && can_hold_path(path)
 }
 
-fn all_paths(paths: &[String]) -> bool
-    ensures { result ≡ list_all (λ s. is_path (string_bytes s)) paths.now }
-{
-    paths.iter().all(|path| is_path(path))
-}
-
 /// Whether none of the paths is empty and `build.ninja` can hold each.
 pub fn are_paths(paths: &[String]) -> bool
     ensures { result ≡ list_all is_path (texts paths.now) }
 {
-    all_paths(paths)
-}
-
-fn all_values(values: &[String]) -> bool
-    ensures { result ≡ list_all (λ s. value_held (string_bytes s)) values.now }
-{
-    values.iter().all(|value| can_hold_value(value))
+    paths.iter().all(|path| is_path(path))
 }
 
 /// Whether `build.ninja` can hold each of the values.
 pub fn can_hold_values(values: &[String]) -> bool
     ensures { result ≡ list_all value_held (texts values.now) }
 {
-    all_values(values)
+    values.iter().all(|value| can_hold_value(value))
 }
 
 fn can_hold_optional(text: &Option<String>) -> bool

@@ -2,12 +2,13 @@
 ghost use Rattle.std.specs.Prelude.{◌≡◌};
 ghost use Rattle.std.specs.List.{list_all};
 ghost use Rattle.targets.specs.edge.Holding.{value_held};
-ghost use Rattle.targets.specs.edge.Texts.{texts};
 ghost use Rattle.targets.specs.Sources.{brought};
-ghost use Rattle.targets.specs.View.{build_view, flags_view, surroundings_view};
+ghost use Rattle.targets.specs.View.{build_view, flags_view, lists_view, surroundings_view};
+ghost use Rattle.targets.specs.target_edges.Words.{texts_of};
 ghost use Rattle.targets.specs.target_edges.Parts.{arguments_held, includes_held, options_held, words_held};
 
 use crate::edge::{can_hold_value, can_hold_values};
+use crate::target_edges::words::Brought;
 use crate::{BuildTarget, Flags, Surroundings};
 
 fn options_are_held(flags: &Flags) -> bool
@@ -16,19 +17,19 @@ fn options_are_held(flags: &Flags) -> bool
     can_hold_value(&flags.c_std) && can_hold_value(&flags.optimization)
 }
 
-fn each_folder_is_held(target: &BuildTarget) -> bool
-    ensures { result ≡ list_all (λ l. list_all value_held (texts l.value.include_folders.items)) target.now.dependencies.items }
+fn each_is_held(target: &BuildTarget, what: Brought) -> bool
+    ensures { result ≡ list_all (λ l. list_all value_held (texts_of what (lists_view l.value))) target.now.dependencies.items }
 {
     target
         .dependencies
         .iter()
-        .all(|lists| can_hold_values(&lists.include_folders))
+        .all(|lists| can_hold_values(what.of(lists)))
 }
 
-fn brought_folders_are_held(target: &BuildTarget) -> bool
-    ensures { result ≡ list_all value_held (brought (λ l. l.include_folders) (build_view target.now)) }
+fn brought_are_held(target: &BuildTarget, what: Brought) -> bool
+    ensures { result ≡ list_all value_held (brought (λ l. texts_of what l) (build_view target.now)) }
 {
-    each_folder_is_held(target)
+    each_is_held(target, what)
 }
 
 fn includes_are_held(target: &BuildTarget) -> bool
@@ -36,29 +37,14 @@ fn includes_are_held(target: &BuildTarget) -> bool
 {
     can_hold_value(&target.folder)
         && can_hold_values(&target.own.include_folders)
-        && brought_folders_are_held(target)
-}
-
-fn each_argument_is_held(target: &BuildTarget) -> bool
-    ensures { result ≡ list_all (λ l. list_all value_held (texts l.value.compile_args.items)) target.now.dependencies.items }
-{
-    target
-        .dependencies
-        .iter()
-        .all(|lists| can_hold_values(&lists.compile_args))
-}
-
-fn brought_arguments_are_held(target: &BuildTarget) -> bool
-    ensures { result ≡ list_all value_held (brought (λ l. l.compile_args) (build_view target.now)) }
-{
-    each_argument_is_held(target)
+        && brought_are_held(target, Brought::IncludeFolders)
 }
 
 fn arguments_are_held(surroundings: &Surroundings, target: &BuildTarget) -> bool
     ensures { result ≡ arguments_held (surroundings_view surroundings.now) (build_view target.now) }
 {
     can_hold_values(&surroundings.arguments)
-        && brought_arguments_are_held(target)
+        && brought_are_held(target, Brought::CompileArgs)
         && can_hold_values(&surroundings.facts.flags.c_args)
         && can_hold_values(&target.own.compile_args)
 }

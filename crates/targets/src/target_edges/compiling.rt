@@ -8,7 +8,7 @@ ghost use Rattle.targets.specs.target_edges.Words.{option_words, argument_words,
 ghost use Rattle.targets.specs.target_edges.Parts.{front_words};
 
 use crate::edge::{build_folder, copies, first_kept, push_all, push_copies, source_folder};
-use crate::target_edges::words::{joined, push_brought_compile_args, push_if};
+use crate::target_edges::words::{Brought, joined, push_brought, push_if};
 use crate::{BuildTarget, Flags, Surroundings};
 use std::alloc::{AllocError, Global};
 
@@ -112,7 +112,7 @@ fn push_arguments(
         ≡ texts words.old.items ++ argument_words (surroundings_view surroundings.now) (build_view target.now)) }
 {
     push_copies(words, &surroundings.arguments)?;
-    push_brought_compile_args(words, target)?;
+    push_brought(words, target, Brought::CompileArgs)?;
     push_copies(words, &surroundings.facts.flags.c_args)?;
     push_copies(words, &target.own.compile_args)
 }

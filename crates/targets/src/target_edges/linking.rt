@@ -18,7 +18,7 @@ use crate::edge::{
     push_text, strings,
 };
 use crate::target_edges::way::push_way;
-use crate::target_edges::words::{joined, push_brought_link_args};
+use crate::target_edges::words::{Brought, joined, push_brought};
 use crate::{BuildTarget, Kind, Linked, Surroundings, build_target_at, file_at, so_name};
 use std::alloc::{AllocError, Global};
 
@@ -131,7 +131,7 @@ fn push_if_static(words: &mut Vec<String>, target: &BuildTarget) -> Result<(), A
     ensures { IfOk result (λ _. texts words.new.items ≡ texts words.old.items ++ static_arguments_in (Some (build_view target.now))) }
 {
     if target.kind.is_static() {
-        push_brought_link_args(words, target)?;
+        push_brought(words, target, Brought::LinkArgs)?;
     }
     Ok(())
 }
@@ -239,7 +239,7 @@ fn push_link_arguments(
     push_copies(words, &surroundings.facts.flags.c_link_args)?;
     push_copies(words, &surroundings.link_arguments)?;
     push_copies(words, &target.own.link_args)?;
-    push_brought_link_args(words, target)?;
+    push_brought(words, target, Brought::LinkArgs)?;
     push_static_arguments(words, context.earlier, context.libraries)
 }
 

@@ -2,11 +2,11 @@
 ghost use Rattle.std.specs.Prelude.{◌≡◌, ◌++◌, IfOk, string_bytes};
 ghost use Rattle.targets.specs.edge.Texts.{texts};
 ghost use Rattle.targets.specs.Sources.{brought};
-ghost use Rattle.targets.specs.View.{build_view};
-ghost use Rattle.targets.specs.target_edges.Words.{word_if};
+ghost use Rattle.targets.specs.View.{build_view, lists_view};
+ghost use Rattle.targets.specs.target_edges.Words.{texts_of, word_if};
 
-use crate::BuildTarget;
 use crate::edge::{push_copies, push_text};
+use crate::{BuildTarget, Lists};
 use std::alloc::{AllocError, Global};
 
 /// One text behind another.
@@ -29,28 +29,43 @@ pub fn push_if(words: &mut Vec<String>, test: bool, word: &str) -> Result<(), Al
     Ok(())
 }
 
-/// Appends what the dependencies bring for compiling.
-pub fn push_brought_compile_args(
-    words: &mut Vec<String>,
-    target: &BuildTarget,
-) -> Result<(), AllocError>
-    ensures { IfOk result (λ _. texts words.new.items ≡ texts words.old.items ++ brought (λ l. l.compile_args) (build_view target.now)) }
-{
-    for lists in &target.dependencies {
-        push_copies(words, &lists.compile_args)?;
-    }
-    Ok(())
+/// Texts that a dependency brings to the targets that name it.
+#[derive(Clone, Copy)]
+pub enum Brought {
+    IncludeFolders,
+    CompileArgs,
+    LinkArgs,
 }
 
-/// Appends what the dependencies bring for linking.
-pub fn push_brought_link_args(
+impl Brought {
+    /// Those of these lists.
+    pub fn of(self, lists: &Lists) -> &[String]
+        ensures { texts result.now ≡ texts_of self (lists_view lists.now) }
+    {
+        match self {
+            Brought::IncludeFolders => &lists.include_folders,
+            Brought::CompileArgs => &lists.compile_args,
+            Brought::LinkArgs => &lists.link_args,
+        }
+    }
+}
+
+fn push_texts(words: &mut Vec<String>, lists: &Lists, what: Brought) -> Result<(), AllocError>
+    ensures { IfOk result (λ _. texts words.new.items ≡ texts words.old.items ++ texts_of what (lists_view lists.now)) }
+{
+    push_copies(words, what.of(lists))
+}
+
+/// Appends what the dependencies bring.
+pub fn push_brought(
     words: &mut Vec<String>,
     target: &BuildTarget,
+    what: Brought,
 ) -> Result<(), AllocError>
-    ensures { IfOk result (λ _. texts words.new.items ≡ texts words.old.items ++ brought (λ l. l.link_args) (build_view target.now)) }
+    ensures { IfOk result (λ _. texts words.new.items ≡ texts words.old.items ++ brought (λ l. texts_of what l) (build_view target.now)) }
 {
     for lists in &target.dependencies {
-        push_copies(words, &lists.link_args)?;
+        push_texts(words, lists, what)?;
     }
     Ok(())
 }

@@ -1,7 +1,11 @@
-use Rattle.std.proofs.Common.{sym, ◌∙◌}
+use Rattle.std.proofs.Common.{rules, tests, sym, ◌∙◌, string_bytes}
+use Rattle.std.proofs.lemmas.Iterator.{YieldsList-from_slice}
+use Rattle.std.proofs.lemmas.Iterator.Search.{all_from_yields_List}
 use Rattle.targets.specs.edge.Holding.{value_held}
 use Rattle.targets.proofs.TextLists.{texts-list_all}
 use Rattle.targets.proofs.edge.holding.can_hold_values.Goals as goal
 
 pub returns : goal.returns
-returns c = c.all_values.ensures ∙ sym (texts-list_all value_held c.args.values.now)
+returns c =
+    all_from_yields_List (λ s. value_held (string_bytes s)) _ _ _ c.all.ensures.ran (YieldsList-from_slice c.args.values.now (cc)) (λ x b q k. search (rules, tests))
+    ∙ sym (texts-list_all value_held c.args.values.now)
