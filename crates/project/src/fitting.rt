@@ -24,16 +24,10 @@ use targets::{
 
 // ---- names
 
-fn are_file_names(names: &[String]) -> bool
-    ensures { result ≡ list_all (λ s. is_file_name (string_bytes s)) names.now }
-{
-    names.iter().all(|name| is_file_name(name))
-}
-
 fn all_file_names(names: &[String]) -> bool
     ensures { result ≡ list_all is_file_name (texts names.now) }
 {
-    are_file_names(names)
+    names.iter().all(|name| is_file_name(name))
 }
 
 fn is_optional_file_name(name: &Option<String>) -> bool
@@ -205,16 +199,10 @@ pub fn has_present_sources(present: &SipSet<String>, target: &Target) -> bool
 
 // ---- what is compiled
 
-fn is_some_c(paths: &[String]) -> bool
-    ensures { result ≡ list_any (λ s. is_c_path (string_bytes s)) paths.now }
-{
-    paths.iter().any(|path| is_c(path))
-}
-
 fn are_some_c(paths: &[String]) -> bool
     ensures { result ≡ list_any is_c_path (texts paths.now) }
 {
-    is_some_c(paths)
+    paths.iter().any(|path| is_c(path))
 }
 
 fn has_c_in(source: &Source) -> bool

@@ -1,7 +1,11 @@
-use Rattle.std.proofs.Common.{sym, ◌∙◌}
+use Rattle.std.proofs.Common.{rules, tests, sym, ◌∙◌, string_bytes}
+use Rattle.std.proofs.lemmas.Iterator.{YieldsList-from_slice}
+use Rattle.std.proofs.lemmas.Iterator.Search.{all_from_yields_List}
 use Rattle.targets.proofs.TextLists.{texts-list_all}
 use Rattle.paths.specs.Names.{is_file_name}
 use Rattle.project.proofs.fitting.all_file_names.Goals as goal
 
 pub returns : goal.returns
-returns c = c.are_file_names.ensures ∙ sym (texts-list_all is_file_name c.args.names.now)
+returns c =
+    all_from_yields_List (λ s. is_file_name (string_bytes s)) _ _ _ c.all.ensures.ran (YieldsList-from_slice c.args.names.now (cc)) (λ x b q k. search (rules, tests))
+    ∙ sym (texts-list_all is_file_name c.args.names.now)
