@@ -18,9 +18,10 @@ ghost use Rattle.targets.specs.edge.Paths.{is_upward};
 ghost use Rattle.targets.specs.edge.Holding.{are_writable};
 ghost use Rattle.paths.specs.Paths.{path_in as path_of};
 ghost use Rattle.targets.specs.Files.{default_paths};
-ghost use Rattle.project.specs.Laws.{AtMostOnce, all_made, outputs_of, Reaches};
+ghost use Rattle.project.specs.Laws.{AtMostOnce, all_made, Reaches};
 ghost use Rattle.project.specs.World.{new_world, edges_in, known_in, taken_in};
 ghost use Rattle.project.specs.Refused.{answer_data};
+ghost use Rattle.targets.specs.target_edges.Claims.{AreClaims};
 ghost use Rattle.targets.specs.target_edges.Edges.{target_edges as target_edges_of, edges_of};
 ghost use Rattle.targets.specs.target_edges.PartsView.{parts_edges};
 
@@ -225,11 +226,8 @@ impl Project {
 
     // What is asked of the edges that a target with these libraries would have.
     fn claims_with(&self, target: &Target, libraries: &[u32]) -> Result<Claims, AllocError>
-        ensures writable { IfOk result (λ c. c.writable
-            ≡ are_writable (target_edges_of self.now.surroundings (linked_of self.now.targets) libraries.now (target_view target.now))) }
-        ensures paths { IfOk result (λ c. texts c.objects.items ++ texts c.asked.items
-            ≡ outputs_of (target_edges_of self.now.surroundings (linked_of self.now.targets) libraries.now (target_view target.now))) }
-        ensures asked { IfOk result (λ c. texts c.asked.items ≡ default_paths (target_view target.now)) }
+        ensures { let edges = target_edges_of self.now.surroundings (linked_of self.now.targets) libraries.now (target_view target.now) in
+            IfOk result (λ c. AreClaims c edges (default_paths (target_view target.now))) }
     {
         let context = Context {
             alloc: self.alloc,

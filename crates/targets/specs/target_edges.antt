@@ -3,3 +3,4 @@ pub mod Words
 pub mod Edges
 pub mod Parts
 pub mod PartsView
+pub mod Claims

@@ -8,6 +8,7 @@ ghost use Rattle.targets.specs.Data.{Build, Custom};
 ghost use Rattle.targets.specs.Files.{default_paths};
 ghost use Rattle.targets.specs.LinkedViews.{linked_views};
 ghost use Rattle.targets.specs.View.{build_view, custom_view, source_view, surroundings_view, target_view};
+ghost use Rattle.targets.specs.target_edges.Claims.{AreClaims};
 ghost use Rattle.targets.specs.target_edges.Edges.{build_edges, custom_edge, target_edges};
 ghost use Rattle.targets.specs.target_edges.Parts.{command_held, compiles_held, custom_held, depfile_held, is_none, source_held};
 
@@ -100,13 +101,9 @@ fn all_are_held(compiles: bool, made: bool, names: &[Edge]) -> bool
 }
 
 fn build_claims(context: &Context, target: &BuildTarget) -> Result<Claims, AllocError>
-    ensures writable { IfOk result (λ c. c.writable
-        ≡ are_writable_of (build_edges (surroundings_view context.now.surroundings.now)
-        (linked_views context.now.earlier.now) context.now.libraries.now (build_view target.now))) }
-    ensures paths { IfOk result (λ c. texts c.objects.items ++ texts c.asked.items
-        ≡ flat_map (λ e. e.outputs) (build_edges (surroundings_view context.now.surroundings.now)
-        (linked_views context.now.earlier.now) context.now.libraries.now (build_view target.now))) }
-    ensures asked { IfOk result (λ c. texts c.asked.items ≡ default_paths (Build (build_view target.now))) }
+    ensures { let edges = build_edges (surroundings_view context.now.surroundings.now)
+        (linked_views context.now.earlier.now) context.now.libraries.now (build_view target.now) in
+        IfOk result (λ c. AreClaims c edges (default_paths (Build (build_view target.now)))) }
 {
     let inputs = compiled(context.alloc, context.surroundings.facts.depth, target)?;
     let file = file_path(context.alloc, target)?;
@@ -176,12 +173,8 @@ fn custom_is_held(target: &CustomTarget, outputs: &[String]) -> bool
 }
 
 fn custom_claims(context: &Context, target: &CustomTarget) -> Result<Claims, AllocError>
-    ensures writable { IfOk result (λ c. c.writable
-        ≡ are_writable_of (custom_edge (surroundings_view context.now.surroundings.now).facts.depth (custom_view target.now) ∷ [])) }
-    ensures paths { IfOk result (λ c. texts c.objects.items ++ texts c.asked.items
-        ≡ flat_map (λ e. e.outputs)
-        (custom_edge (surroundings_view context.now.surroundings.now).facts.depth (custom_view target.now) ∷ [])) }
-    ensures asked { IfOk result (λ c. texts c.asked.items ≡ default_paths (Custom (custom_view target.now))) }
+    ensures { let edge = custom_edge (surroundings_view context.now.surroundings.now).facts.depth (custom_view target.now) in
+        IfOk result (λ c. AreClaims c (edge ∷ []) (default_paths (Custom (custom_view target.now)))) }
 {
     let asked = output_paths(context.alloc, target)?;
     let writable = custom_is_held(target, &asked);
@@ -194,13 +187,9 @@ fn custom_claims(context: &Context, target: &CustomTarget) -> Result<Claims, All
 
 /// What a project has to know of the target's edges.
 pub fn claims_of(context: &Context, target: &Target) -> Result<Claims, AllocError>
-    ensures writable { IfOk result (λ c. c.writable
-        ≡ are_writable_of (target_edges (surroundings_view context.now.surroundings.now)
-        (linked_views context.now.earlier.now) context.now.libraries.now (target_view target.now))) }
-    ensures paths { IfOk result (λ c. texts c.objects.items ++ texts c.asked.items
-        ≡ flat_map (λ e. e.outputs) (target_edges (surroundings_view context.now.surroundings.now)
-        (linked_views context.now.earlier.now) context.now.libraries.now (target_view target.now))) }
-    ensures asked { IfOk result (λ c. texts c.asked.items ≡ default_paths (target_view target.now)) }
+    ensures { let edges = target_edges (surroundings_view context.now.surroundings.now)
+        (linked_views context.now.earlier.now) context.now.libraries.now (target_view target.now) in
+        IfOk result (λ c. AreClaims c edges (default_paths (target_view target.now))) }
 {
     match target {
         Target::Build(target) => build_claims(context, target),
