@@ -1,9 +1,10 @@
 -- What `files` and `include_directories` give.
-use Rattle.std.specs.Prelude.{ℕ, false, List, [], ◌∷◌, ◌++◌, Result, Ok, Err}
+use Rattle.std.specs.Prelude.{ℕ, false, List, [], ◌∷◌, Result, Ok, Err}
 use Rattle.data.specs.Data.{Data, list, object, Items, no_items, item, items_append}
 use Rattle.data.specs.Limits.{within, within_bytes}
 use Rattle.data.specs.declared.object.Object.TheVariants as objects
 use Rattle.data.specs.declared.refusal.Refusal.{Refusal}
+use Rattle.named_sources.specs.resources.Found.{short_texts}
 
 abbrev pub and_then : {A B : Type 0} → Result A Refusal → (A → Result B Refusal) → Result B Refusal
 and_then (Ok a) next = next a
@@ -19,11 +20,6 @@ files_behind ds (p ∷ ps) =
 abbrev pub files_at : List (List ℕ) → Result Data Refusal
 files_at ps = and_then (files_behind no_items ps) (λ ds. within (list ds))
 
--- paths, and behind them others, each within the limit of a text
-abbrev pub texts_behind : List (List ℕ) → List (List ℕ) → Result (List (List ℕ)) Refusal
-texts_behind qs [] = Ok qs
-texts_behind qs (p ∷ ps) = and_then (within_bytes p) (λ path. texts_behind (qs ++ path ∷ []) ps)
-
 -- the object that has the folders at these paths
 abbrev pub directories_at : List (List ℕ) → Result Data Refusal
-directories_at ps = and_then (texts_behind [] ps) (λ qs. Ok (object (objects.IncludeDirectories qs)))
+directories_at ps = and_then (short_texts ps) (λ qs. Ok (object (objects.IncludeDirectories qs)))

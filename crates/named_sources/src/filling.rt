@@ -80,18 +80,6 @@ fn fill_parts(
     }
 }
 
-fn filled_pieces(
-    alloc: Global,
-    scope: Scope,
-    place: &Place<'_>,
-    text: &str,
-) -> Result<Option<String>, AllocError>
-    ensures { IfOk result (λ r. option_map string_bytes r ≡ filled scope (place_view place.now) text.now) }
-{
-    let parts = pieces(alloc, text)?;
-    fill_parts(alloc, scope, place, &parts)
-}
-
 fn has_mark(text: &str) -> bool
     ensures { result ≡ has 64 text.now }
 {
@@ -109,7 +97,8 @@ pub fn filled(
     ensures { IfOk result (λ r. option_map string_bytes r ≡ filled scope (place_view place.now) text.now) }
 {
     if has_mark(text) {
-        filled_pieces(alloc, scope, place, text)
+        let parts = pieces(alloc, text)?;
+        fill_parts(alloc, scope, place, &parts)
     } else {
         Ok(Some(String::from_str(alloc, text)?))
     }

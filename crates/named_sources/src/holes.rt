@@ -6,7 +6,7 @@ ghost use Rattle.std.specs.Str.Parse.{IsNumeral, digits_value};
 ghost use Rattle.targets.specs.edge.Texts.{texts};
 ghost use Rattle.paths.specs.Names.{plain_name as plain_of, base_name as base_of};
 ghost use Rattle.named_sources.specs.Holes.{means_if, only_of, first_of, is_number, numbered, numbered_if, rest_after, numbered_name};
-ghost use Rattle.named_sources.specs.Holes.{stays, with_p, place_name, file_name, other_name, meaning};
+ghost use Rattle.named_sources.specs.Holes.{stays, with_p, place_name, file_name, meaning};
 ghost use Rattle.named_sources.specs.HolesView.{place_view, meaning_view};
 
 use paths::{base_name, plain_name};
@@ -179,20 +179,6 @@ fn file_name<'p>(alloc: Global, place: &Place<'p>, name: &str) -> Result<Meaning
     }
 }
 
-fn other_name<'p>(
-    alloc: Global,
-    scope: Scope,
-    place: &Place<'p>,
-    name: &str,
-) -> Result<Meaning<'p>, AllocError>
-    ensures { IfOk result (λ m. meaning_view m ≡ other_name scope (place_view place.now) name.now) }
-{
-    match scope {
-        Scope::Command => file_name(alloc, place, name),
-        Scope::FileName => Ok(Meaning::Stays),
-    }
-}
-
 fn plain_name_of(inputs: &[String]) -> Meaning<'_>
     ensures { meaning_view result ≡ means_if (option_map plain_of (only_of (texts inputs.now))) }
 {
@@ -225,6 +211,9 @@ pub fn meaning_of<'p>(
     } else if name == "BASENAME" {
         base_name_of(alloc, place.inputs)
     } else {
-        other_name(alloc, scope, place, name)
+        match scope {
+            Scope::Command => file_name(alloc, place, name),
+            Scope::FileName => Ok(Meaning::Stays),
+        }
     }
 }

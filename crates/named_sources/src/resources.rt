@@ -22,7 +22,7 @@ mod testing;
 
 pub use beside::call_question;
 pub use fitting::{dependency_that_fits, program_words};
-pub use found::{found_dependency, missing_dependency, within_texts};
+pub use found::{found_dependency, missing_dependency, short_texts, within_texts};
 pub use installs::{destination, headers_folder, man_folder};
 pub use joining::{dependencies_in, joined};
 pub use testing::{environment, seconds_of};

@@ -1,11 +1,12 @@
 //! What `files` and `include_directories` give.
-ghost use Rattle.std.specs.Prelude.{◌≡◌, [], IfOk, map, string_bytes};
+ghost use Rattle.std.specs.Prelude.{◌≡◌, IfOk, map, string_bytes};
 ghost use Rattle.data.specs.Prelude.{Answers};
 ghost use Rattle.data.specs.Data.{no_items};
 ghost use Rattle.named_sources.specs.ValuesView.{items_in};
-ghost use Rattle.named_sources.specs.Values.{directories_at, files_at, files_behind, texts_behind};
+ghost use Rattle.named_sources.specs.Values.{directories_at, files_at, files_behind};
 
-use data::{List, Object, Refusal, Text, Texts, Value};
+use crate::resources::short_texts;
+use data::{List, Object, Refusal, Text, Value};
 use std::alloc::{AllocError, Global};
 
 // The files at these paths.
@@ -38,25 +39,11 @@ pub fn files_at(alloc: Global, paths: &[String]) -> Result<Result<Value, Refusal
     }
 }
 
-// These paths as texts.
-fn texts(alloc: Global, paths: &[String]) -> Result<Result<Texts, Refusal>, AllocError>
-    ensures { IfOk result (λ r. r ≡ texts_behind [] (map string_bytes paths.now)) }
-{
-    let mut texts = Texts::new(alloc);
-    for path in paths {
-        match Text::of_str(alloc, path.as_str())? {
-            Ok(path) => texts.push(path)?,
-            Err(refusal) => return Ok(Err(refusal)),
-        }
-    }
-    Ok(Ok(texts))
-}
-
 /// The object that has the folders at these paths, or `Refusal::Limit` where a path is too long.
 pub fn directories_at(alloc: Global, paths: &[String]) -> Result<Result<Value, Refusal>, AllocError>
     ensures { IfOk result (λ r. Answers (directories_at (map string_bytes paths.now)) r) }
 {
-    match texts(alloc, paths)? {
+    match short_texts(alloc, paths)? {
         Ok(texts) => Ok(Ok(Value::of_object(alloc, Object::IncludeDirectories(texts))?)),
         Err(refusal) => Ok(Err(refusal)),
     }

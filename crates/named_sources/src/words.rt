@@ -1,8 +1,7 @@
 //! Words of a command.
 ghost use Rattle.std.specs.Prelude.{◌≡◌, ◌++◌, IfOk, None, Some, option_map, string_bytes, if◌then◌else◌};
 ghost use Rattle.targets.specs.edge.Texts.{texts};
-ghost use Rattle.named_sources.specs.Holes.{some_of, one_word, words_of, filled as filled_of};
-ghost use Rattle.named_sources.specs.declared.holes.Scope.TheVariants.{Command};
+ghost use Rattle.named_sources.specs.Holes.{some_of, one_word, words_of};
 ghost use Rattle.named_sources.specs.HolesView.{place_view};
 
 use crate::filling::filled;
@@ -37,19 +36,6 @@ fn push_word(words: &mut Vec<String>, word: Option<String>) -> Result<bool, Allo
     }
 }
 
-fn push_filled(
-    words: &mut Vec<String>,
-    alloc: Global,
-    place: &Place<'_>,
-    text: &str,
-) -> Result<bool, AllocError>
-    ensures { IfOk result (λ done. (if done then Some (texts words.new.items) else None)
-        ≡ option_map (λ ws. texts words.old.items ++ ws) (one_word (filled_of Command (place_view place.now) text.now))) }
-{
-    let word = filled(alloc, Scope::Command, place, text)?;
-    push_word(words, word)
-}
-
 /// Appends the words of a text of the command: all inputs or outputs where it is `@INPUT@` or `@OUTPUT@` alone, else itself with the values
 /// of its placeholders. Answers whether each placeholder stands for something here; else the call is refused (E9).
 pub fn push_words(
@@ -66,6 +52,6 @@ pub fn push_words(
     } else if text == "@OUTPUT@" {
         push_some(words, place.outputs)
     } else {
-        push_filled(words, alloc, place, text)
+        push_word(words, filled(alloc, Scope::Command, place, text)?)
     }
 }

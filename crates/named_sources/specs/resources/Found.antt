@@ -16,9 +16,13 @@ abbrev pub are_short : List (List ℕ) → Bool
 are_short [] = true
 are_short (t ∷ ts) = is_short t && are_short ts
 
+-- texts within the limit, or the refusal
+abbrev pub short_texts : List (List ℕ) → Result (List (List ℕ)) Refusal
+short_texts ts = if are_short ts then Ok ts else Err refusal.Limit
+
 -- texts within the limits of a list and of a text, or the refusal
 abbrev pub within_texts : List (List ℕ) → Result (List (List ℕ)) Refusal
-within_texts ts = if nat_le (length ts) items && are_short ts then Ok ts else Err refusal.Limit
+within_texts ts = if nat_le (length ts) items then short_texts ts else Err refusal.Limit
 
 -- a dependency with arguments for the compiler and the linker alone
 abbrev pub of_arguments : List ℕ → List ℕ → List (List ℕ) → List (List ℕ) → Dependency

@@ -1,6 +1,6 @@
 -- `declare_dependency`: a dependency with those that it depends on.
 use Rattle.std.specs.Prelude.{Bool, ◌&&◌, nat_le, List, [], ◌∷◌, ◌++◌, length, Result, Ok, Err, if◌then◌else◌}
-use Rattle.data.specs.Data.{Data, boolean, integer, text, list, dictionary, object, Items, no_items, item}
+use Rattle.data.specs.Data.{Data, list, object, Items, no_items, item}
 use Rattle.data.specs.declared.object.Dependency.{Dependency}
 use Rattle.data.specs.declared.object.Object.{Object}
 use Rattle.data.specs.declared.object.Object.TheVariants as objects
@@ -17,10 +17,7 @@ abbrev mutual
   pub dependencies_in : Data → List Dependency
   dependencies_in (object o) = if_dependency o
   dependencies_in (list ds) = dependencies_of ds
-  dependencies_in (boolean b) = []
-  dependencies_in (integer z) = []
-  dependencies_in (text t) = []
-  dependencies_in (dictionary es) = []
+  dependencies_in _ = []
 
   pub dependencies_of : Items → List Dependency
   dependencies_of no_items = []

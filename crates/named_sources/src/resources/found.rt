@@ -1,17 +1,14 @@
 //! The objects that `dependency` and `find_program` give.
 ghost use Rattle.std.specs.Prelude.{◌≡◌, map, string_bytes, codes, IfOk};
-ghost use Rattle.named_sources.specs.resources.Found.{found, missing, within_texts};
+ghost use Rattle.named_sources.specs.resources.Found.{found, missing, short_texts, within_texts};
 
 use data::{Dependency, Numbers, Refusal, Sources, Text, Texts};
 use std::alloc::{AllocError, Global};
 
-/// Texts of their own, or `Refusal::Limit` where there are more than 65,536 of them or one is longer than 16,777,216 bytes.
-pub fn within_texts(alloc: Global, strings: &[String]) -> Result<Result<Texts, Refusal>, AllocError>
-    ensures { IfOk result (λ r. r ≡ within_texts (map string_bytes strings.now)) }
+/// Texts of their own, or `Refusal::Limit` where one is longer than 16,777,216 bytes.
+pub fn short_texts(alloc: Global, strings: &[String]) -> Result<Result<Texts, Refusal>, AllocError>
+    ensures { IfOk result (λ r. r ≡ short_texts (map string_bytes strings.now)) }
 {
-    if strings.len() > basics::limits::ITEMS {
-        return Ok(Err(Refusal::Limit));
-    }
     let mut texts = Texts::new(alloc);
     for string in strings {
         match Text::of_str(alloc, string.as_str())? {
@@ -20,6 +17,16 @@ pub fn within_texts(alloc: Global, strings: &[String]) -> Result<Result<Texts, R
         }
     }
     Ok(Ok(texts))
+}
+
+/// The same, or `Refusal::Limit` where there are more than 65,536 of them.
+pub fn within_texts(alloc: Global, strings: &[String]) -> Result<Result<Texts, Refusal>, AllocError>
+    ensures { IfOk result (λ r. r ≡ within_texts (map string_bytes strings.now)) }
+{
+    if strings.len() > basics::limits::ITEMS {
+        return Ok(Err(Refusal::Limit));
+    }
+    short_texts(alloc, strings)
 }
 
 // A dependency with these arguments for the compiler and the linker, and with nothing else.

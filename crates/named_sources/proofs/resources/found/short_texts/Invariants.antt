@@ -1,6 +1,6 @@
 use Rattle.std.proofs.Common.{◌≡◌, ◌++◌, drop, map, string_bytes}
 use Rattle.named_sources.specs.resources.Found.{are_short}
-use Rattle.named_sources.proofs.resources.found.within_texts.Given as goal
+use Rattle.named_sources.proofs.resources.found.short_texts.Given as goal
 
 -- the texts so far and what is left are all, and what is left decides
 abbrev pub invariant-loop-string : goal.invariant-loop-string
