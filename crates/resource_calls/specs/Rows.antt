@@ -1,19 +1,24 @@
 -- The rows of the functions: what each takes.
-use Rattle.std.specs.Prelude.{List, [], ◌∷◌, codes}
+use Rattle.std.specs.Prelude.{List, [], ◌∷◌, ◌++◌, codes}
 use Rattle.arguments.specs.declared.row.Kind.TheVariants.{Any, Boolean, Command, Flat, Integer, Requirement, Text, Texts}
 use Rattle.arguments.specs.declared.row.Kind.TheVariants.{TextsOrDictionary}
 use Rattle.arguments.specs.declared.row.Piece.TheVariants as pieces
 use Rattle.arguments.specs.Row.{KeywordData, RowData, optional, row, with_others}
 
--- values of any type for `method`, `static`, `native` and `include_type` are read and dropped
-abbrev pub dependency_keywords : List KeywordData
-dependency_keywords =
+-- what all functions take that find something; values of any type for `native` are read and dropped
+abbrev pub finding_keywords : List KeywordData
+finding_keywords =
     optional (codes "required") Requirement
     ∷ optional (codes "disabler") Boolean
-    ∷ optional (codes "version") Texts
+    ∷ optional (codes "native") Any
+    ∷ []
+
+-- values of any type for `method`, `static` and `include_type` are read and dropped
+abbrev pub dependency_keywords : List KeywordData
+dependency_keywords =
+    finding_keywords ++ optional (codes "version") Texts
     ∷ optional (codes "method") Any
     ∷ optional (codes "static") Any
-    ∷ optional (codes "native") Any
     ∷ optional (codes "include_type") Any
     ∷ []
 
@@ -36,17 +41,9 @@ declare_dependency_keywords =
 abbrev pub declare_dependency_row : RowData
 declare_dependency_row = row [] 0 declare_dependency_keywords
 
--- a value of any type for `native` is read and dropped
-abbrev pub find_program_keywords : List KeywordData
-find_program_keywords =
-    optional (codes "required") Requirement
-    ∷ optional (codes "disabler") Boolean
-    ∷ optional (codes "native") Any
-    ∷ []
-
 -- `find_program(names..)`
 abbrev pub find_program_row : RowData
-find_program_row = with_others Text (row (Text ∷ []) 1 find_program_keywords)
+find_program_row = with_others Text (row (Text ∷ []) 1 finding_keywords)
 
 abbrev pub install_headers_keywords : List KeywordData
 install_headers_keywords =

@@ -1,7 +1,7 @@
 //! `declare_dependency`: <https://mesonbuild.com/Reference-manual_functions.html#declare_dependency>.
 ghost use Rattle.std.specs.Prelude.{option_map};
 ghost use Rattle.world.specs.Prelude.{Does, MayFail, arguments_data, data_of};
-ghost use Rattle.resource_calls.specs.DeclareDependency.{declare_dependency, joined_given, said_lists};
+ghost use Rattle.resource_calls.specs.DeclareDependency.{declare_dependency, joined_given};
 ghost use Rattle.resource_calls.specs.OwnListsView.{own_view};
 
 use crate::joined_lists::joined_dependency;
@@ -11,18 +11,6 @@ use arguments::Arguments;
 use data::{Dependency, Object, Value};
 use ports::{Outputs, Tree};
 use world::{Caller, Stop};
-
-// What the call lists of its own, or the refusal of arguments that break a rule.
-fn said_lists<T: Tree, O: Outputs>(
-    caller: &Caller<'_, T, O>,
-    arguments: &Arguments,
-) -> Result<Own, Stop>
-    ensures { Does T.seen O.seen own_view (said_lists (arguments_data arguments.now)) caller.now result caller.now }
-{
-    let here = caller.here();
-    let own = own_lists(&here, arguments)?;
-    caller.passed(own)
-}
 
 // The dependency with these lists, or the refusal of lists that are too long.
 fn joined_given<T: Tree, O: Outputs>(
@@ -46,7 +34,8 @@ pub fn declare_dependency<T: Tree, O: Outputs>(
     requires { MayFail T.seen O.seen caller.old }
     ensures { Does T.seen O.seen (option_map data_of) (declare_dependency (arguments_data arguments.now)) caller.old result caller.new }
 {
-    let own = said_lists(caller, arguments)?;
+    let said = own_lists(&caller.here(), arguments)?;
+    let own = caller.passed(said)?;
     require_files(caller, &own.sources)?;
     let dependency = joined_given(caller, arguments, &own)?;
     let value = Value::of_object(caller.alloc, Object::Dependency(dependency))?;

@@ -1,13 +1,10 @@
 //! `dependency`: <https://mesonbuild.com/Reference-manual_functions.html#dependency>.
 ghost use Rattle.std.specs.Prelude.{◌≡◌, IfOk, map, option_map};
 ghost use Rattle.data.specs.Flat.{flat_all};
-ghost use Rattle.machine.specs.machine_file.Questions.{answer_to, dependency_topic};
 ghost use Rattle.project.specs.View.{answer_view};
-ghost use Rattle.named_sources.specs.resources.Beside.{call_question};
 ghost use Rattle.world.specs.Prelude.{Does, MayFail, arguments_data, data_of};
 ghost use Rattle.world.specs.Declaring.{add_dependency};
-ghost use Rattle.world.specs.Deed.{consult};
-ghost use Rattle.resource_calls.specs.Dependency.{answer_of, ask_dependency, dependency, dependency_named, first_said, fitting_dependency};
+ghost use Rattle.resource_calls.specs.Dependency.{answer_of, dependency, dependency_named, first_said, fitting_dependency};
 ghost use Rattle.resource_calls.specs.Dependency.{give_found, give_missing, none_fits};
 ghost use Rattle.resource_calls.specs.Required.{required_by};
 
@@ -22,36 +19,8 @@ use project::Answer;
 use std::alloc::{AllocError, Global};
 use world::{Caller, Stop};
 
-// Asks for the dependency of a name, beside which a call says what its arguments do.
-fn ask_for<T: Tree, O: Outputs>(
-    caller: &mut Caller<'_, T, O>,
-    name: &str,
-    arguments: &Arguments,
-) -> Result<(), Stop>
-    ensures deed { Does T.seen O.seen (λ u. answer_to caller.old.store.now.machine (dependency_topic name.now))
-        (consult (call_question (dependency_topic name.now) (arguments_data arguments.now))) caller.old result caller.new }
-    ensures machine { caller.new.store.now.machine ≡ caller.old.store.now.machine }
-{
-    let topic = Topic::dependency(caller.alloc, name)?;
-    let question = call_question(caller.alloc, topic, arguments)?;
-    caller.ask(question)
-}
-
-// The dependency of a name that the machine file has in a version that fits.
-fn ask_dependency<T: Tree, O: Outputs>(
-    caller: &mut Caller<'_, T, O>,
-    name: &str,
-    arguments: &Arguments,
-) -> Result<Option<Result<Dependency, data::Refusal>>, Stop>
-    ensures { Does T.seen O.seen (λ d. d) (ask_dependency name.now (arguments_data arguments.now)) caller.old result caller.new }
-{
-    ask_for(caller, name, arguments)?;
-    let conditions = arguments.texts(caller.alloc, "version")?;
-    let said = dependency_that_fits(caller.alloc, caller.store.machine(), name, &conditions)?;
-    Ok(said)
-}
-
-// The same; for the empty name nothing is asked.
+// The dependency of a name that the machine file has in a version that fits; for the empty name nothing is asked. Beside the question the
+// call says what its arguments do.
 fn dependency_named<T: Tree, O: Outputs>(
     caller: &mut Caller<'_, T, O>,
     name: &str,
@@ -60,10 +29,14 @@ fn dependency_named<T: Tree, O: Outputs>(
     ensures { Does T.seen O.seen (λ d. d) (dependency_named name.now (arguments_data arguments.now)) caller.old result caller.new }
 {
     if name.is_empty() {
-        Ok(None)
-    } else {
-        ask_dependency(caller, name, arguments)
+        return Ok(None);
     }
+    let topic = Topic::dependency(caller.alloc, name)?;
+    let question = call_question(caller.alloc, topic, arguments)?;
+    caller.ask(question)?;
+    let conditions = arguments.texts(caller.alloc, "version")?;
+    let said = dependency_that_fits(caller.alloc, caller.store.machine(), name, &conditions)?;
+    Ok(said)
 }
 
 // What the machine file says of the first of these names that fits.

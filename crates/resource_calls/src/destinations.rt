@@ -40,6 +40,14 @@ pub struct Folders<'a> {
     pub project: &'a str,
 }
 
+/// A call that installs files of a sort.
+#[derive(Clone, Copy)]
+pub struct Call<'f, 'a> {
+    pub folders: Folders<'f>,
+    pub sort: Sort,
+    pub arguments: &'a Arguments,
+}
+
 /// What a call says.
 #[derive(Drop)]
 pub struct Said {
@@ -66,23 +74,15 @@ pub fn folders_in<'c, T: Tree, O: Outputs>(caller: &'c Caller<'_, T, O>) -> Fold
 
 // Headers go to `includedir` and the keyword `subdir`, data to `datadir` and the project's name, a man page to the section of its name's
 // last digit in `mandir`; none where it has no digit.
-fn usual_folder(
-    folders: &Folders<'_>,
-    sort: Sort,
-    arguments: &Arguments,
-    name: &str,
-) -> Result<Option<String>, AllocError>
+fn usual_folder(call: &Call<'_, '_>, name: &str) -> Result<Option<String>, AllocError>
     ensures { IfOk result (λ f. option_map string_bytes f
-        ≡ usual_folder (folders_view folders.now) sort (arguments_data arguments.now) name.now) }
+        ≡ usual_folder (folders_view call.now.folders) call.now.sort (arguments_data call.now.arguments.now) name.now) }
 {
-    match sort {
+    let folders = call.folders;
+    match call.sort {
         Sort::Header => {
-            let folder = headers_folder(
-                folders.here.alloc,
-                folders.includedir,
-                arguments.text("subdir"),
-            )?;
-            Ok(Some(folder))
+            let below = call.arguments.text("subdir");
+            Ok(Some(headers_folder(folders.here.alloc, folders.includedir, below)?))
         }
         Sort::Data => Ok(Some(path_below(folders.here.alloc, folders.datadir, folders.project)?)),
         Sort::ManPage => man_folder(folders.here.alloc, folders.mandir, name),
@@ -100,17 +100,12 @@ fn given_or(alloc: Global, arguments: &Arguments, usual: String) -> Result<Strin
     }
 }
 
-fn install_folder(
-    folders: &Folders<'_>,
-    sort: Sort,
-    arguments: &Arguments,
-    name: &str,
-) -> Result<Option<String>, AllocError>
+fn install_folder(call: &Call<'_, '_>, name: &str) -> Result<Option<String>, AllocError>
     ensures { IfOk result (λ f. option_map string_bytes f
-        ≡ install_folder (folders_view folders.now) sort (arguments_data arguments.now) name.now) }
+        ≡ install_folder (folders_view call.now.folders) call.now.sort (arguments_data call.now.arguments.now) name.now) }
 {
-    match usual_folder(folders, sort, arguments, name)? {
-        Some(usual) => Ok(Some(given_or(folders.here.alloc, arguments, usual)?)),
+    match usual_folder(call, name)? {
+        Some(usual) => Ok(Some(given_or(call.folders.here.alloc, call.arguments, usual)?)),
         None => Ok(None),
     }
 }
@@ -118,18 +113,13 @@ fn install_folder(
 // ---- files
 
 // A file below a root, and where it goes.
-fn install_at(
-    folders: &Folders<'_>,
-    sort: Sort,
-    arguments: &Arguments,
-    root: &str,
-    path: &str,
-) -> Result<Option<Install>, AllocError>
+fn install_at(call: &Call<'_, '_>, root: &str, path: &str) -> Result<Option<Install>, AllocError>
     ensures { IfOk result (λ i. option_map install_view i
-        ≡ install_at (folders_view folders.now) sort (arguments_data arguments.now) root.now path.now) }
+        ≡ install_at (folders_view call.now.folders) call.now.sort (arguments_data call.now.arguments.now) root.now path.now) }
 {
+    let folders = call.folders;
     let name = plain_name(path);
-    match install_folder(folders, sort, arguments, name)? {
+    match install_folder(call, name)? {
         Some(folder) => Ok(Some(Install {
             source: path_below(folders.here.alloc, root, path)?,
             destination: destination(folders.here.alloc, folders.prefix, folder.as_str(), name)?,
@@ -139,23 +129,14 @@ fn install_at(
 }
 
 // What is installed of a file that is named: a target can't be installed so.
-fn install_of(
-    folders: &Folders<'_>,
-    sort: Sort,
-    arguments: &Arguments,
-    named: &NamedSource,
-) -> Result<Option<Install>, AllocError>
+fn install_of(call: &Call<'_, '_>, named: &NamedSource) -> Result<Option<Install>, AllocError>
     ensures { IfOk result (λ i. option_map install_view i
-        ≡ install_of (folders_view folders.now) sort (arguments_data arguments.now) (named_view named.now)) }
+        ≡ install_of (folders_view call.now.folders) call.now.sort (arguments_data call.now.arguments.now) (named_view named.now)) }
 {
-    let here = folders.here;
+    let here = call.folders.here;
     match named {
-        NamedSource::Tree(path) => {
-            install_at(folders, sort, arguments, here.source_root, path.as_str())
-        }
-        NamedSource::Built(path) => {
-            install_at(folders, sort, arguments, here.build_root, path.as_str())
-        }
+        NamedSource::Tree(path) => install_at(call, here.source_root, path.as_str()),
+        NamedSource::Built(path) => install_at(call, here.build_root, path.as_str()),
         NamedSource::Outputs(_) | NamedSource::Output { .. } => Ok(None),
     }
 }
@@ -173,20 +154,20 @@ fn path_said(named: &NamedSource) -> &str
 
 // What is installed of the files that are named. One that can't be installed breaks a rule.
 fn installs_of(
-    folders: &Folders<'_>,
-    sort: Sort,
-    arguments: &Arguments,
+    call: &Call<'_, '_>,
     named: &[NamedSource],
 ) -> Result<Result<Vec<Install>, Refused>, AllocError>
     ensures { IfOk result (λ is. said_data (λ v. map install_view v.items) is
-        ≡ each_said (installed (folders_view folders.now) sort (arguments_data arguments.now)) [] (map named_view named.now)) }
+        ≡ each_said (installed (folders_view call.now.folders) call.now.sort (arguments_data call.now.arguments.now)) []
+        (map named_view named.now)) }
 {
-    let mut installs = Vec::new(folders.here.alloc);
+    let alloc = call.folders.here.alloc;
+    let mut installs = Vec::new(alloc);
     for one in named {
-        match install_of(folders, sort, arguments, one)? {
+        match install_of(call, one)? {
             Some(install) => installs.push(install)?,
             None => {
-                let refused = Rule::IsManPage.refused(folders.here.alloc, path_said(one))?;
+                let refused = Rule::IsManPage.refused(alloc, path_said(one))?;
                 return Ok(Err(refused));
             }
         }
@@ -195,20 +176,17 @@ fn installs_of(
 }
 
 /// What a call says that installs files of a sort. A path that leads out of the tree breaks a rule, and a man page without a section.
-pub fn said_of(
-    folders: &Folders<'_>,
-    sort: Sort,
-    arguments: &Arguments,
-) -> Result<Result<Said, Refused>, AllocError>
-    ensures { IfOk result (λ s. said_data said_view s ≡ said_of (folders_view folders.now) sort (arguments_data arguments.now)) }
+pub fn said_of(call: &Call<'_, '_>) -> Result<Result<Said, Refused>, AllocError>
+    ensures { IfOk result (λ s. said_data said_view s
+        ≡ said_of (folders_view call.now.folders) call.now.sort (arguments_data call.now.arguments.now)) }
 {
-    let here = folders.here;
-    let values = arguments.leaves_behind(here.alloc, 0)?;
+    let here = call.folders.here;
+    let values = call.arguments.leaves_behind(here.alloc, 0)?;
     let named = match sources_of(here.alloc, here.source_root, here.folder, &values)? {
         Ok(named) => named,
         Err(refused) => return Ok(Err(refused)),
     };
-    match installs_of(folders, sort, arguments, &named)? {
+    match installs_of(call, &named)? {
         Ok(installs) => Ok(Ok(Said { named, installs })),
         Err(refused) => Ok(Err(refused)),
     }

@@ -3,10 +3,9 @@
 ghost use Rattle.std.specs.Prelude.{◌≡◌, map, option_map, IfOk};
 ghost use Rattle.project.specs.View.{install_view};
 ghost use Rattle.world.specs.Prelude.{Does, MayFail, arguments_data, data_of};
-ghost use Rattle.resource_calls.specs.DestinationsView.{said_view};
-ghost use Rattle.resource_calls.specs.Installs.{all_installed, install, said_installs};
+ghost use Rattle.resource_calls.specs.Installs.{all_installed, install};
 
-use crate::destinations::{Said, Sort, folders_in, said_of};
+use crate::destinations::{Call, Sort, folders_in, said_of};
 use crate::named_files::require_files;
 use arguments::Arguments;
 use data::Value;
@@ -14,19 +13,6 @@ use ports::{Outputs, Tree};
 use project::Install;
 use std::alloc::{AllocError, Global};
 use world::{Caller, Stop};
-
-// Which files are installed where, or the refusal of arguments that break a rule.
-fn said_installs<T: Tree, O: Outputs>(
-    caller: &Caller<'_, T, O>,
-    sort: Sort,
-    arguments: &Arguments,
-) -> Result<Said, Stop>
-    ensures { Does T.seen O.seen said_view (said_installs sort (arguments_data arguments.now)) caller.now result caller.now }
-{
-    let folders = folders_in(caller);
-    let said = said_of(&folders, sort, arguments)?;
-    caller.passed(said)
-}
 
 fn copy_of(alloc: Global, install: &Install) -> Result<Install, AllocError>
     ensures { IfOk result (λ i. install_view i ≡ install_view install.now) }
@@ -61,7 +47,13 @@ pub fn install<T: Tree, O: Outputs>(
     requires { MayFail T.seen O.seen caller.old }
     ensures { Does T.seen O.seen (option_map data_of) (install sort (arguments_data arguments.now)) caller.old result caller.new }
 {
-    let said = said_installs(caller, sort, arguments)?;
+    let folders = folders_in(caller);
+    let answer = said_of(&Call {
+        folders,
+        sort,
+        arguments,
+    })?;
+    let said = caller.passed(answer)?;
     require_files(caller, &said.named)?;
     install_all(caller, &said.installs)?;
     Ok(None)

@@ -4,7 +4,7 @@ ghost use Rattle.arguments.specs.Given.{keyword};
 ghost use Rattle.named_sources.specs.SourcesView.{named_view};
 ghost use Rattle.targets.specs.LinkedViews.{linked_views};
 ghost use Rattle.world.specs.Prelude.{arguments_data, here_view};
-ghost use Rattle.resource_calls.specs.JoinedLists.{count_at, dependencies_given, joined_dependency, own_dependency, source_of};
+ghost use Rattle.resource_calls.specs.JoinedLists.{count_at, dependencies_given, joined_dependency, source_of};
 ghost use Rattle.resource_calls.specs.JoinedLists.{sources_within, tree_source, version_or, with_arguments, with_own};
 ghost use Rattle.resource_calls.specs.OwnListsView.{own_view};
 
@@ -125,32 +125,6 @@ fn with_arguments(
     found_dependency(alloc, "", version, &compile_args, &link_args)
 }
 
-// The dependency with the lists of its own.
-fn own_dependency(
-    here: &Here<'_>,
-    project: &str,
-    arguments: &Arguments,
-    own: &Own,
-) -> Result<Result<Dependency, Refusal>, AllocError>
-    ensures { IfOk result (λ r. r
-        ≡ own_dependency project.now (here_view here.now).earlier (arguments_data arguments.now) (own_view own.now)) }
-{
-    let dependency = match with_arguments(here.alloc, project, arguments)? {
-        Ok(dependency) => dependency,
-        Err(refusal) => return Ok(Err(refusal)),
-    };
-    let folders = match within_texts(here.alloc, &own.folders)? {
-        Ok(folders) => folders,
-        Err(refusal) => return Ok(Err(refusal)),
-    };
-    let sources = match sources_within(here.alloc, here.earlier, &own.sources)? {
-        Ok(sources) => sources,
-        Err(refusal) => return Ok(Err(refusal)),
-    };
-    let whole = with_own(dependency, folders, &own.libraries, sources)?;
-    Ok(Ok(whole))
-}
-
 fn dependencies_given(alloc: Global, arguments: &Arguments) -> Result<Vec<&Dependency>, AllocError>
     ensures { IfOk result (λ ds. map (λ d. d.now) ds.items
         ≡ dependencies_given (keyword (codes "dependencies") (arguments_data arguments.now))) }
@@ -172,10 +146,19 @@ pub fn joined_dependency(
     ensures { IfOk result (λ r. r
         ≡ joined_dependency project.now (here_view here.now).earlier (arguments_data arguments.now) (own_view own.now)) }
 {
-    let dependency = match own_dependency(here, project, arguments, own)? {
+    let dependency = match with_arguments(here.alloc, project, arguments)? {
         Ok(dependency) => dependency,
         Err(refusal) => return Ok(Err(refusal)),
     };
+    let folders = match within_texts(here.alloc, &own.folders)? {
+        Ok(folders) => folders,
+        Err(refusal) => return Ok(Err(refusal)),
+    };
+    let sources = match sources_within(here.alloc, here.earlier, &own.sources)? {
+        Ok(sources) => sources,
+        Err(refusal) => return Ok(Err(refusal)),
+    };
+    let whole = with_own(dependency, folders, &own.libraries, sources)?;
     let others = dependencies_given(here.alloc, arguments)?;
-    joined(dependency, &others)
+    joined(whole, &others)
 }

@@ -6,13 +6,17 @@ ghost use Rattle.resource_calls.specs.Rows.{install_headers_row, install_man_row
 
 use arguments::{Keyword, Kind, Piece, Row};
 
-const DEPENDENCY: &[Keyword] = &[
+// What all functions take that find something.
+const FINDING: &[Keyword] = &[
     Keyword::Optional("required", Kind::Requirement),
     Keyword::Optional("disabler", Kind::Boolean),
+    Keyword::Optional("native", Kind::Any),
+];
+
+const DEPENDENCY: &[Keyword] = &[
     Keyword::Optional("version", Kind::Texts),
     Keyword::Optional("method", Kind::Any),
     Keyword::Optional("static", Kind::Any),
-    Keyword::Optional("native", Kind::Any),
     Keyword::Optional("include_type", Kind::Any),
 ];
 
@@ -24,12 +28,6 @@ const DECLARE_DEPENDENCY: &[Keyword] = &[
     Keyword::Optional("sources", Kind::Flat(Piece::Source)),
     Keyword::Optional("dependencies", Kind::Flat(Piece::Dependency)),
     Keyword::Optional("version", Kind::Text),
-];
-
-const FIND_PROGRAM: &[Keyword] = &[
-    Keyword::Optional("required", Kind::Requirement),
-    Keyword::Optional("disabler", Kind::Boolean),
-    Keyword::Optional("native", Kind::Any),
 ];
 
 const INSTALL_HEADERS: &[Keyword] = &[
@@ -54,7 +52,7 @@ const TEST: &[Keyword] = &[
 pub fn dependency_row() -> Row
     ensures { row_data result ≡ dependency_row }
 {
-    Row::of(&[Kind::Text], 1, &[DEPENDENCY]).with_others(Kind::Text)
+    Row::of(&[Kind::Text], 1, &[FINDING, DEPENDENCY]).with_others(Kind::Text)
 }
 
 /// What `declare_dependency` takes.
@@ -68,7 +66,7 @@ pub fn declare_dependency_row() -> Row
 pub fn find_program_row() -> Row
     ensures { row_data result ≡ find_program_row }
 {
-    Row::of(&[Kind::Text], 1, &[FIND_PROGRAM]).with_others(Kind::Text)
+    Row::of(&[Kind::Text], 1, &[FINDING]).with_others(Kind::Text)
 }
 
 /// What `install_headers` takes.

@@ -4,7 +4,7 @@ ghost use Rattle.project.specs.View.{test_view};
 ghost use Rattle.world.specs.Prelude.{Does, MayFail, arguments_data, data_of};
 ghost use Rattle.world.specs.Answering.{Views};
 ghost use Rattle.resource_calls.specs.RunsView.{run_view};
-ghost use Rattle.resource_calls.specs.Tests.{said_run, seconds_given, test, test_given};
+ghost use Rattle.resource_calls.specs.Tests.{seconds_given, test, test_given};
 
 use crate::runs::{Run, run_of};
 use arguments::Arguments;
@@ -14,18 +14,6 @@ use ports::{Outputs, Tree};
 use project::Test;
 use std::alloc::{AllocError, Global};
 use world::{Caller, Stop};
-
-// What runs, or the refusal of arguments that break a rule.
-fn said_run<T: Tree, O: Outputs>(
-    caller: &Caller<'_, T, O>,
-    arguments: &Arguments,
-) -> Result<Run, Stop>
-    ensures { Does T.seen O.seen run_view (said_run (arguments_data arguments.now)) caller.now result caller.now }
-{
-    let here = caller.here();
-    let run = run_of(&here, arguments)?;
-    caller.passed(run)
-}
 
 // The seconds that the keyword `timeout` says, else 30.
 fn seconds_given(arguments: &Arguments) -> Result<i64, data::Refusal>
@@ -66,7 +54,8 @@ pub fn test<T: Tree, O: Outputs>(
     requires { MayFail T.seen O.seen caller.old }
     ensures { Does T.seen O.seen (option_map data_of) (test (arguments_data arguments.now)) caller.old result caller.new }
 {
-    let run = said_run(caller, arguments)?;
+    let said = run_of(&caller.here(), arguments)?;
+    let run = caller.passed(said)?;
     let made = test_given(caller.alloc, arguments, run)?;
     let planned = caller.answered(made)?;
     caller.add_test(planned)?;

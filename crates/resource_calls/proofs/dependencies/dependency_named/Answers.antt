@@ -1,11 +1,56 @@
-use Rattle.std.proofs.Common.{refl, sym}
+use Rattle.std.proofs.Common.{ap, refl, sym, ◌∙◌}
 use Rattle.arguments.specs.Arguments.{arguments_data}
-use Rattle.world.proofs.Answering.{carries_as, carries_give}
+use Rattle.machine.specs.machine_file.Questions.{answer_to, dependency_topic}
+use Rattle.machine.specs.machine_file.View.{strings_in}
+use Rattle.named_sources.specs.resources.Beside.{call_question}
+use Rattle.named_sources.specs.resources.Fitting.{dependency_that_fits}
+use Rattle.world.proofs.Answering.{carries_as, carries_give, carries_none, carries_stop, carries_then}
+use Rattle.resource_calls.specs.Dependency.{ask_dependency}
 use Rattle.resource_calls.proofs.Looking.{named_none, named_some}
+use Rattle.resource_calls.proofs.Asking.{asked_as}
 use Rattle.resource_calls.proofs.dependencies.dependency_named.Goals as goal
 
 pub returns-then-is_empty : goal.returns-then-is_empty
 returns-then-is_empty g c = carries_as (sym (named_none c.args.name.now (arguments_data c.args.arguments.now) (sym c.if-is_empty.ensures))) (carries_give refl)
 
-pub returns-else-is_empty : goal.returns-else-is_empty
-returns-else-is_empty g c = carries_as (sym (named_some c.args.name.now (arguments_data c.args.arguments.now) (sym c.if-is_empty.ensures))) c.ask_dependency.ensures
+pub returns-in_err-topic : goal.returns-in_err-topic
+returns-in_err-topic g c = carries_none c.from_residual.ensures.1
+
+pub returns-in_err-question : goal.returns-in_err-question
+returns-in_err-question g c = carries_none c.from_residual-in_err-question.ensures.1
+
+pub returns-in_err-ask : goal.returns-in_err-ask
+unfolding ask_dependency call_question
+returns-in_err-ask g c =
+    let a = arguments_data c.args.arguments.now in
+    carries_as (sym (named_some c.args.name.now a (sym c.if-is_empty.ensures)))
+    (carries_stop (asked_as c.args.caller.now.store.now.machine (c.in_ok-question.ensures ∙ ap (λ t. call_question t a) c.in_ok-topic.ensures)
+    c.in_err-ask.ensures.deed) c.from_residual-in_err-ask.ensures.1)
+
+pub returns-in_err-conditions : goal.returns-in_err-conditions
+unfolding ask_dependency call_question
+returns-in_err-conditions g c =
+    let a = arguments_data c.args.arguments.now in
+    carries_as (sym (named_some c.args.name.now a (sym c.if-is_empty.ensures)))
+    (carries_then (asked_as c.args.caller.now.store.now.machine (c.in_ok-question.ensures ∙ ap (λ t. call_question t a) c.in_ok-topic.ensures)
+    c.in_ok-ask.ensures.deed) (carries_none c.from_residual-in_err-conditions.ensures.1))
+
+pub returns-in_err-said : goal.returns-in_err-said
+unfolding ask_dependency call_question
+returns-in_err-said g c =
+    let a = arguments_data c.args.arguments.now in
+    carries_as (sym (named_some c.args.name.now a (sym c.if-is_empty.ensures)))
+    (carries_then (asked_as c.args.caller.now.store.now.machine (c.in_ok-question.ensures ∙ ap (λ t. call_question t a) c.in_ok-topic.ensures)
+    c.in_ok-ask.ensures.deed) (carries_none c.from_residual-in_err-said.ensures.1))
+
+pub returns : goal.returns
+unfolding ask_dependency call_question
+returns g c =
+    let name = c.args.name.now in
+    let a = arguments_data c.args.arguments.now in
+    carries_as (sym (named_some name a (sym c.if-is_empty.ensures)))
+    (carries_then (asked_as c.args.caller.now.store.now.machine (c.in_ok-question.ensures ∙ ap (λ t. call_question t a) c.in_ok-topic.ensures)
+    c.in_ok-ask.ensures.deed) (carries_give (c.in_ok-said.ensures
+    ∙ ap (λ m. dependency_that_fits (strings_in c.deref.result.now) name (answer_to m (dependency_topic name))) (c.machine.ensures ∙ c.in_ok-ask.ensures.machine)
+    ∙ ap (λ cs. dependency_that_fits (strings_in cs) name (answer_to c.args.caller.now.store.now.machine (dependency_topic name))) c.deref.ensures.value
+    ∙ ap (λ cs. dependency_that_fits cs name (answer_to c.args.caller.now.store.now.machine (dependency_topic name))) c.in_ok-conditions.ensures)))

@@ -10,6 +10,6 @@ use Rattle.resource_calls.proofs.destinations.installs_of.Given as goal
 -- what is installed so far and the files that are left decide
 abbrev pub invariant-loop-one : goal.invariant-loop-one
 invariant-loop-one l =
-    each_said (installed (folders_view l.folders) l.sort (arguments_data l.arguments)) (map install_view l.installs.items)
+    each_said (installed (folders_view l.call.folders) l.call.sort (arguments_data l.call.arguments.now)) (map install_view l.installs.items)
     (map named_view (drop l.one-index l.named))
-    ≡ each_said (installed (folders_view l.folders) l.sort (arguments_data l.arguments)) [] (map named_view l.named)
+    ≡ each_said (installed (folders_view l.call.folders) l.call.sort (arguments_data l.call.arguments.now)) [] (map named_view l.named)
