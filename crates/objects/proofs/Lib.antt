@@ -3,7 +3,6 @@ pub mod Supported
 pub mod Values
 pub mod Others
 pub mod Outputs
-pub mod Keys
 pub mod At
 pub mod Data
 pub mod Filling

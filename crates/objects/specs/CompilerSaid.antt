@@ -1,25 +1,8 @@
 -- What the machine file says in place of a compiler that is asked.
 use Rattle.std.specs.Prelude.{ℕ, ℤ, negsuc, Bool, false, List, [], ◌∷◌, unwrap_or, codes}
 use Rattle.std.specs.Option.{option_and_then}
-use Rattle.machine.specs.machine_file.Questions.{Answer, Topic, Key, check_topic, value_of_answer}
-use Rattle.machine.specs.machine_file.Readers.{boolean_said, integer_said, text_said}
-
--- which compiler it is, and its version: `id` and `version` of `[compiler]`
-abbrev pub id_topic : Topic
-id_topic = Key (codes "compiler") (codes "id")
-
-abbrev pub version_topic : Topic
-version_topic = Key (codes "compiler") (codes "version")
-
--- the text of an answer, or else this one
-abbrev pub said_or : (default : List ℕ) → Answer → List ℕ
-said_or default answer = unwrap_or (option_and_then text_said (value_of_answer answer)) default
-
-abbrev pub id_of : Answer → List ℕ
-id_of answer = said_or (codes "gcc") answer
-
-abbrev pub version_of : Answer → List ℕ
-version_of answer = said_or (codes "unknown") answer
+use Rattle.machine.specs.machine_file.Questions.{Answer, Topic, check_topic, value_of_answer}
+use Rattle.machine.specs.machine_file.Readers.{boolean_said, integer_said}
 
 -- whether a check is true: `[checks]` has the method and what it is asked with; false where nothing is said
 abbrev pub is_true : Answer → Bool

@@ -5,6 +5,7 @@ pub mod CompilerRows
 pub mod CompilerSaid
 pub mod Dependencies
 pub mod Features
+pub mod Keys
 pub mod Left
 pub mod Machines
 pub mod Meson

@@ -3,39 +3,20 @@ use Rattle.std.specs.Prelude.{ℕ, List, [], Option, Some, None, codes}
 use Rattle.arguments.specs.Arguments.{ArgumentsData}
 use Rattle.arguments.specs.Row.{row}
 use Rattle.basics.specs.declared.faults.refusal.Refusal.TheVariants as refusals
-use Rattle.objects.specs.CompilerSaid.{said_or}
-use Rattle.data.specs.Data.{Data, text}
-use Rattle.data.specs.Limits.{within}
-use Rattle.machine.specs.machine_file.Questions.{Topic, Key, plain}
+use Rattle.objects.specs.Keys.{keyed}
+use Rattle.data.specs.Data.{Data}
 use Rattle.data.specs.declared.language_names.object_methods.MachineMethod.{MachineMethod}
 use Rattle.data.specs.declared.language_names.object_methods.MachineMethod.TheVariants.{Cpu, CpuFamily, Endian, System}
-use Rattle.world.specs.Deed.{Deed, give, refuse, consult, ◌>>=◌, answered}
+use Rattle.world.specs.Deed.{Deed, refuse, ◌>>=◌}
 use Rattle.world.specs.Fit.{fit}
 use Rattle.data.specs.language_names.ObjectMethods.{machine_method_named}
 
--- the method's key in the section `host_machine` of the machine file
-abbrev pub key_of : MachineMethod → List ℕ
-key_of Cpu = codes "cpu"
-key_of CpuFamily = codes "cpu_family"
-key_of Endian = codes "endian"
-key_of System = codes "system"
-
-abbrev pub topic_of : MachineMethod → Topic
-topic_of method = Key (codes "host_machine") (key_of method)
-
--- what stands in place of an answer
-abbrev pub default_of : MachineMethod → List ℕ
-default_of Cpu = codes "x86_64"
-default_of CpuFamily = codes "x86_64"
-default_of Endian = codes "little"
-default_of System = codes "linux"
-
--- what a method gives; it is refused where that is too long for a text
-unfoldable pub told : MachineMethod → Deed (Option Data)
-told method = do
-  answer ← consult (plain (topic_of method))
-  d ← answered (within (text (said_or (default_of method) answer)))
-  give (Some d)
+-- what the section `host_machine` of the machine file has at the method's key, or what stands in its place
+abbrev pub told : MachineMethod → Deed (Option Data)
+told Cpu = keyed (codes "host_machine") (codes "cpu") (codes "x86_64")
+told CpuFamily = keyed (codes "host_machine") (codes "cpu_family") (codes "x86_64")
+told Endian = keyed (codes "host_machine") (codes "endian") (codes "little")
+told System = keyed (codes "host_machine") (codes "system") (codes "linux")
 
 abbrev pub told_by : Option MachineMethod → Deed (Option Data)
 told_by None = refuse refusals.UnknownFunction []

@@ -2,7 +2,6 @@
 ghost use Rattle.std.specs.Prelude.{◌≡◌, IfOk, option_map};
 ghost use Rattle.arguments.specs.RowView.{row_data};
 ghost use Rattle.world.specs.Prelude.{Answers, Does, MayFail, arguments_data, data_of, world_of};
-ghost use Rattle.objects.specs.Machines.{machine_method};
 ghost use Rattle.objects.specs.Methods.{breaking, has_method, object_method, rule_of, tell, told_of};
 ghost use Rattle.objects.specs.Rows.{row_of};
 
@@ -13,7 +12,7 @@ use crate::features::feature_answer;
 use crate::machines::machine_answer;
 use crate::meson_object::meson_answer;
 use crate::programs::program_answer;
-use crate::target_methods::{build_answer, custom_answer, output_answer};
+use crate::target_methods::{output_answer, target_answer};
 use arguments::{Arguments, Kind, Row, Rule};
 use data::language_names::MethodName;
 use data::{Object, Refusal, Value};
@@ -54,9 +53,11 @@ fn told_of(
         Object::Feature(feature) => Ok(feature_answer(*feature, name)),
         Object::Dependency(dependency) => dependency_answer(alloc, dependency, name),
         Object::Program(program) => program_answer(alloc, store, program, name),
-        Object::BuildTarget(number) => build_answer(alloc, store, *number, name),
+        Object::BuildTarget(number) => {
+            target_answer(alloc, store, name.of_build_target(), *number, 1)
+        }
         Object::CustomTarget { number, outputs } => {
-            custom_answer(alloc, store, *number, *outputs, name)
+            target_answer(alloc, store, name.of_custom_target(), *number, *outputs)
         }
         Object::CustomOutput { target, output } => {
             output_answer(alloc, store, *target, *output, name)
@@ -126,19 +127,6 @@ fn tell<T: Tree, O: Outputs>(
     Ok(Some(value))
 }
 
-// The method of a machine with a name.
-fn machine_method<T: Tree, O: Outputs>(
-    caller: &mut Caller<'_, T, O>,
-    name: &MethodName,
-    arguments: &Arguments,
-) -> Result<Option<Value>, Stop>
-    ensures { Does T.seen O.seen (option_map data_of) (machine_method name.now (arguments_data arguments.now))
-        caller.old result caller.new }
-{
-    caller.fit(&Row::of(&[], 0, &[]), arguments)?;
-    machine_answer(caller, name)
-}
-
 /// A method of an object on its arguments, which its row looks at first: it gives a value, or nothing. The name is one for which
 /// [`has_object_method`] is true; of any other it is E8.
 pub fn object_method<T: Tree, O: Outputs>(
@@ -153,7 +141,10 @@ pub fn object_method<T: Tree, O: Outputs>(
 {
     match object {
         Object::Compiler => compiler_method(caller, name, arguments),
-        Object::Machine => machine_method(caller, name, arguments),
+        Object::Machine => {
+            caller.fit(&Row::of(&[], 0, &[]), arguments)?;
+            machine_answer(caller, name)
+        }
         Object::ConfigurationData(number) => {
             configuration_method(caller, *number, name, arguments)
         }

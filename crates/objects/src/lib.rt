@@ -9,6 +9,7 @@ mod compiler;
 pub mod configuration_calls;
 mod dependencies;
 mod features;
+mod keys;
 mod left;
 mod machines;
 mod meson_object;

@@ -1,49 +1,15 @@
 //! The methods of a machine: the type `build_machine` of the page "Reference manual".
-ghost use Rattle.std.specs.Prelude.{◌≡◌, option_map};
-ghost use Rattle.objects.specs.CompilerSaid.{said_or};
-ghost use Rattle.machine.specs.machine_file.Questions.{answer_to};
-ghost use Rattle.machine.specs.machine_file.View.{machine_in};
+ghost use Rattle.std.specs.Prelude.{option_map};
 ghost use Rattle.data.specs.language_names.ObjectMethods.{machine_method_named};
 ghost use Rattle.world.specs.Prelude.{Does, data_of};
-ghost use Rattle.objects.specs.Machines.{default_of, key_of, told, told_by, topic_of};
+ghost use Rattle.objects.specs.Machines.{told, told_by};
 
+use crate::keys::keyed;
 use basics::faults::Refusal;
 use data::Value;
 use data::language_names::{MachineMethod, MethodName};
-use machine::machine_file::Machine;
 use ports::{Outputs, Tree};
 use world::{Caller, Stop};
-
-// The method's key in the section `host_machine` of the machine file.
-fn key_of(method: MachineMethod) -> &'static str
-    ensures { result.now ≡ key_of method }
-{
-    match method {
-        MachineMethod::Cpu => "cpu",
-        MachineMethod::CpuFamily => "cpu_family",
-        MachineMethod::Endian => "endian",
-        MachineMethod::System => "system",
-    }
-}
-
-// What stands in place of an answer.
-fn default_of(method: MachineMethod) -> &'static str
-    ensures { result.now ≡ default_of method }
-{
-    match method {
-        MachineMethod::Cpu => "x86_64",
-        MachineMethod::CpuFamily => "x86_64",
-        MachineMethod::Endian => "little",
-        MachineMethod::System => "linux",
-    }
-}
-
-// What the machine file answers, or what stands in its place.
-fn text_of(method: MachineMethod, machine: &Machine) -> &str
-    ensures { result.now ≡ said_or (default_of method) (answer_to (machine_in machine.now) (topic_of method)) }
-{
-    machine.text_or("host_machine", key_of(method), default_of(method))
-}
 
 // What a method gives.
 fn told<T: Tree, O: Outputs>(
@@ -52,10 +18,12 @@ fn told<T: Tree, O: Outputs>(
 ) -> Result<Option<Value>, Stop>
     ensures { Does T.seen O.seen (option_map data_of) (told method) caller.old result caller.new }
 {
-    caller.ask_key("host_machine", key_of(method))?;
-    let answer = Value::of_str(caller.alloc, text_of(method, caller.store.machine()))?;
-    let value = caller.answered(answer)?;
-    Ok(Some(value))
+    match method {
+        MachineMethod::Cpu => keyed(caller, "host_machine", "cpu", "x86_64"),
+        MachineMethod::CpuFamily => keyed(caller, "host_machine", "cpu_family", "x86_64"),
+        MachineMethod::Endian => keyed(caller, "host_machine", "endian", "little"),
+        MachineMethod::System => keyed(caller, "host_machine", "system", "linux"),
+    }
 }
 
 /// What the method with a name gives for the build, host or target machine: `system`, `cpu_family`, `cpu` and `endian`, as the machine

@@ -48,26 +48,15 @@ fn source_root_value(alloc: Global, store: &Store) -> Result<Result<Value, Refus
     Value::of_str(alloc, source_root(store))
 }
 
-// The present folder below the build root.
-fn build_folder(alloc: Global, store: &Store) -> Result<Result<Value, Refusal>, AllocError>
-    ensures { IfOk result (λ r. Answers
-        (within (text (folder_below (world_of store.now).facts.settings.build_root (world_of store.now).facts.folder))) r) }
+// The present folder below a root.
+fn present_folder(
+    alloc: Global,
+    root: &str,
+    store: &Store,
+) -> Result<Result<Value, Refusal>, AllocError>
+    ensures { IfOk result (λ r. Answers (within (text (folder_below root.now (world_of store.now).facts.folder))) r) }
 {
-    Value::of_string(
-        alloc,
-        folder_below(alloc, build_root(store), store.folder())?,
-    )
-}
-
-// The present folder below the source root.
-fn source_folder(alloc: Global, store: &Store) -> Result<Result<Value, Refusal>, AllocError>
-    ensures { IfOk result (λ r. Answers
-        (within (text (folder_below (world_of store.now).facts.settings.source_root (world_of store.now).facts.folder))) r) }
-{
-    Value::of_string(
-        alloc,
-        folder_below(alloc, source_root(store), store.folder())?,
-    )
+    Value::of_string(alloc, folder_below(alloc, root, store.folder())?)
 }
 
 fn project_name(store: &Store) -> &str
@@ -118,8 +107,8 @@ pub fn meson_answer(
     match name.of_meson() {
         Some(MesonMethod::Backend) => Value::of_str(alloc, "ninja"),
         Some(MesonMethod::BuildRoot) => build_root_value(alloc, store),
-        Some(MesonMethod::CurrentBuildDir) => build_folder(alloc, store),
-        Some(MesonMethod::CurrentSourceDir) => source_folder(alloc, store),
+        Some(MesonMethod::CurrentBuildDir) => present_folder(alloc, build_root(store), store),
+        Some(MesonMethod::CurrentSourceDir) => present_folder(alloc, source_root(store), store),
         Some(MesonMethod::GetCompiler) => compiler_of(alloc, arguments.text_at(0)),
         Some(MesonMethod::IsCrossBuild) => Ok(Ok(Value::Boolean(false))),
         Some(MesonMethod::IsSubproject) => Ok(Ok(Value::Boolean(false))),

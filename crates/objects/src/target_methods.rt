@@ -5,7 +5,7 @@ ghost use Rattle.targets.specs.edge.Texts.{texts};
 ghost use Rattle.targets.specs.LinkedViews.{linked_views};
 ghost use Rattle.targets.specs.View.{target_view};
 ghost use Rattle.world.specs.Prelude.{Answers, items_of, world_of};
-ghost use Rattle.objects.specs.Targets.{answer_by, at, build_answer, custom_answer, name_of, name_value};
+ghost use Rattle.objects.specs.Targets.{answer_by, at, name_of, name_value};
 ghost use Rattle.objects.specs.Targets.{only_path, output_answer, output_list, output_of, outputs_from, path_of, path_value};
 ghost use Rattle.objects.specs.Targets.{told_of};
 
@@ -162,7 +162,9 @@ fn told_of(
     }
 }
 
-fn answer_by(
+/// What a method gives for a target with so many outputs: `name`, `full_path`, the absolute path of its only output (E9 where it has
+/// several), and `to_list`, its outputs; E8 where there is no such method.
+pub fn target_answer(
     alloc: Global,
     store: &Store,
     method: Option<TargetMethod>,
@@ -175,32 +177,6 @@ fn answer_by(
         Some(method) => told_of(alloc, store, method, number, outputs),
         None => Ok(Err(Refusal::UnknownMethod)),
     }
-}
-
-/// What the method with a name gives for an executable or a library: `name`, and `full_path`, the absolute path of its file.
-pub fn build_answer(
-    alloc: Global,
-    store: &Store,
-    number: usize,
-    name: &MethodName,
-) -> Result<Result<Value, Refusal>, AllocError>
-    ensures { IfOk result (λ r. Answers (build_answer (world_of store.now).facts number name.now) r) }
-{
-    answer_by(alloc, store, name.of_build_target(), number, 1)
-}
-
-/// What the method with a name gives for a custom target: `name`, `full_path`, the absolute path of its only output (E9 where it has
-/// several), and `to_list`, its outputs.
-pub fn custom_answer(
-    alloc: Global,
-    store: &Store,
-    number: usize,
-    outputs: usize,
-    name: &MethodName,
-) -> Result<Result<Value, Refusal>, AllocError>
-    ensures { IfOk result (λ r. Answers (custom_answer (world_of store.now).facts number outputs name.now) r) }
-{
-    answer_by(alloc, store, name.of_custom_target(), number, outputs)
 }
 
 /// What the method with a name gives for an output of a custom target: `full_path`, its absolute path.

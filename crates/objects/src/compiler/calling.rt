@@ -6,15 +6,13 @@ ghost use Rattle.machine.specs.machine_file.Questions.{answer_to, check_topic, p
 ghost use Rattle.machine.specs.machine_file.View.{machine_in};
 ghost use Rattle.world.specs.Prelude.{Answers, Does, arguments_data, data_of, items_of, within};
 ghost use Rattle.world.specs.Deed.{consult};
-ghost use Rattle.world.specs.Fit.{fit};
-ghost use Rattle.objects.specs.CompilerMethods.{called, compiler_method, does, get_id, get_supported_arguments, kept, number};
-ghost use Rattle.objects.specs.CompilerMethods.{supported, version};
-ghost use Rattle.objects.specs.CompilerRows.{row_of};
+ghost use Rattle.objects.specs.CompilerMethods.{compiler_method, does, get_supported_arguments, kept, number, supported};
 ghost use Rattle.objects.specs.CompilerSaid.{argument_topic, is_true, number_of};
 
 use crate::compiler::checks::{ask_check, check, find_library};
 use crate::compiler::rows::row;
-use crate::compiler::said::{id_of, is_true, number_of, version_of};
+use crate::compiler::said::{is_true, number_of};
+use crate::keys::keyed;
 use arguments::Arguments;
 use data::language_names::{CompilerMethod, MethodName};
 use data::{List, Refusal, Value};
@@ -22,26 +20,6 @@ use machine::machine_file::{Machine, Question, Topic};
 use ports::{Outputs, Tree};
 use std::alloc::{AllocError, Global};
 use world::{Caller, Stop};
-
-// `get_id()`
-fn get_id<T: Tree, O: Outputs>(caller: &mut Caller<'_, T, O>) -> Result<Option<Value>, Stop>
-    ensures { Does T.seen O.seen (option_map data_of) get_id caller.old result caller.new }
-{
-    caller.ask_key("compiler", "id")?;
-    let answer = Value::of_str(caller.alloc, id_of(caller.store.machine()))?;
-    let value = caller.answered(answer)?;
-    Ok(Some(value))
-}
-
-// `version()`
-fn version<T: Tree, O: Outputs>(caller: &mut Caller<'_, T, O>) -> Result<Option<Value>, Stop>
-    ensures { Does T.seen O.seen (option_map data_of) version caller.old result caller.new }
-{
-    caller.ask_key("compiler", "version")?;
-    let answer = Value::of_str(caller.alloc, version_of(caller.store.machine()))?;
-    let value = caller.answered(answer)?;
-    Ok(Some(value))
-}
 
 fn integer_value(number: i64) -> Value
     ensures { data_of result ≡ integer number }
@@ -167,17 +145,6 @@ fn get_supported_arguments<T: Tree, O: Outputs>(
 
 // ---- calls
 
-// Refuses arguments that the method does not take.
-fn fit<T: Tree, O: Outputs>(
-    caller: &Caller<'_, T, O>,
-    method: CompilerMethod,
-    arguments: &Arguments,
-) -> Result<(), Stop>
-    ensures { Does T.seen O.seen (λ u. u) (fit (row_of method) (arguments_data arguments.now)) caller.now result caller.now }
-{
-    caller.fit(&row(method), arguments)
-}
-
 // What a method does with arguments that its row has let through.
 fn act<T: Tree, O: Outputs>(
     caller: &mut Caller<'_, T, O>,
@@ -191,23 +158,11 @@ fn act<T: Tree, O: Outputs>(
         CompilerMethod::Check => check(caller, name, arguments),
         CompilerMethod::CheckInside => check(caller, name, arguments),
         CompilerMethod::FindLibrary => find_library(caller, arguments),
-        CompilerMethod::Id => get_id(caller),
+        CompilerMethod::Id => keyed(caller, "compiler", "id", "gcc"),
         CompilerMethod::Number => number(caller, name, arguments),
         CompilerMethod::SupportedArguments => get_supported_arguments(caller, arguments),
-        CompilerMethod::Version => version(caller),
+        CompilerMethod::Version => keyed(caller, "compiler", "version", "unknown"),
     }
-}
-
-fn called<T: Tree, O: Outputs>(
-    caller: &mut Caller<'_, T, O>,
-    method: CompilerMethod,
-    name: &str,
-    arguments: &Arguments,
-) -> Result<Option<Value>, Stop>
-    ensures { Does T.seen O.seen (option_map data_of) (called method name.now (arguments_data arguments.now)) caller.old result caller.new }
-{
-    fit(caller, method, arguments)?;
-    act(caller, method, name, arguments)
 }
 
 /// The method with a name on its arguments, which its row looks at first. The name is one for which
@@ -221,7 +176,10 @@ pub fn compiler_method<T: Tree, O: Outputs>(
         caller.old result caller.new }
 {
     match name.of_compiler() {
-        Some(method) => called(caller, method, name.as_str(), arguments),
+        Some(method) => {
+            caller.fit(&row(method), arguments)?;
+            act(caller, method, name.as_str(), arguments)
+        }
         None => caller.refuse(basics::faults::Refusal::UnknownFunction, ""),
     }
 }

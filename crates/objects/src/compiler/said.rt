@@ -2,24 +2,10 @@
 ghost use Rattle.std.specs.Prelude.{◌≡◌, IfOk, map};
 ghost use Rattle.machine.specs.machine_file.Questions.{answer_to, check_topic};
 ghost use Rattle.machine.specs.machine_file.View.{machine_in};
-ghost use Rattle.objects.specs.CompilerSaid.{id_of, id_topic, is_true, number_of, version_of, version_topic};
+ghost use Rattle.objects.specs.CompilerSaid.{is_true, number_of};
 
 use machine::machine_file::Machine;
 use std::alloc::{AllocError, Global};
-
-/// Which compiler it is, as `gcc`.
-pub fn id_of(machine: &Machine) -> &str
-    ensures { result.now ≡ id_of (answer_to (machine_in machine.now) id_topic) }
-{
-    machine.text_or("compiler", "id", "gcc")
-}
-
-/// The compiler's version.
-pub fn version_of(machine: &Machine) -> &str
-    ensures { result.now ≡ version_of (answer_to (machine_in machine.now) version_topic) }
-{
-    machine.text_or("compiler", "version", "unknown")
-}
 
 /// Whether a check is true.
 pub fn is_true(

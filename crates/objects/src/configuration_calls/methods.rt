@@ -4,14 +4,11 @@ ghost use Rattle.arguments.specs.Given.{argument};
 ghost use Rattle.template.specs.Config.{names, value_of};
 ghost use Rattle.template.specs.ConfigData.{content_of};
 ghost use Rattle.world.specs.Prelude.{Does, arguments_data, data_of, world_of};
-ghost use Rattle.world.specs.Fit.{fit};
 ghost use Rattle.objects.specs.configuration_calls.Contents.{content_in};
 ghost use Rattle.objects.specs.configuration_calls.Given.{entries_of, number_in};
-ghost use Rattle.objects.specs.configuration_calls.Methods.{configuration_method, content_given, does, fitting_does, get};
-ghost use Rattle.objects.specs.configuration_calls.Methods.{has};
-ghost use Rattle.objects.specs.configuration_calls.Methods.{has_method, keys, merge_from, name_given, one_or_zero, other_given, set, set10};
-ghost use Rattle.objects.specs.configuration_calls.Methods.{set_text_quoted};
-ghost use Rattle.objects.specs.configuration_calls.Rows.{row_of};
+ghost use Rattle.objects.specs.configuration_calls.Methods.{configuration_method, content_given, does, get, has};
+ghost use Rattle.objects.specs.configuration_calls.Methods.{has_method, keys, merge_from, name_given, one_or_zero, other_given};
+ghost use Rattle.objects.specs.configuration_calls.Methods.{set, set10, set_text_quoted};
 
 use crate::configuration_calls::contents::{Quotes, content_in, found_or, is_name};
 use crate::configuration_calls::rows::row_of;
@@ -233,30 +230,6 @@ fn act<T: Tree, O: Outputs>(
     }
 }
 
-// Refuses arguments that the method does not take.
-fn fit<T: Tree, O: Outputs>(
-    caller: &Caller<'_, T, O>,
-    method: ConfigurationMethod,
-    arguments: &Arguments,
-) -> Result<(), Stop>
-    ensures { Does T.seen O.seen (λ u. u) (fit (row_of method) (arguments_data arguments.now)) caller.now result caller.now }
-{
-    caller.fit(&row_of(method), arguments)
-}
-
-fn fitting_act<T: Tree, O: Outputs>(
-    caller: &mut Caller<'_, T, O>,
-    method: ConfigurationMethod,
-    number: usize,
-    arguments: &Arguments,
-) -> Result<Option<Value>, Stop>
-    ensures { Does T.seen O.seen (option_map data_of) (fitting_does method number (arguments_data arguments.now))
-        caller.old result caller.new }
-{
-    fit(caller, method, arguments)?;
-    act(caller, method, number, arguments)
-}
-
 /// A method of the configuration data with a number on its arguments, which its row looks at first: it gives a value, or nothing. The
 /// name is one for which [`has_configuration_method`] is true; of any other it is E8.
 pub fn configuration_method<T: Tree, O: Outputs>(
@@ -269,7 +242,10 @@ pub fn configuration_method<T: Tree, O: Outputs>(
         caller.old result caller.new }
 {
     match name.of_configuration() {
-        Some(method) => fitting_act(caller, method, number, arguments),
+        Some(method) => {
+            caller.fit(&row_of(method), arguments)?;
+            act(caller, method, number, arguments)
+        }
         None => caller.refuse(Refusal::UnknownFunction, ""),
     }
 }

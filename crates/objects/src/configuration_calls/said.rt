@@ -4,7 +4,7 @@ ghost use Rattle.arguments.specs.Refused.{said_data};
 ghost use Rattle.arguments.specs.Said.{found};
 ghost use Rattle.arguments.specs.declared.rule.Rule.TheVariants.{TakesTreeFile};
 ghost use Rattle.data.specs.Data.{text as text_data};
-ghost use Rattle.world.specs.Prelude.{Does, arguments_data, data_of, world_of};
+ghost use Rattle.world.specs.Prelude.{Does, arguments_data, data_of, here_view, world_of};
 ghost use Rattle.objects.specs.configuration_calls.ConfigureFile.{has_meson_format, input_given, values_given};
 ghost use Rattle.objects.specs.configuration_calls.Given.{configuration_given, dictionary_given, given_by};
 ghost use Rattle.objects.specs.configuration_calls.GivenView.{given_view};
@@ -18,7 +18,7 @@ use paths::tree_path;
 use ports::{Outputs, Tree};
 use std::alloc::{AllocError, Global};
 use template::ConfigData;
-use world::{Caller, Stop, Store};
+use world::{Caller, Here, Stop, Store};
 
 /// Values that a call is given, and the number of the configuration data that have them, where they are no dictionary's.
 #[derive(Drop)]
@@ -56,17 +56,13 @@ fn tree_file(alloc: Global, object: &Object) -> Result<Option<String>, AllocErro
 }
 
 // The path of a text that names a file of the tree.
-fn text_named(
-    alloc: Global,
-    source_root: &str,
-    folder: &str,
-    text: &str,
-) -> Result<Result<String, Refused>, AllocError>
-    ensures { IfOk result (λ p. said_data string_bytes p ≡ file_named source_root.now folder.now (text_data text.now)) }
+fn text_named(here: &Here<'_>, text: &str) -> Result<Result<String, Refused>, AllocError>
+    ensures { IfOk result (λ p. said_data string_bytes p
+        ≡ file_named (here_view here.now).source_root (here_view here.now).folder (text_data text.now)) }
 {
-    match tree_path(alloc, source_root, folder, text)? {
+    match tree_path(here.alloc, here.source_root, here.folder, text)? {
         Some(path) => Ok(Ok(path)),
-        None => Ok(Err(Rule::NamesFile.refused(alloc, text)?)),
+        None => Ok(Err(Rule::NamesFile.refused(here.alloc, text)?)),
     }
 }
 
@@ -80,52 +76,42 @@ fn object_named(alloc: Global, object: &Object) -> Result<Result<String, Refused
     }
 }
 
-// The file of the tree that a value names in a definition file of a folder.
-fn file_named(
-    alloc: Global,
-    source_root: &str,
-    folder: &str,
-    value: &Value,
-) -> Result<Result<String, Refused>, AllocError>
-    ensures { IfOk result (λ p. said_data string_bytes p ≡ file_named source_root.now folder.now (data_of value.now)) }
+// The file of the tree that a value names in the present definition file.
+fn file_named(here: &Here<'_>, value: &Value) -> Result<Result<String, Refused>, AllocError>
+    ensures { IfOk result (λ p. said_data string_bytes p
+        ≡ file_named (here_view here.now).source_root (here_view here.now).folder (data_of value.now)) }
 {
     match value {
-        Value::Text(text) => text_named(alloc, source_root, folder, text.as_str()),
-        Value::Object(object) => object_named(alloc, object),
-        _ => Ok(Err(Rule::TakesTreeFile.refused(alloc, "input")?)),
+        Value::Text(text) => text_named(here, text.as_str()),
+        Value::Object(object) => object_named(here.alloc, object),
+        _ => Ok(Err(Rule::TakesTreeFile.refused(here.alloc, "input")?)),
     }
 }
 
 // That of just one value.
-fn one_file(
-    alloc: Global,
-    source_root: &str,
-    folder: &str,
-    values: &[&Value],
-) -> Result<Result<String, Refused>, AllocError>
-    ensures { IfOk result (λ p. said_data string_bytes p ≡ one_file source_root.now folder.now (map (λ v. data_of v.now) values.now)) }
+fn one_file(here: &Here<'_>, values: &[&Value]) -> Result<Result<String, Refused>, AllocError>
+    ensures { IfOk result (λ p. said_data string_bytes p
+        ≡ one_file (here_view here.now).source_root (here_view here.now).folder (map (λ v. data_of v.now) values.now)) }
 {
     match values {
-        [value] => file_named(alloc, source_root, folder, value),
-        _ => Ok(Err(Rule::TakesOneFile.refused(alloc, "input")?)),
+        [value] => file_named(here, value),
+        _ => Ok(Err(Rule::TakesOneFile.refused(here.alloc, "input")?)),
     }
 }
 
 // The path that the keyword `input` names, which may be left out.
 fn input_named(
-    alloc: Global,
-    source_root: &str,
-    folder: &str,
+    here: &Here<'_>,
     arguments: &Arguments,
 ) -> Result<Result<Option<String>, Refused>, AllocError>
     ensures { IfOk result (λ p. said_data (option_map string_bytes) p
-        ≡ input_named source_root.now folder.now (arguments_data arguments.now)) }
+        ≡ input_named (here_view here.now).source_root (here_view here.now).folder (arguments_data arguments.now)) }
 {
     if arguments.keyword("input").is_none() {
         return Ok(Ok(None));
     }
-    let values = arguments.leaves(alloc, "input")?;
-    match one_file(alloc, source_root, folder, &values)? {
+    let values = arguments.leaves(here.alloc, "input")?;
+    match one_file(here, &values)? {
         Ok(path) => Ok(Ok(Some(path))),
         Err(refused) => Ok(Err(refused)),
     }
@@ -138,8 +124,7 @@ pub fn input_given<T: Tree, O: Outputs>(
 ) -> Result<Option<String>, Stop>
     ensures { Does T.seen O.seen (option_map string_bytes) (input_given (arguments_data arguments.now)) caller.now result caller.now }
 {
-    let source_root = caller.store.settings().source_root.as_str();
-    let input = input_named(caller.alloc, source_root, caller.store.folder(), arguments)?;
+    let input = input_named(&caller.here(), arguments)?;
     caller.passed(input)
 }
 

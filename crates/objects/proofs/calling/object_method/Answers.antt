@@ -1,6 +1,8 @@
 use Rattle.std.proofs.Common.{ap, sym}
 use Rattle.arguments.specs.Arguments.{arguments_data}
-use Rattle.world.proofs.Answering.{carries_as}
+use Rattle.world.proofs.Answering.{carries_as, carries_stop, carries_then}
+use Rattle.world.specs.Fit.{fit}
+use Rattle.objects.specs.Machines.{machine_method}
 use Rattle.objects.specs.Methods.{object_method}
 use Rattle.objects.proofs.Others.{others_tell}
 use Rattle.objects.proofs.calling.object_method.Goals as goal
@@ -10,10 +12,19 @@ unfolding object_method
 returns-in-Compiler g c =
     carries_as (ap (λ o. object_method o c.args.name.now (arguments_data c.args.arguments.now)) (sym c.in-Compiler.is)) c.compiler_method.ensures
 
-pub returns-in-Machine : goal.returns-in-Machine
-unfolding object_method
-returns-in-Machine g c =
-    carries_as (ap (λ o. object_method o c.args.name.now (arguments_data c.args.arguments.now)) (sym c.in-Machine.is)) c.machine_method.ensures
+pub returns-in_err-fit-in-Machine : goal.returns-in_err-fit-in-Machine
+unfolding object_method machine_method
+returns-in_err-fit-in-Machine g c =
+    carries_as (ap (λ o. object_method o c.args.name.now (arguments_data c.args.arguments.now)) (sym c.in-Machine.is))
+    (carries_stop (carries_as (ap (λ r. fit r (arguments_data c.args.arguments.now)) c.of.ensures) c.in_err-fit-in-Machine.ensures)
+    c.from_residual.ensures.1)
+
+pub returns-in_ok-fit-in-Machine : goal.returns-in_ok-fit-in-Machine
+unfolding object_method machine_method
+returns-in_ok-fit-in-Machine g c =
+    carries_as (ap (λ o. object_method o c.args.name.now (arguments_data c.args.arguments.now)) (sym c.in-Machine.is))
+    (carries_then (carries_as (ap (λ r. fit r (arguments_data c.args.arguments.now)) c.of.ensures) c.in_ok-fit-in-Machine.ensures)
+    c.machine_answer.ensures)
 
 pub returns-in-ConfigurationData : goal.returns-in-ConfigurationData
 unfolding object_method

@@ -1,8 +1,0 @@
-use Rattle.std.proofs.Common.{ap}
-use Rattle.arguments.specs.Arguments.{arguments_data}
-use Rattle.world.specs.Fit.{fit}
-use Rattle.world.proofs.Answering.{carries_as}
-use Rattle.objects.proofs.compiler.calling.fit.Goals as goal
-
-pub returns : goal.returns
-returns g c = carries_as (ap (λ r. fit r (arguments_data c.args.arguments.now)) c.row.ensures) c.fit.ensures

@@ -1,0 +1,11 @@
+use Rattle.std.proofs.Common.{ap, ◌∙◌}
+use Rattle.data.specs.Data.{text}
+use Rattle.data.specs.Limits.{within}
+use Rattle.objects.specs.Meson.{folder_below}
+use Rattle.objects.proofs.Values.{answers_as}
+use Rattle.objects.proofs.meson_object.present_folder.Goals as goal
+
+pub returns : goal.returns
+returns c =
+    let below = c.in_ok-folder_below.ensures ∙ ap (λ f. folder_below c.args.root.now f) c.folder.ensures in
+    answers_as _ (ap (λ t. within (text t)) below) c.of_string.ensures

@@ -1,0 +1,19 @@
+-- What the machine file says at a key.
+use Rattle.std.specs.Prelude.{ℕ, List, Option, Some, unwrap_or}
+use Rattle.std.specs.Option.{option_and_then}
+use Rattle.data.specs.Data.{Data, text}
+use Rattle.data.specs.Limits.{within}
+use Rattle.machine.specs.machine_file.Questions.{Answer, Key, plain, value_of_answer}
+use Rattle.machine.specs.machine_file.Readers.{text_said}
+use Rattle.world.specs.Deed.{Deed, give, consult, ◌>>=◌, answered}
+
+-- the text of an answer, or else this one
+abbrev pub said_or : (default : List ℕ) → Answer → List ℕ
+said_or default answer = unwrap_or (option_and_then text_said (value_of_answer answer)) default
+
+-- the text that a section has at a key, or else this one; it is refused where it is too long for a text
+unfoldable pub keyed : (section key default : List ℕ) → Deed (Option Data)
+keyed section key default = do
+  answer ← consult (plain (Key section key))
+  d ← answered (within (text (said_or default answer)))
+  give (Some d)

@@ -1,0 +1,24 @@
+//! What the machine file says at a key.
+ghost use Rattle.std.specs.Prelude.{option_map};
+ghost use Rattle.world.specs.Prelude.{Does, data_of};
+ghost use Rattle.objects.specs.Keys.{keyed};
+
+use data::Value;
+use ports::{Outputs, Tree};
+use world::{Caller, Stop};
+
+/// The text that a section of the machine file has at a key, or else this one: E22 where it is too long.
+pub fn keyed<T: Tree, O: Outputs>(
+    caller: &mut Caller<'_, T, O>,
+    section: &str,
+    key: &str,
+    default: &str,
+) -> Result<Option<Value>, Stop>
+    ensures { Does T.seen O.seen (option_map data_of) (keyed section.now key.now default.now) caller.old result caller.new }
+{
+    caller.ask_key(section, key)?;
+    let text = caller.store.machine().text_or(section, key, default);
+    let answer = Value::of_str(caller.alloc, text)?;
+    let value = caller.answered(answer)?;
+    Ok(Some(value))
+}
