@@ -9,7 +9,8 @@ use Rattle.project.specs.World.{InstallData}
 use Rattle.targets.specs.Data.{Build, Custom, CustomData, TargetData}
 use Rattle.world.specs.Declaring.{add_install, add_target}
 use Rattle.world.specs.Deed.{Deed, give, read, ◌>>=◌}
-use Rattle.target_calls.specs.Installs.{FoldersData, folders_in}
+use Rattle.world.specs.Options.{option_text}
+use Rattle.world.specs.World.{Facts}
 
 -- the build folder, the folder of the definition file, and the folder that files go to
 pub record WayData : Type 0 where
@@ -18,11 +19,11 @@ pub record WayData : Type 0 where
   pub destination : Path
 
 -- files go to `install_dir` below `prefix`, or to `install_dir` alone where that is absolute
-abbrev pub way_of : FoldersData → ArgumentsData → WayData
-way_of folders a = record {
-  build_root = folders.here.build_root;
-  folder = folders.here.folder;
-  destination = path_below folders.prefix (text_of (codes "install_dir") a);
+abbrev pub way_of : Facts → ArgumentsData → WayData
+way_of facts a = record {
+  build_root = facts.settings.build_root;
+  folder = facts.folder;
+  destination = path_below (option_text facts.options (codes "prefix")) (text_of (codes "install_dir") a);
 }
 
 abbrev pub output_install : WayData → Text → InstallData
@@ -51,5 +52,5 @@ unfoldable pub add_custom : ArgumentsData → TargetData → Deed ℕ
 add_custom a t = do
   facts ← read
   n ← add_target t
-  _ ← all_noted (way_of (folders_in facts) a) (installed_names t)
+  _ ← all_noted (way_of facts a) (installed_names t)
   give n

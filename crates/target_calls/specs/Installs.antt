@@ -11,47 +11,28 @@ use Rattle.targets.specs.declared.target.Kind.{Kind}
 use Rattle.targets.specs.declared.target.Kind.TheVariants as kinds
 use Rattle.world.specs.Declaring.{add_install}
 use Rattle.world.specs.Deed.{Deed, give}
-use Rattle.world.specs.Here.{HereData, here_of}
 use Rattle.world.specs.Options.{option_text}
 use Rattle.world.specs.World.{Facts}
 
--- where the call stands, and the folders of the options `prefix`, `bindir` and `libdir`
-pub record FoldersData : Type 0 where
-  pub here : HereData
-  pub prefix : Path
-  pub bindir : Path
-  pub libdir : Path
-
-abbrev pub folders_in : Facts → FoldersData
-folders_in facts = record {
-  here = here_of facts;
-  prefix = option_text facts.options (codes "prefix");
-  bindir = option_text facts.options (codes "bindir");
-  libdir = option_text facts.options (codes "libdir");
-}
-
 -- programs go to `bindir`, libraries to `libdir`
-abbrev pub usual_folder : FoldersData → Kind → Path
-usual_folder folders kinds.Executable = folders.bindir
-usual_folder folders _ = folders.libdir
+abbrev pub usual_folder : Facts → Kind → Path
+usual_folder facts kinds.Executable = option_text facts.options (codes "bindir")
+usual_folder facts _ = option_text facts.options (codes "libdir")
 
 -- the folder that the keyword `install_dir` says, else the usual one
-abbrev pub install_folder : FoldersData → ArgumentsData → Kind → Path
-install_folder folders a kind = unwrap_or (text_given (codes "install_dir") a) (usual_folder folders kind)
+abbrev pub install_folder : Facts → ArgumentsData → Kind → Path
+install_folder facts a kind = unwrap_or (text_given (codes "install_dir") a) (usual_folder facts kind)
 
--- the target's file goes to the folder below `prefix`, or to the folder alone where that is absolute; symbolic links are not listed
-abbrev pub build_install : FoldersData → ArgumentsData → BuildData → InstallData
-build_install folders a t = record {
-  source = path_below folders.here.build_root (file_path t);
-  destination = path_below (path_below folders.prefix (install_folder folders a t.kind)) (file_name t);
+-- the target's file goes to the folder below the option `prefix`, or to the folder alone where that is absolute; symbolic links are not listed
+abbrev pub build_install : Facts → ArgumentsData → BuildData → InstallData
+build_install facts a t = record {
+  source = path_below facts.settings.build_root (file_path t);
+  destination = path_below (path_below (option_text facts.options (codes "prefix")) (install_folder facts a t.kind)) (file_name t);
 }
 
-abbrev pub asked_install : FoldersData → ArgumentsData → BuildData → Option InstallData
-asked_install folders a t = if t.is_installed then Some (build_install folders a t) else None
-
-abbrev pub install_of : FoldersData → ArgumentsData → TargetData → Option InstallData
-install_of folders a (Build t) = asked_install folders a t
-install_of folders a (Custom t) = None
+abbrev pub install_of : Facts → ArgumentsData → TargetData → Option InstallData
+install_of facts a (Build t) = if t.is_installed then Some (build_install facts a t) else None
+install_of facts a (Custom t) = None
 
 -- the project takes note of it, where there is one
 unfoldable pub noted : Option InstallData → Deed (Unit {0})

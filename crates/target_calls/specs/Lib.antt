@@ -12,7 +12,6 @@ pub mod Dependencies
 pub mod Files
 pub mod FitBreaches
 pub mod Installs
-pub mod InstallsView
 pub mod ProjectWords
 pub mod Rows
 pub mod Sources

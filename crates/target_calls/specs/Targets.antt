@@ -17,7 +17,7 @@ use Rattle.target_calls.specs.FitBreaches.{fit_breach}
 use Rattle.target_calls.specs.BuildTargets.{NamedTargetData, declared}
 use Rattle.target_calls.specs.Files.{all_required}
 use Rattle.world.specs.Here.{here_of}
-use Rattle.target_calls.specs.Installs.{folders_in, install_of, noted}
+use Rattle.target_calls.specs.Installs.{install_of, noted}
 
 -- what the arguments say: E9 of those that break a rule
 unfoldable pub said : Kind → ArgumentsData → Deed NamedTargetData
@@ -36,7 +36,7 @@ unfoldable pub add_installed : ArgumentsData → TargetData → Deed ℕ
 add_installed a t = do
   facts ← read
   n ← add_target t
-  _ ← noted (install_of (folders_in facts) a t)
+  _ ← noted (install_of facts a t)
   give n
 
 -- `executable`, `static_library` and `shared_library`, by the kind: E9; E14 of the first missing file in the order of the arguments; E21,

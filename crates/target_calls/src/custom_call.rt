@@ -1,10 +1,8 @@
 //! `custom_target`.
 ghost use Rattle.std.specs.Prelude.{option_map};
 ghost use Rattle.world.specs.Prelude.{Does, MayFail, arguments_data, data_of};
-ghost use Rattle.target_calls.specs.BuildTargetsView.{named_target_view};
-ghost use Rattle.target_calls.specs.CustomCalls.{custom_target, said_custom};
+ghost use Rattle.target_calls.specs.CustomCalls.{custom_target};
 
-use crate::build_target::NamedTarget;
 use crate::custom::{count_named, declared_custom};
 use crate::custom_installs::add_custom;
 use crate::declaring::require_fit;
@@ -13,18 +11,6 @@ use arguments::Arguments;
 use data::{Object, Value};
 use ports::{Outputs, Tree};
 use world::{Caller, Stop};
-
-// What the arguments say, or the refusal of those that break a rule.
-fn said_custom<T: Tree, O: Outputs>(
-    caller: &Caller<'_, T, O>,
-    arguments: &Arguments,
-) -> Result<NamedTarget, Stop>
-    ensures { Does T.seen O.seen named_target_view (said_custom (arguments_data arguments.now)) caller.now result caller.now }
-{
-    let here = caller.here();
-    let named = declared_custom(&here, arguments)?;
-    caller.passed(named)
-}
 
 /// `custom_target(name)`: E9, E14, E21, E11, E22 in this order.
 pub fn custom_target<T: Tree, O: Outputs>(
@@ -35,7 +21,8 @@ pub fn custom_target<T: Tree, O: Outputs>(
     ensures { Does T.seen O.seen (option_map data_of) (custom_target (arguments_data arguments.now)) caller.old result caller.new }
 {
     let outputs = count_named(arguments, "output");
-    let named = said_custom(caller, arguments)?;
+    let said = declared_custom(&caller.here(), arguments)?;
+    let named = caller.passed(said)?;
     require_fit(caller, &named.target)?;
     require_all(caller, named.files)?;
     let number = add_custom(caller, arguments, named.target)?;

@@ -3,12 +3,10 @@ ghost use Rattle.std.specs.Prelude.{◌≡◌, IfOk};
 ghost use Rattle.targets.specs.edge.Texts.{texts};
 ghost use Rattle.project.specs.View.{install_view};
 ghost use Rattle.targets.specs.View.{custom_view, target_view};
-ghost use Rattle.world.specs.Prelude.{Does, arguments_data};
+ghost use Rattle.world.specs.Prelude.{Does, arguments_data, world_of};
 ghost use Rattle.target_calls.specs.CustomInstalls.{add_custom, all_noted, custom_names, installed_names, output_install, way_of};
 ghost use Rattle.target_calls.specs.CustomInstallsView.{way_view};
-ghost use Rattle.target_calls.specs.InstallsView.{folders_view};
 
-use crate::installs::{Folders, folders_in};
 use arguments::Arguments;
 use paths::{path_below, path_in};
 use ports::{Outputs, Tree};
@@ -16,7 +14,7 @@ use project::Install;
 use std::alloc::{AllocError, Global};
 use targets::edge::{copies, is_some_list};
 use targets::{CustomTarget, Target};
-use world::{Caller, Stop};
+use world::{Caller, Stop, Store};
 
 /// Which way outputs go.
 #[derive(Drop)]
@@ -29,14 +27,15 @@ pub struct Way {
     pub destination: String,
 }
 
-fn way_of(folders: &Folders<'_>, arguments: &Arguments) -> Result<Way, AllocError>
-    ensures { IfOk result (λ w. way_view w ≡ way_of (folders_view folders.now) (arguments_data arguments.now)) }
+fn way_of(alloc: Global, store: &Store, arguments: &Arguments) -> Result<Way, AllocError>
+    ensures { IfOk result (λ w. way_view w ≡ way_of (world_of store.now).facts (arguments_data arguments.now)) }
 {
-    let alloc = folders.here.alloc;
+    let build_root = store.settings().build_root.as_str();
+    let prefix = store.option_text("prefix");
     Ok(Way {
-        build_root: String::from_str(alloc, folders.here.build_root)?,
-        folder: String::from_str(alloc, folders.here.folder)?,
-        destination: path_below(alloc, folders.prefix, arguments.text("install_dir"))?,
+        build_root: String::from_str(alloc, build_root)?,
+        folder: String::from_str(alloc, store.folder())?,
+        destination: path_below(alloc, prefix, arguments.text("install_dir"))?,
     })
 }
 
@@ -98,8 +97,7 @@ pub fn add_custom<T: Tree, O: Outputs>(
         let alone = caller.add_target(target)?;
         return Ok(alone);
     }
-    let folders = folders_in(caller);
-    let way = way_of(&folders, arguments)?;
+    let way = way_of(caller.alloc, caller.store, arguments)?;
     let number = caller.add_target(target)?;
     note_all(caller, &way, &names)?;
     Ok(number)

@@ -3,10 +3,9 @@ ghost use Rattle.std.specs.Prelude.{◌≡◌, option_map};
 ghost use Rattle.machine.specs.option_values.View.{value_in};
 ghost use Rattle.targets.specs.View.{target_view};
 ghost use Rattle.world.specs.Prelude.{Does, MayFail, arguments_data, data_of};
-ghost use Rattle.target_calls.specs.BuildTargetsView.{named_target_view};
-ghost use Rattle.target_calls.specs.Targets.{add_installed, declare, library, library_kind, required_fit, said};
+ghost use Rattle.target_calls.specs.Targets.{add_installed, declare, library, library_kind, required_fit};
 
-use crate::build_target::{NamedTarget, declared};
+use crate::build_target::declared;
 use crate::fit_breaches::fit_breach;
 use crate::installs::{install_of, note};
 use crate::tree::require_all;
@@ -16,19 +15,6 @@ use machine::option_values::OptionValue;
 use ports::{Outputs, Tree};
 use targets::{Kind, Target};
 use world::{Caller, Stop};
-
-// What the arguments say, or the refusal of those that break a rule.
-fn said<T: Tree, O: Outputs>(
-    caller: &Caller<'_, T, O>,
-    kind: Kind,
-    arguments: &Arguments,
-) -> Result<NamedTarget, Stop>
-    ensures { Does T.seen O.seen named_target_view (said kind (arguments_data arguments.now)) caller.now result caller.now }
-{
-    let here = caller.here();
-    let named = declared(&here, kind, arguments)?;
-    caller.passed(named)
-}
 
 /// Refuses a target that the project can't have.
 pub fn require_fit<T: Tree, O: Outputs>(
@@ -55,7 +41,7 @@ fn add_installed<T: Tree, O: Outputs>(
 ) -> Result<usize, Stop>
     ensures { Does T.seen O.seen (λ n. n) (add_installed (arguments_data arguments.now) (target_view target)) caller.old result caller.new }
 {
-    let install = install_of(caller, arguments, &target)?;
+    let install = install_of(caller.alloc, caller.store, arguments, &target)?;
     let number = caller.add_target(target)?;
     note(caller, install)?;
     Ok(number)
@@ -70,7 +56,8 @@ pub fn declare<T: Tree, O: Outputs>(
     requires { MayFail T.seen O.seen caller.old }
     ensures { Does T.seen O.seen (option_map data_of) (declare kind (arguments_data arguments.now)) caller.old result caller.new }
 {
-    let named = said(caller, kind, arguments)?;
+    let said = declared(&caller.here(), kind, arguments)?;
+    let named = caller.passed(said)?;
     require_fit(caller, &named.target)?;
     require_all(caller, named.files)?;
     let number = add_installed(caller, arguments, named.target)?;

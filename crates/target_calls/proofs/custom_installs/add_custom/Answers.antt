@@ -2,11 +2,10 @@ use Rattle.std.proofs.Common.{◌≡◌, ℕ, Bool, false, List, [], ◌∷◌, 
 use Rattle.arguments.specs.Arguments.{arguments_data}
 use Rattle.targets.specs.edge.Holding.{is_some_list}
 use Rattle.targets.specs.View.{target_view}
-use Rattle.world.specs.Caller.{state_of}
+use Rattle.world.specs.Store.{world_of}
 use Rattle.world.proofs.Answering.{carries_as, carries_give, carries_none, carries_read, carries_stop, carries_then}
 use Rattle.target_calls.specs.CustomInstalls.{WayData, add_custom, all_noted, installed_names, way_of}
 use Rattle.target_calls.specs.CustomInstallsView.{way_view}
-use Rattle.target_calls.specs.Installs.{FoldersData, folders_in}
 use Rattle.target_calls.proofs.custom_installs.add_custom.Goals as goal
 
 pub returns-in_err-way : goal.returns-in_err-way
@@ -26,7 +25,7 @@ none_named (name ∷ names) b e h = cc
 pub returns-then-not-is_some_list : goal.returns-then-not-is_some_list
 unfolding add_custom all_noted
 returns-then-not-is_some_list g c =
-    let facts = folders_in (state_of g.T.Tree.seen g.O.Outputs.seen c.args.caller.now).world.facts in
+    let facts = (world_of c.args.caller.now.store.now).facts in
     let none = ap (all_noted (way_of facts (arguments_data c.args.arguments.now)))
     (sym c.in_ok-names.ensures ∙ none_named (map string_bytes c.in_ok-names.names.items) c.is_some_list.result
     (c.is_some_list.ensures ∙ ap (λ ns. is_some_list (map string_bytes ns)) c.deref.ensures.value) c.if-not-is_some_list.true) in
@@ -40,19 +39,15 @@ returns-in_err-number g c = carries_read (carries_stop c.in_err-number.ensures c
 pub returns-in_err-note_all : goal.returns-in_err-note_all
 unfolding add_custom
 returns-in_err-note_all g c =
-    let way = c.in_ok-way.ensures
-    ∙ ap (λ (f : FoldersData). way_of f (arguments_data c.args.arguments.now)) c.folders_in-folders.ensures in
     let noted = ap (all_noted (way_view c.in_ok-way.way)) (ap (map string_bytes) c.deref-2.ensures.value ∙ c.in_ok-names.ensures)
-    ∙ ap (λ (w : WayData). all_noted w (installed_names (target_view c.args.target))) way in
+    ∙ ap (λ (w : WayData). all_noted w (installed_names (target_view c.args.target))) c.in_ok-way.ensures in
     carries_read (carries_then {x = c.in_ok-number.number} c.in_ok-number.ensures
     (carries_stop (carries_as noted c.in_err-note_all.ensures) c.from_residual-in_err-note_all.ensures.1))
 
 pub returns : goal.returns
 unfolding add_custom
 returns g c =
-    let way = c.in_ok-way.ensures
-    ∙ ap (λ (f : FoldersData). way_of f (arguments_data c.args.arguments.now)) c.folders_in-folders.ensures in
     let noted = ap (all_noted (way_view c.in_ok-way.way)) (ap (map string_bytes) c.deref-2.ensures.value ∙ c.in_ok-names.ensures)
-    ∙ ap (λ (w : WayData). all_noted w (installed_names (target_view c.args.target))) way in
+    ∙ ap (λ (w : WayData). all_noted w (installed_names (target_view c.args.target))) c.in_ok-way.ensures in
     carries_read (carries_then {x = c.in_ok-number.number} c.in_ok-number.ensures
     (carries_then (carries_as noted c.in_ok-note_all.ensures) (carries_give refl)))

@@ -1,6 +1,9 @@
-use Rattle.std.proofs.Common.{arith}
+use Rattle.std.proofs.Common.{ap, ◌∙◌, arith}
 use Rattle.std.proofs.lemmas.Grind.{common_steps}
+use Rattle.world.specs.Settings.{SettingsData}
 use Rattle.target_calls.proofs.installs.build_install.Goals as goal
 
 pub returns : goal.returns
-returns c = grind (arith, common_steps)
+returns c =
+    let root = c.as_str-build_root.ensures.value ∙ ap (λ (s : SettingsData). s.build_root) c.settings.ensures in
+    grind (arith, common_steps, root)
