@@ -97,20 +97,15 @@ begin a path r = do
   _ ← change (with_options options) (λ facts. refl)
   begin_project (facts_of a options found facts)
 
--- the first call: its arguments, the option file, the options
-unfoldable pub first_project : ArgumentsData → Deed (Option Data)
-first_project a = do
-  printed ← defaults_printed a
-  _ ← languages_taken (texts_behind a)
-  file ← option_file
-  options ← resolution a printed file.declared
-  _ ← begin a file.path options
-  give None
-
 -- `project(name, language.., version:, license:, default_options:, meson_version:)`: a later call is refused, whatever it is given; which
 -- version of Meson is asked for has no effect
 unfoldable pub project : ArgumentsData → Deed (Option Data)
 project a = do
   facts ← read
   _ ← need (not facts.is_begun) refusals.ProjectCall (codes "'project': was called before")
-  first_project a
+  printed ← defaults_printed a
+  _ ← languages_taken (texts_behind a)
+  file ← option_file
+  options ← resolution a printed file.declared
+  _ ← begin a file.path options
+  give None

@@ -7,8 +7,7 @@ ghost use Rattle.machine.specs.option_values.SettingsView.{options_in};
 ghost use Rattle.targets.specs.View.{facts_view};
 ghost use Rattle.world.specs.Prelude.{Does, MayFail, arguments_data, data_of, world_of};
 ghost use Rattle.calls.specs.project_calls.DefaultsView.{strings_of};
-ghost use Rattle.calls.specs.project_calls.Project.{begin, c_alone, defaults_printed, facts_of, first_project, languages_taken};
-ghost use Rattle.calls.specs.project_calls.Project.{other_language};
+ghost use Rattle.calls.specs.project_calls.Project.{begin, c_alone, defaults_printed, facts_of, languages_taken, other_language};
 ghost use Rattle.calls.specs.project_calls.Project.{project, settled, texts_behind, version_of, warned};
 ghost use Rattle.calls.specs.project_calls.ProgramsView.{programs_in};
 
@@ -197,22 +196,6 @@ fn check_languages<T: Tree, O: Outputs>(
     }
 }
 
-// The first call.
-fn first_project<T: Tree, O: Outputs>(
-    caller: &mut Caller<'_, T, O>,
-    arguments: &Arguments,
-) -> Result<Option<Value>, Stop>
-    requires { MayFail T.seen O.seen caller.old }
-    ensures { Does T.seen O.seen (option_map data_of) (first_project (arguments_data arguments.now)) caller.old result caller.new }
-{
-    let printed = printed_defaults(caller, arguments)?;
-    require_c(caller, arguments)?;
-    let file = option_file(caller)?;
-    let resolved = resolution(caller, arguments, &printed, &file.declared)?;
-    begin(caller, arguments, file.path, resolved)?;
-    Ok(None)
-}
-
 /// `project(name, language.., version:, license:, default_options:, meson_version:)`: a later call is refused, whatever it is given.
 pub fn project<T: Tree, O: Outputs>(
     caller: &mut Caller<'_, T, O>,
@@ -227,5 +210,10 @@ pub fn project<T: Tree, O: Outputs>(
         Refusal::ProjectCall,
         "'project': was called before",
     )?;
-    first_project(caller, arguments)
+    let printed = printed_defaults(caller, arguments)?;
+    require_c(caller, arguments)?;
+    let file = option_file(caller)?;
+    let resolved = resolution(caller, arguments, &printed, &file.declared)?;
+    begin(caller, arguments, file.path, resolved)?;
+    Ok(None)
 }
