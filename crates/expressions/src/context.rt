@@ -1,18 +1,17 @@
 //! What an evaluation works on, and the small answers that it gives.
-ghost use Rattle.std.specs.Prelude.{◌≡◌, ◌<◌, ℕ, IfOk, Result, None, option_map};
+ghost use Rattle.std.specs.Prelude.{◌≡◌, ◌<◌, ℕ, Result, None, option_map};
 ghost use Rattle.data.specs.Data.{Data, is_disabler};
 ghost use Rattle.data.specs.declared.refusal.Refusal.{Refusal as OperationRefusal};
 ghost use Rattle.arguments.specs.Refused.{answer_data};
-ghost use Rattle.basics.specs.View.{fault_view};
 ghost use Rattle.world.specs.Prelude.{Answers as AnswersSo, Refuses, data_of, failures_after};
 ghost use Rattle.world.specs.Plan.{answered};
 ghost use Rattle.expressions.specs.Forms.{fitted, needed, unchosen};
 
 use arguments::Refused;
-use basics::faults::{Fault, Refusal};
+use basics::faults::Refusal;
 use data::Value;
 use ports::{Outputs, Tree};
-use std::alloc::{AllocError, Global};
+use std::alloc::Global;
 use std::sync::ledger::Ledger;
 use world::{Steps, Stop, Store, of_operation};
 
@@ -55,22 +54,12 @@ impl<'a, T: Tree, O: Outputs, L: Ledger> Context<'a, T, O, L> {
         }
     }
 
-    fn fault(&self, line: usize, refusal: Refusal, detail: &str) -> Result<Fault, AllocError>
-        ensures { IfOk result (λ f. fault_view f ≡ fault_on self.now line refusal detail.now) }
-    {
-        let file = self.store.file();
-        Fault::new(self.alloc, file, line, refusal, detail)
-    }
-
     /// Refuses what stands in a line of the present file, for this name, path or text.
     #[cold]
     pub fn refuse<A>(&self, line: usize, refusal: Refusal, detail: &str) -> Result<A, Stop>
         ensures { Refuses (fault_on self.now line refusal detail.now) result }
     {
-        match self.fault(line, refusal, detail) {
-            Ok(fault) => Err(Stop::Refused(fault)),
-            Err(_) => Err(Stop::Memory),
-        }
+        self.store.refuse(self.alloc, line, refusal, detail)
     }
 
     /// Refuses what is left out by this name.

@@ -4,7 +4,7 @@ use Rattle.grammar.specs.ExpressionTree.{ArgumentTrees}
 use Rattle.arguments.specs.Arguments.{ArgumentsData, no_arguments}
 use Rattle.arguments.specs.Disablers.{gives_disabler}
 use Rattle.arguments.specs.Misfits.{checked}
-use Rattle.interp.specs.Rows.{row_of}
+use Rattle.interp.specs.Functions.{row_of}
 use Rattle.data.specs.declared.language_names.functions.Function.{Function}
 use Rattle.data.specs.declared.language_names.functions.Function.TheVariants as functions
 use Rattle.world.specs.Plan.{Plan, ◌>>=◌, give}

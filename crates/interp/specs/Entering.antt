@@ -6,7 +6,7 @@ use Rattle.arguments.specs.Dependencies.{are_found}
 use Rattle.arguments.specs.Disablers.{gives_disabler}
 use Rattle.arguments.specs.Given.{keyword, text_at}
 use Rattle.arguments.specs.Misfits.{checked}
-use Rattle.interp.specs.Rows.{row_of}
+use Rattle.interp.specs.Functions.{row_of}
 use Rattle.data.specs.declared.language_names.functions.Function.{Function}
 use Rattle.data.specs.declared.language_names.functions.Function.TheVariants as functions
 use Rattle.world.specs.Plan.{Plan, ◌>>=◌, give, at}

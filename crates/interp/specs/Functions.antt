@@ -1,10 +1,12 @@
 -- The functions of the page "Reference manual", on evaluated arguments.
-use Rattle.std.specs.Prelude.{Bool, false, not, ◌&&◌, Option, None, codes, if◌then◌else◌}
+use Rattle.std.specs.Prelude.{Bool, false, not, ◌&&◌, Option, None, codes, if◌then◌else◌, [], ◌∷◌}
 use Rattle.data.specs.Data.{Data}
 use Rattle.arguments.specs.Arguments.{ArgumentsData}
 use Rattle.arguments.specs.Disablers.{gives_disabler}
 use Rattle.basics.specs.declared.faults.refusal.Refusal.TheVariants as refusals
+use Rattle.arguments.specs.declared.row.Kind.TheVariants.{Any, Boolean, Integer, Text}
 use Rattle.arguments.specs.Row.{RowData}
+use Rattle.arguments.specs.Rows.{any_values, some_texts, values}
 use Rattle.objects.specs.configuration_calls.ConfigureFile.{has_meson_format}
 use Rattle.objects.specs.configuration_calls.Rows.{other_format_row}
 use Rattle.world.specs.Deed.{Deed, give, ◌>>=◌, need}
@@ -12,14 +14,34 @@ use Rattle.world.specs.Fit.{fit}
 use Rattle.calls.specs.language_calls.Disablers.{give_disabler, tell_disabler}
 use Rattle.calls.specs.language_calls.JoinPaths.{join_paths}
 use Rattle.calls.specs.language_calls.Messages.{message, warning, error, assert}
-use Rattle.interp.specs.ProjectFunctions.{project_function}
+use Rattle.interp.specs.ProjectFunctions.{project_function, project_function_row}
 use Rattle.calls.specs.project_calls.Project.{project}
 use Rattle.calls.specs.language_calls.Range.{range}
-use Rattle.interp.specs.Rows.{row_of}
+use Rattle.calls.specs.project_calls.Rows.{project_row}
+use Rattle.calls.specs.language_calls.Rows.{subdir_row}
 use Rattle.calls.specs.language_calls.Variables.{set_variable, get_variable, is_variable, unset_variable}
 use Rattle.data.specs.declared.language_names.functions.Function.{Function}
 use Rattle.data.specs.declared.language_names.functions.Function.TheVariants as functions
 use Rattle.calls.specs.language_calls.Turning.{makes_file}
+
+-- what a function takes
+abbrev pub row_of : Function → RowData
+row_of functions.Assert = values (Boolean ∷ Text ∷ []) 1
+row_of functions.Disabler = values [] 0
+row_of functions.Error = any_values
+row_of functions.GetVariable = values (Text ∷ Any ∷ []) 1
+row_of functions.IsDisabler = values (Any ∷ []) 1
+row_of functions.IsVariable = values (Text ∷ []) 1
+row_of functions.JoinPaths = some_texts
+row_of functions.Message = any_values
+row_of (functions.OfProject f) = project_function_row f
+row_of functions.Project = project_row
+row_of functions.Range = values (Integer ∷ Integer ∷ Integer ∷ []) 1
+row_of functions.SetVariable = values (Text ∷ Any ∷ []) 2
+row_of functions.Subdir = subdir_row
+row_of functions.SubdirDone = values [] 0
+row_of functions.UnsetVariable = values (Text ∷ []) 1
+row_of functions.Warning = any_values
 
 -- what a function does with arguments that its row has let through: a value, or none
 abbrev pub does : Function → ArgumentsData → Deed (Option Data)

@@ -16,5 +16,4 @@ pub mod Laws
 pub mod Operations
 pub mod Parts
 pub mod ProjectFunctions
-pub mod Rows
 pub mod Statements

@@ -10,8 +10,8 @@ ghost use Rattle.interp.specs.Parts.{above, above_argument};
 
 use crate::evaluator::Evaluator;
 use crate::flow::Flow;
+use crate::functions::row;
 use crate::halt::Halt;
-use crate::rows::row;
 use arguments::{Arguments, are_found, check, gives_disabler};
 use code::Code;
 use code::node::ArgumentNode;

@@ -3,22 +3,41 @@ ghost use Rattle.std.specs.Prelude.{◌≡◌, ◌&&◌, option_map};
 ghost use Rattle.arguments.specs.RowView.{row_data};
 ghost use Rattle.world.specs.Prelude.{Does, MayFail, arguments_data, data_of};
 ghost use Rattle.world.specs.Fit.{fit};
-ghost use Rattle.interp.specs.Functions.{call, does, has_unwanted_disabler, row_for, without_disabler};
+ghost use Rattle.interp.specs.Functions.{call, does, has_unwanted_disabler, row_for, row_of, without_disabler};
 
-use crate::project_functions::project_function;
-use crate::rows::row;
-use arguments::{Arguments, Row, gives_disabler};
+use crate::project_functions::{project_function, project_function_row};
+use arguments::{Arguments, Kind, Row, any_values, gives_disabler, some_texts, values};
 use basics::faults::Refusal;
 use calls::language_calls::{
     assert, disabler, error, get_variable, is_disabler, is_variable, join_paths, makes_file,
-    message, range, set_variable, unset_variable, warning,
+    message, range, set_variable, subdir_row, unset_variable, warning,
 };
-use calls::project_calls::project;
+use calls::project_calls::{project, project_row};
 use data::Value;
 use data::language_names::Function;
 use objects::configuration_calls::{has_meson_format, other_format_row};
 use ports::{Outputs, Tree};
 use world::{Caller, Stop};
+
+/// What a function takes.
+pub fn row(function: Function) -> Row
+    ensures { row_data result ≡ row_of function }
+{
+    match function {
+        Function::Assert => values(&[Kind::Boolean, Kind::Text], 1),
+        Function::Disabler | Function::SubdirDone => values(&[], 0),
+        Function::Error | Function::Message | Function::Warning => any_values(),
+        Function::GetVariable => values(&[Kind::Text, Kind::Any], 1),
+        Function::IsDisabler => values(&[Kind::Any], 1),
+        Function::IsVariable | Function::UnsetVariable => values(&[Kind::Text], 1),
+        Function::JoinPaths => some_texts(),
+        Function::OfProject(function) => project_function_row(function),
+        Function::Project => project_row(),
+        Function::Range => values(&[Kind::Integer, Kind::Integer, Kind::Integer], 1),
+        Function::SetVariable => values(&[Kind::Text, Kind::Any], 2),
+        Function::Subdir => subdir_row(),
+    }
+}
 
 // What the function takes beside these arguments: `configure_file` with another format than `'meson'` is told by a row of its own.
 fn row_for(function: Function, arguments: &Arguments) -> Row

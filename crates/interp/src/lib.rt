@@ -34,7 +34,6 @@ mod laying;
 mod nodes;
 mod operation;
 mod project_functions;
-mod rows;
 mod running;
 mod stated;
 mod touring;

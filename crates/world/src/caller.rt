@@ -1,10 +1,9 @@
 //! What the code of a function works on: the world of a run and its devices.
-ghost use Rattle.std.specs.Prelude.{◌≡◌, IfOk, string_bytes};
+ghost use Rattle.std.specs.Prelude.{◌≡◌, string_bytes};
 ghost use Rattle.world.specs.Answering.{IsAnswered, IsFitting, Refuses};
 ghost use Rattle.machine.specs.machine_file.Questions.{Key, answer_to, plain};
 ghost use Rattle.machine.specs.machine_file.QuestionsView.{question_in};
 ghost use Rattle.world.specs.Deed.{consult, need, required, say, there};
-ghost use Rattle.basics.specs.View.{fault_view};
 ghost use Rattle.world.specs.Store.{world_of};
 ghost use Rattle.world.specs.World.{fault_here};
 
@@ -17,11 +16,11 @@ mod ruling;
 use crate::operation::of_operation;
 use crate::stop::Stop;
 use crate::store::Store;
-use basics::faults::{Fault, Refusal};
+use basics::faults::Refusal;
 pub use here::Here;
 use machine::machine_file::{Question, Topic};
 use ports::{Outputs, Tree, log_all};
-use std::alloc::{AllocError, Global};
+use std::alloc::Global;
 
 /// What a call works on.
 #[derive(Drop)]
@@ -35,21 +34,12 @@ pub struct Caller<'a, T, O> {
 impl<'a, T: Tree, O: Outputs> Caller<'a, T, O> {
     ghost use Rattle.world.specs.Caller.{Does, MayFail};
 
-    fn fault(&self, refusal: Refusal, detail: &str) -> Result<Fault, AllocError>
-        ensures { IfOk result (λ f. fault_view f ≡ fault_here (world_of self.now.store.now) refusal detail.now) }
-    {
-        let (file, line) = (self.store.file(), self.store.line());
-        Fault::new(self.alloc, file, line, refusal, detail)
-    }
-
     /// Refuses the call, for this name, path or text.
     pub fn refuse<A>(&self, refusal: Refusal, detail: &str) -> Result<A, Stop>
         ensures { Refuses (fault_here (world_of self.now.store.now) refusal detail.now) result }
     {
-        match self.fault(refusal, detail) {
-            Ok(fault) => Err(Stop::Refused(fault)),
-            Err(_) => Err(Stop::Memory),
-        }
+        self.store
+            .refuse(self.alloc, self.store.line(), refusal, detail)
     }
 
     /// What an operation on values answered, or the stop of its refusal.

@@ -12,6 +12,7 @@ ghost use Rattle.machine.specs.option_values.View.{value_in};
 ghost use Rattle.machine.specs.option_values.Settings.{value_named};
 ghost use Rattle.machine.specs.option_values.SettingsView.{options_in};
 ghost use Rattle.targets.specs.View.{facts_view, flags_view};
+ghost use Rattle.world.specs.Answering.{Refuses};
 ghost use Rattle.world.specs.AskedView.{all_asked_in};
 ghost use Rattle.world.specs.SettingsView.{settings_view};
 ghost use Rattle.world.specs.Options.{option_text};
@@ -24,7 +25,9 @@ mod declaring;
 
 use crate::asked::Asked;
 use crate::settings::Settings;
+use crate::stop::Stop;
 use crate::trail::Trail;
+use basics::faults::{Fault, Refusal};
 use code::{Code, Names, flatten};
 use data::Value;
 use grammar::tree::File;
@@ -235,6 +238,23 @@ impl Store {
         ensures { result ≡ self.now.line }
     {
         self.place.line
+    }
+
+    /// Refuses what stands in a line of the present file, for this name, path or text.
+    #[cold]
+    pub fn refuse<A>(
+        &self,
+        alloc: Global,
+        line: usize,
+        refusal: Refusal,
+        detail: &str,
+    ) -> Result<A, Stop>
+        ensures { Refuses (record { file = self.now.file; line = line; refusal = refusal; detail = detail.now }) result }
+    {
+        match Fault::new(alloc, self.file(), line, refusal, detail) {
+            Ok(fault) => Err(Stop::Refused(fault)),
+            Err(_) => Err(Stop::Memory),
+        }
     }
 
     /// What is done next is done at this line.
