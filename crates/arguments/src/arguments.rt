@@ -14,10 +14,18 @@ pub struct Named {
 }
 
 /// The arguments of a call: those without a name, and those with one, each in order.
-#[derive(Drop)]
 pub struct Arguments {
     pub positional: Vec<Value>,
     pub named: Vec<Named>,
+}
+
+impl Drop for Arguments {
+    fn drop(self) {
+        let Arguments {
+            positional: _,
+            named: _,
+        } = self;
+    }
 }
 
 /// No argument.

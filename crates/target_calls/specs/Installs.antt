@@ -23,7 +23,8 @@ usual_folder facts _ = option_text facts.options (codes "libdir")
 abbrev pub install_folder : Facts → ArgumentsData → Kind → Path
 install_folder facts a kind = unwrap_or (text_given (codes "install_dir") a) (usual_folder facts kind)
 
--- the target's file goes to the folder below the option `prefix`, or to the folder alone where that is absolute; symbolic links are not listed
+-- the target's file goes to the folder below the option `prefix`, or to the folder alone where that is absolute; symbolic links are not
+-- listed
 abbrev pub build_install : Facts → ArgumentsData → BuildData → InstallData
 build_install facts a t = record {
   source = path_below facts.settings.build_root (file_path t);

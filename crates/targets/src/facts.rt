@@ -1,5 +1,4 @@
 /// What edges take from the options.
-#[derive(Drop)]
 pub struct Flags {
     /// `warning_level`, 0 to 3.
     pub warning_level: usize,
@@ -13,6 +12,20 @@ pub struct Flags {
     pub is_debug: bool,
     pub c_args: Vec<String>,
     pub c_link_args: Vec<String>,
+}
+
+impl Drop for Flags {
+    fn drop(self) {
+        let Flags {
+            warning_level: _,
+            is_werror: _,
+            c_std: _,
+            optimization: _,
+            is_debug: _,
+            c_args: _,
+            c_link_args: _,
+        } = self;
+    }
 }
 
 /// The type of an option (the manual's page "Build options").
@@ -81,9 +94,18 @@ impl Drop for Facts {
 }
 
 /// What edges take from the project: its facts, and the words of `add_project_arguments` and `add_project_link_arguments`.
-#[derive(Drop)]
 pub struct Surroundings {
     pub facts: Facts,
     pub arguments: Vec<String>,
     pub link_arguments: Vec<String>,
+}
+
+impl Drop for Surroundings {
+    fn drop(self) {
+        let Surroundings {
+            facts: _,
+            arguments: _,
+            link_arguments: _,
+        } = self;
+    }
 }

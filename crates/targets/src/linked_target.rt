@@ -7,10 +7,18 @@ ghost use Rattle.targets.specs.View.{target_view};
 use crate::target::Target;
 
 /// A target with what is made of it once.
-#[derive(Drop)]
 pub struct Linked {
     pub target: Target,
     /// What it is asked for, as the edge `all` names it: its outputs and the symbolic links.
     pub paths: Vec<String>,
     pub ghost paths_are: { texts paths.items ≡ default_paths (target_view target) },
+}
+
+impl Drop for Linked {
+    fn drop(self) {
+        let Linked {
+            target: _,
+            paths: _,
+        } = self;
+    }
 }

@@ -55,7 +55,6 @@ pub enum Source {
 ///
 /// A dependency that names others is its own lists and then theirs, so it is a list of these, and whoever joins dependencies shares
 /// them.
-#[derive(Drop)]
 pub struct Lists {
     pub sources: Vec<Source>,
     /// Folders of the tree, `""` for its root.
@@ -64,6 +63,18 @@ pub struct Lists {
     pub link_args: Vec<String>,
     /// The numbers of libraries.
     pub link_with: Vec<usize>,
+}
+
+impl Drop for Lists {
+    fn drop(self) {
+        let Lists {
+            sources: _,
+            include_folders: _,
+            compile_args: _,
+            link_args: _,
+            link_with: _,
+        } = self;
+    }
 }
 
 /// An executable or a library (the Reference manual's `executable`, `static_library` and `shared_library`).

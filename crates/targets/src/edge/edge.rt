@@ -7,7 +7,6 @@ use crate::edge::texts::lent_text;
 /// A build edge (the Ninja manual's "build statement"): outputs, and the command that makes them.
 ///
 /// All paths are seen from the build folder.
-#[derive(Drop)]
 pub struct Edge {
     pub rule: Rule,
     pub outputs: Vec<String>,
@@ -25,6 +24,22 @@ pub struct Edge {
     pub description: String,
     /// The file in which the compiler names what it has read.
     pub depfile: Option<String>,
+}
+
+impl Drop for Edge {
+    fn drop(self) {
+        let Edge {
+            rule: _,
+            outputs: _,
+            inputs: _,
+            implicit: _,
+            order_only: _,
+            words: _,
+            redirect: _,
+            description: _,
+            depfile: _,
+        } = self;
+    }
 }
 
 impl Edge {
