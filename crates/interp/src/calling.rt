@@ -8,7 +8,7 @@ use crate::evaluator::Evaluator;
 use crate::functions::call;
 use arguments::{Arguments, gives_disabler};
 use basics::faults::Refusal;
-use calls::language_calls::is_turned_off;
+use calls::language_calls::turning::is_turned_off;
 use data::language_names::{Function, MethodName};
 use data::{Object, Value};
 use expressions::{Context, disabler_method};

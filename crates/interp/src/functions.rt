@@ -8,10 +8,13 @@ ghost use Rattle.interp.specs.Functions.{call, does, has_unwanted_disabler, row_
 use crate::project_functions::{project_function, project_function_row};
 use arguments::{Arguments, Kind, Row, any_values, gives_disabler, some_texts, values};
 use basics::faults::Refusal;
-use calls::language_calls::{
-    assert, disabler, error, get_variable, is_disabler, is_variable, join_paths, makes_file,
-    message, range, set_variable, subdir_row, unset_variable, warning,
-};
+use calls::language_calls::disablers::{disabler, is_disabler};
+use calls::language_calls::messages::{assert, error, message, warning};
+use calls::language_calls::path_joining::join_paths;
+use calls::language_calls::ranges::range;
+use calls::language_calls::rows::subdir_row;
+use calls::language_calls::turning::makes_file;
+use calls::language_calls::variables::{get_variable, is_variable, set_variable, unset_variable};
 use calls::project_calls::{project, project_row};
 use data::Value;
 use data::language_names::Function;
