@@ -386,7 +386,8 @@ def test_progress() -> None:
 
 def test_self_install() -> None:
     done = meson("self-install", "prefix")
-    files = [os.path.join(folder, it) for folder, _, names in os.walk(f"{COPY}/tools") for it in names if "__pycache__" not in folder]
+    files = [os.path.join(folder, it) for folder, _, names in os.walk(f"{COPY}/tools") for it in names
+             if os.path.basename(folder) not in ("__pycache__", "building")]
     scripts = {f"share/hawkottoman/tools/{os.path.relpath(it, f'{COPY}/tools')}" for it in files
                if os.path.basename(it) not in ("build-program", "self-install")}
     names = {*scripts, "share/hawkottoman/hawkottoman", "share/hawkottoman/meson", "bin/hawkottoman-meson",

@@ -1,0 +1,1 @@
+"""What `build-program` is made of: the crates, what checks one, and which checks are at work."""
