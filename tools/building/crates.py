@@ -8,32 +8,27 @@ CHECKOUT = pathlib.Path(__file__).resolve().parents[2]
 PROGRAM = "hawkottoman"
 OUT = CHECKOUT / "crates" / PROGRAM / "out"
 LIBRARIES = OUT / "libraries"
+MEASURED = pathlib.Path(__file__).resolve().with_name("measured.txt")
 CODE, DEFINITIONS = ".rt", ".antt"
 SOURCES = ("src", "specs", "proofs")
-# What a check takes of time by one process, about, in seconds of the machine where that was measured: at least this, and more for each
-# crate below, for each line of code, and for each line of definitions and of proofs.
-LEAST_SECONDS = 27.0
-SECONDS_A_CRATE = 8.5
-SECONDS_A_LINE = 0.088
-SECONDS_A_FURTHER_LINE = 0.031
-# What it takes of memory at its end, about, and the share of that which it takes from the begin on, by what is loaded. The rest comes
-# evenly. The processes of one check share what is loaded.
-LEAST_BYTES = 850_000_000
-BYTES_A_CRATE = 70_000_000
-BYTES_A_LINE = 580_000
+MB = 1 << 20
+# What a check takes that nobody has measured, about: seconds and MB of any, and of each line of code.
+SECONDS, SECONDS_A_LINE = 60, 0.13
+SIZE, SIZE_A_LINE = 1300, 0.5
+# The share of the memory at its end that a check takes from the begin on, by what is loaded. The rest comes evenly.
 FIRST_SHARE = 0.6
 
 
 @dataclasses.dataclass(eq=False)
 class Crate:
-    """A crate of the program: the libraries that crates.txt lists for it, the crates below it, its lines of code, those of its definitions
-    and proofs, and a digest of its files."""
+    """A crate of the program: the libraries that crates.txt lists for it, the crates below it, a digest of its files, and what its check
+    is guessed to take: seconds of one process, where that was measured, and MB at its end."""
     name: str
     listed: list[str]
     below: set[str]
-    lines: int
-    further_lines: int
     digest: str
+    work: float
+    size: float
 
     @property
     def folder(self) -> pathlib.Path:
@@ -53,16 +48,9 @@ class Crate:
     def log(self) -> pathlib.Path:
         return OUT / f"build-{self.name}.log"
 
-    @property
-    def work(self) -> float:
-        """The seconds that its check is guessed to take by one process, where they were measured."""
-        of_lines = SECONDS_A_LINE * self.lines + SECONDS_A_FURTHER_LINE * self.further_lines
-        return LEAST_SECONDS + SECONDS_A_CRATE * len(self.below) + of_lines
-
     def bytes_at(self, share: float) -> float:
         """The memory that its check is guessed to take once this share of it is done."""
-        most = LEAST_BYTES + BYTES_A_CRATE * len(self.below) + BYTES_A_LINE * self.lines
-        return most * (FIRST_SHARE + (1 - FIRST_SHARE) * min(share, 1))
+        return self.size * MB * (FIRST_SHARE + (1 - FIRST_SHARE) * min(share, 1))
 
 
 def files_of(folder: pathlib.Path) -> list[pathlib.Path]:
@@ -80,24 +68,27 @@ def crates_below(name: str, listed: dict[str, list[str]]) -> set[str]:
     return found
 
 
-def crate_of(name: str, listed: dict[str, list[str]]) -> Crate:
-    folder, lines, digest = CHECKOUT / "crates" / name, {CODE: 0, DEFINITIONS: 0}, hashlib.sha256(" ".join(listed[name]).encode())
+def crate_of(name: str, listed: dict[str, list[str]], measured: dict[str, tuple[float, float]]) -> Crate:
+    folder, lines, digest = CHECKOUT / "crates" / name, 0, hashlib.sha256(" ".join(listed[name]).encode())
     for path in files_of(folder):
         content = path.read_bytes()
-        lines[path.suffix] += content.count(b"\n")
+        lines += content.count(b"\n") if path.suffix == CODE else 0
         digest.update(f"\n{path.relative_to(folder)} {len(content)}\n".encode() + content)
-    return Crate(name, listed[name], crates_below(name, listed), lines[CODE], lines[DEFINITIONS], digest.hexdigest())
+    work, size = measured.get(name, (SECONDS + SECONDS_A_LINE * lines, SIZE + SIZE_A_LINE * lines))
+    return Crate(name, listed[name], crates_below(name, listed), digest.hexdigest(), work, size)
+
+
+def rows_of(path: pathlib.Path) -> list[str]:
+    """The lines of a table that are no comments."""
+    return [line for line in path.read_text().splitlines() if line.strip() and not line.startswith("#")]
 
 
 def crates_of_program() -> dict[str, Crate]:
     """The program's crate and those that it stands on, by their names, as crates.txt lists them."""
-    listed: dict[str, list[str]] = {}
-    for line in (CHECKOUT / "crates.txt").read_text().splitlines():
-        name, colon, uses = line.partition(":")
-        if colon and not line.startswith("#"):
-            listed[name] = uses.split()
+    listed = {name: uses.split() for name, _, uses in (row.partition(":") for row in rows_of(CHECKOUT / "crates.txt"))}
+    measured = {name: (float(work), float(size)) for name, work, size in map(str.split, rows_of(MEASURED))}
     needed = {PROGRAM, *crates_below(PROGRAM, listed)}
-    return {name: crate_of(name, listed) for name in listed if name in needed}
+    return {name: crate_of(name, listed, measured) for name in listed if name in needed}
 
 
 def chains(crates: dict[str, Crate]) -> dict[str, float]:

@@ -1,0 +1,107 @@
+"""Which check begins next: orders of the crates are tried on a model of the build, and that is taken by which all are proved first.
+
+What a check takes of memory grows until it ends, so a crate begins only where there is memory until all that are at work have ended; and
+a long check that begins early can keep a crate waiting that more others wait for. The first is asked of the model, the second is tried.
+"""
+import dataclasses
+import random
+
+from tools.building.crates import Crate
+
+TRIES = 300
+# A check that nothing else can be proved beside has two processes, which share what was loaded before. Each further one takes more work
+# for less time, and so does a second one where others are at work.
+ALONE = 2
+SPEEDS = {1: 1.0, ALONE: 1.4}
+
+
+@dataclasses.dataclass
+class Check:
+    """A check at work: its crate, when it began, how long it takes, about, and by how many processes."""
+    crate: Crate
+    begin: float
+    length: float
+    processes: int = 1
+
+    @property
+    def end(self) -> float:
+        return self.begin + self.length
+
+    @property
+    def speed(self) -> float:
+        """How many times as fast as one process it goes."""
+        return SPEEDS[self.processes]
+
+    def bytes_at(self, time: float) -> float:
+        return self.crate.bytes_at((time - self.begin) / self.length)
+
+
+class Plan:
+    """The order in which the crates that are left begin, each once those before it have begun."""
+
+    def __init__(self, crates: list[Crate], jobs: int, room: float) -> None:
+        self.jobs, self.room = jobs, room
+        self.left = crates
+        self.tried = random.Random(0)
+
+    def fits(self, check: Check, at_work: list[Check]) -> bool:
+        """Whether there is memory for one more check until all that are at work have ended; for one alone there has to be."""
+        checks = [*at_work, check]
+        ends = [max(it.end, check.begin) for it in checks]
+        taken = (sum(it.bytes_at(time) for it, end in zip(checks, ends) if end >= time) for time in ends)
+        return not at_work or max(taken) <= self.room
+
+    def check_of(self, crate: Crate, left: list[Crate], now: float, pace: float) -> Check:
+        """The check of a crate that begins now, where the others are left, by seconds here for one of those that were measured."""
+        processes = min(ALONE, self.jobs) if all(crate.name in it.below for it in left) else 1
+        return Check(crate, now, crate.work * pace / SPEEDS[processes], processes)
+
+    def next_check(self, order: list[Crate], at_work: list[Check], now: float, pace: float) -> Check | None:
+        """The check that begins now, if any: of the first crate, where all below it is proved and a processor and memory are free."""
+        if not order or sum(it.processes for it in at_work) >= self.jobs:
+            return None
+        waited_for = {it.name for it in order[1:]} | {it.crate.name for it in at_work}
+        check = self.check_of(order[0], [*order[1:], *(it.crate for it in at_work)], now, pace)
+        return check if waited_for.isdisjoint(order[0].below) and self.fits(check, at_work) else None
+
+    def end_of(self, order: list[Crate], at_work: list[Check], now: float, pace: float) -> float:
+        """When all is proved, by the model."""
+        left, at_work = list(order), list(at_work)
+        while left or at_work:
+            while check := self.next_check(left, at_work, now, pace):
+                at_work.append(check)
+                del left[0]
+            first = min(at_work, key=lambda it: it.end)
+            at_work.remove(first)
+            now = max(now, first.end)
+        return now
+
+    def moved(self) -> list[Crate]:
+        """The order with one crate at another place: behind those below it, and before those that stand on it."""
+        order = list(self.left)
+        crate = order.pop(self.tried.randrange(len(order)))
+        first = max((at + 1 for at, it in enumerate(order) if it.name in crate.below), default=0)
+        last = min((at for at, it in enumerate(order) if crate.name in it.below), default=len(order))
+        order.insert(self.tried.randint(first, last), crate)
+        return order
+
+    def improve(self, at_work: list[Check], now: float, pace: float) -> None:
+        """Tries other orders, and keeps what is done no later."""
+        best = self.end_of(self.left, at_work, now, pace)
+        for _ in range(TRIES if len(self.left) > 1 else 0):
+            order = self.moved()
+            end = self.end_of(order, at_work, now, pace)
+            if end <= best:
+                best, self.left = end, order
+
+    def begin(self, at_work: list[Check], now: float, pace: float) -> list[Check]:
+        """The checks that begin now."""
+        self.improve(at_work, now, pace)
+        begun: list[Check] = []
+        while check := self.next_check(self.left, [*at_work, *begun], now, pace):
+            begun.append(check)
+            del self.left[0]
+        return begun
+
+    def seconds_left(self, at_work: list[Check], now: float, pace: float) -> float:
+        return self.end_of(self.left, at_work, now, pace) - now
