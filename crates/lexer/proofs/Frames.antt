@@ -5,7 +5,7 @@ use Rattle.std.specs.Prelude.{◌==◌, ◌&&◌, slice_range}
 use Rattle.std.specs.Str.{IsUtf8, IsCharBoundary}
 use Rattle.std.proofs.lemmas.Bool.{eqb-true, and_from, and_parts, cond-true, cond-false}
 use Rattle.std.proofs.lemmas.Bool.Decides.{nat_tests}
-use Rattle.std.proofs.lemmas.Str.{IsCharBoundary-after_ascii, IsCharBoundary-before_ascii}
+use Rattle.std.proofs.lemmas.Str.{IsCharBoundary-after_ascii}
 use Rattle.lexer.specs.Bytes.{quote}
 use Rattle.lexer.specs.Texts.{is_framed, between}
 
@@ -36,7 +36,6 @@ framed_is front back text le before behind =
 record Framed (front back : ℕ) (text : List ℕ) : Type 0 where
   pub within : front + back ≤ length text
   pub before : get_or text (front - 1) 0 ≡ quote
-  pub behind : get_or text (length text - back) 0 ≡ quote
 
 framed : (front back : ℕ) (text : List ℕ) → is_framed front back text ≡ true → Framed front back text
 framed front back text h =
@@ -44,22 +43,13 @@ framed front back text h =
     record {
       within = true_le (front + back) (length text) (and_parts (nat_le (front + back) (length text)) _ h).0;
       before = eqb-true (get_or text (front - 1) 0) quote (and_parts _ (get_or text (length text - back) 0 == quote) quotes).0;
-      behind = eqb-true (get_or text (length text - back) 0) quote (and_parts (get_or text (front - 1) 0 == quote) _ quotes).1;
     }
-
-pub framed_within : (front back : ℕ) (text : List ℕ) → is_framed front back text ≡ true → front + back ≤ length text
-framed_within front back text h = (framed front back text h).within
 
 pub framed_start : (front back : ℕ) (text : List ℕ) → IsUtf8 text → 0 < front → 0 < back → is_framed front back text ≡ true → IsCharBoundary text front
 framed_start front back text utf8 some more h =
     let w = framed front back text h in
     subst (IsCharBoundary text) (let q : (front - 1) + 1 ≡ front = omega arith in q)
     (IsCharBoundary-after_ascii text (front - 1) utf8 (omega (arith, w.within)) (subst (λ (x : ℕ). x < 128) (sym w.before) (lit< tt)))
-
-pub framed_end : (front back : ℕ) (text : List ℕ) → 0 < front → 0 < back → is_framed front back text ≡ true → IsCharBoundary text (length text - back)
-framed_end front back text some more h =
-    let w = framed front back text h in
-    IsCharBoundary-before_ascii text (length text - back) (omega (arith, w.within)) (subst (λ (x : ℕ). x < 128) (sym w.behind) (lit< tt))
 
 pub between_framed : (front back : ℕ) (text : List ℕ) → is_framed front back text ≡ true → between front back text ≡ slice_range text front (length text - back)
 unfolding between

@@ -251,10 +251,6 @@ abbrev pub advanced : ℕ → Option ℕ → Option ℕ
 advanced n None = None
 advanced n (Some m) = Some (n + m)
 
-pub advanced_zero : (o : Option ℕ) → advanced 0 o ≡ o
-advanced_zero None = refl
-advanced_zero (Some m) = ap (λ (x : ℕ). Some x) (omega arith)
-
 advanced_further : (n : ℕ) (o : Option ℕ) → advanced n (further o) ≡ advanced (n + 1) o
 advanced_further n None = refl
 advanced_further n (Some m) = ap (λ (x : ℕ). Some x) (omega arith)

@@ -1,7 +1,7 @@
 //! The bytes that tokens are made of.
 
 ghost use Rattle.std.specs.Prelude.{◌≡◌};
-ghost use Rattle.lexer.specs.Bytes.{is_letter, continues_word, is_plain, is_blank, newlines, opens_raw, opens_format};
+ghost use Rattle.lexer.specs.Bytes.{is_letter, continues_word, is_blank, newlines, opens_raw, opens_format};
 
 // A letter or an underscore.
 pub(crate) fn is_letter(byte: u8) -> bool
@@ -15,13 +15,6 @@ pub(crate) fn continues_word(byte: u8) -> bool
     ensures { result ≡ continues_word byte }
 {
     is_letter(byte) || byte.is_ascii_digit()
-}
-
-// What may stand between the quotes of a string.
-pub(crate) fn is_plain(byte: u8) -> bool
-    ensures { result ≡ is_plain byte }
-{
-    !(byte == b'\'' || byte == b'\\')
 }
 
 // A blank, where so many brackets are open: inside brackets a newline is one.
