@@ -1,26 +1,26 @@
 """Which checks `build-program` begins, and by how many processes, over crates made by hand; tests/scripts runs this too."""
 import sys
+from collections.abc import Sequence
 
 from workshop import CHECKOUT, check
 
 sys.path.insert(0, CHECKOUT)
-from tools.building.crates import MB, Crate, chains, crates_of_program  # noqa: E402
+from tools.building.crates import MIB, Crate, crates_of_program, longest_way_first  # noqa: E402
 from tools.building.plan import ALONE, Check, Plan  # noqa: E402
 
 
 def crate(name: str, *below: str, work: float = 100, size: float = 1000) -> Crate:
-    """A crate of so many seconds and MB, over these, which are all that are below."""
+    """A crate of so many seconds and MiB, over these, which are all that are below."""
     return Crate(name, list(below), set(below), "", work, size)
 
 
 def plan(*crates: Crate, jobs: int = 4, size: float = 8000) -> Plan:
-    way = chains({it.name: it for it in crates})
-    return Plan(sorted(crates, key=lambda it: -way[it.name]), jobs, size * MB)
+    return Plan(longest_way_first({it.name: it for it in crates}), jobs, size * MIB)
 
 
-def begun(made: Plan, at_work: list[Check] = [], now: float = 0) -> dict[str, int]:
+def begun(made: Plan, at_work: Sequence[Check] = (), now: float = 0) -> dict[str, int]:
     """The checks that begin now, with their processes."""
-    return {it.crate.name: it.processes for it in made.begin(at_work, now, 1)}
+    return {it.crate.name: it.processes for it in made.begin([*at_work], now, 1)}
 
 
 def test_order() -> None:

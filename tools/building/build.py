@@ -6,7 +6,7 @@ import subprocess
 import sys
 import time
 
-from tools.building.crates import OUT, PROGRAM, Crate, chains
+from tools.building.crates import OUT, PROGRAM, Crate, longest_way_first
 from tools.building.kit import Kit
 from tools.building.plan import Check, Plan
 
@@ -19,14 +19,17 @@ class Build:
     def __init__(self, kit: Kit, crates: dict[str, Crate], jobs: int, room: int) -> None:
         self.kit, self.crates, self.jobs, self.room = kit, crates, jobs, room
         self.proved = {it.name for it in crates.values() if self.is_made(it)}
-        way = chains(crates)
-        left = sorted((it for it in crates.values() if it.name not in self.proved), key=lambda it: -way[it.name])
-        self.plan = Plan(left, jobs, room)
+        self.plan = Plan([it for it in longest_way_first(crates) if it.name not in self.proved], jobs, room)
         self.commands: set[subprocess.Popen] = set()
         self.failed: list[str] = []
         self.start = time.monotonic()
         # Of the checks that have ended: the seconds of one process where that was measured, and here.
         self.measured, self.taken = 0.0, 0.0
+
+    @property
+    def pace(self) -> float:
+        """How many seconds here stand for one where that was measured."""
+        return self.taken / self.measured if self.measured else 1
 
     @functools.cache
     def digest(self, name: str) -> str:
@@ -63,7 +66,7 @@ class Build:
             return
         self.proved.add(name)
         if len(self.proved) < len(self.crates):
-            left = self.plan.seconds_left(at_work, now, self.taken / self.measured) / 60
+            left = self.plan.seconds_left(at_work, now, self.pace) / 60
             print(f"meson: {len(self.proved)} of {len(self.crates)} crates proved in {(now - self.start) / 60:.0f} minutes, "
                   f"about {left:.0f} more: {name}", file=sys.stderr, flush=True)
 
@@ -76,8 +79,7 @@ class Build:
             try:
                 while len(self.proved) < len(self.crates):
                     if not self.failed:
-                        pace = self.taken / self.measured if self.measured else 1
-                        begun = self.plan.begin([*running.values()], time.monotonic(), pace)
+                        begun = self.plan.begin([*running.values()], time.monotonic(), self.pace)
                         running |= {lanes.submit(self.make, it): it for it in begun}
                     if not running:
                         return

@@ -11,8 +11,8 @@ LIBRARIES = OUT / "libraries"
 MEASURED = pathlib.Path(__file__).resolve().with_name("measured.txt")
 CODE, DEFINITIONS = ".rt", ".antt"
 SOURCES = ("src", "specs", "proofs")
-MB = 1 << 20
-# What a check takes that nobody has measured, about: seconds and MB of any, and of each line of code.
+MIB = 1 << 20
+# What a check takes that nobody has measured, about: seconds and MiB of any, and of each line of code.
 SECONDS, SECONDS_A_LINE = 60, 0.13
 SIZE, SIZE_A_LINE = 1300, 0.5
 # The share of the memory at its end that a check takes from the begin on, by what is loaded. The rest comes evenly.
@@ -22,7 +22,7 @@ FIRST_SHARE = 0.6
 @dataclasses.dataclass(eq=False)
 class Crate:
     """A crate of the program: the libraries that crates.txt lists for it, the crates below it, a digest of its files, and what its check
-    is guessed to take: seconds of one process, where that was measured, and MB at its end."""
+    is guessed to take: seconds of one process, where that was measured, and MiB at its end."""
     name: str
     listed: list[str]
     below: set[str]
@@ -50,7 +50,7 @@ class Crate:
 
     def bytes_at(self, share: float) -> float:
         """The memory that its check is guessed to take once this share of it is done."""
-        return self.size * MB * (FIRST_SHARE + (1 - FIRST_SHARE) * min(share, 1))
+        return self.size * MIB * (FIRST_SHARE + (1 - FIRST_SHARE) * min(share, 1))
 
 
 def files_of(folder: pathlib.Path) -> list[pathlib.Path]:
@@ -91,10 +91,10 @@ def crates_of_program() -> dict[str, Crate]:
     return {name: crate_of(name, listed, measured) for name in listed if name in needed}
 
 
-def chains(crates: dict[str, Crate]) -> dict[str, float]:
-    """For each crate the work of the longest chain from it up to the program."""
+def longest_way_first(crates: dict[str, Crate]) -> list[Crate]:
+    """The crates by the work of the longest chain from each up to the program, so each before those that stand on it."""
     @functools.cache
     def chain(name: str) -> float:
         return crates[name].work + max((chain(it.name) for it in crates.values() if name in it.listed), default=0)
 
-    return {name: chain(name) for name in crates}
+    return sorted(crates.values(), key=lambda it: -chain(it.name))
