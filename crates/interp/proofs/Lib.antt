@@ -6,6 +6,7 @@ mod Depending
 pub mod Doing
 mod Examples
 pub mod Ending
+pub mod Halting
 pub mod Looping
 pub mod Machines
 mod Noting

@@ -22,6 +22,8 @@ use Rattle.interp.specs.declared.block.Block.{Block}
 use Rattle.interp.specs.declared.flow.Flow.{Flow}
 use Rattle.interp.specs.declared.flow.Flow.TheVariants.{Next}
 use Rattle.interp.specs.declared.halt.Halt.{Halt}
+use Rattle.interp.specs.declared.halt.Halt.TheVariants as halts
+use Rattle.interp.specs.declared.halt.Inside.{Inside}
 use Rattle.interp.specs.declared.touring.Tour.{Tour}
 use Rattle.interp.specs.declared.touring.Tour.TheVariants as tours
 use Rattle.interp.specs.declared.walking.Walk.{Walk}
@@ -182,6 +184,23 @@ pub record Stepped (files : Files) (whole : Plan Flow) (old : Stand) (result : R
     (now : Stand) : Type 0 where
   pub steps : StepsTo files whole old result fs now
 
+-- the whole plan is to enter this folder, and what a stack still does behind it
+pub record Waits (files : Files) (left : Bounds) (whole : Plan Flow) (old : Stand) (entry : Inside) (fs : List Frame) (now : Stand)
+    : Type 0 where
+  pub rests : List Rest
+  pub stacked : Stacked now.names fs rests
+  pub leads : Leads files whole old (behind_all rests (inside left entry)) now
+
+abbrev pub BeginsTo : Files → Bounds → Plan Flow → Stand → Result Flow Halt → List Frame → Stand → Type 0
+BeginsTo files left whole old (Ok flow) fs now = Moved files whole old flow fs now
+BeginsTo files left whole old (Err (halts.Stops stop)) fs now = MovesTo files whole old (Err stop) fs now
+BeginsTo files left whole old (Err (halts.Enters entry)) fs now = Waits files left whole old entry.value fs now
+
+-- a statement has begun, which may be left for a folder, where so many more may stand inside one another
+pub record Begun (files : Files) (left : Bounds) (whole : Plan Flow) (old : Stand) (result : Result Flow Halt) (fs : List Frame)
+    (now : Stand) : Type 0 where
+  pub begun : BeginsTo files left whole old result fs now
+
 -- ---- what is done where it stands
 
 -- what a statement does was done; or nothing was, since it needs the stack
@@ -259,6 +278,14 @@ module _ {T O L : Type 0} where
       (files : Files) (rests : List Rest) (table : List (List ℕ)) → Holds (tree old.tree.now) files
       → Stacked old.store.now.names before rests → Made code old.store.now.names table
       → Moves files (behind_all rests (plan table)) (stand_of tree out old) result after (stand_of tree out new)
+
+  -- the same of a statement that begins
+  abbrev pub Begins : (T → TreeState) → (O → OutputState) → (List (List ℕ) → Plan Flow) → Bounds → Code
+      → Context T O L → List Frame → Result Flow Halt → Context T O L → List Frame → Type 0
+  Begins tree out plan left code old before result new after =
+      (files : Files) (rests : List Rest) (table : List (List ℕ)) → Holds (tree old.tree.now) files
+      → Stacked old.store.now.names before rests → Made code old.store.now.names table
+      → Begun files left (behind_all rests (plan table)) (stand_of tree out old) result after (stand_of tree out new)
 
   -- the same of a plan that no code has to be read for
   abbrev pub Acts : (T → TreeState) → (O → OutputState) → Plan Flow

@@ -11,6 +11,7 @@ use crate::block::Block;
 use crate::evaluator::Evaluator;
 use crate::flow::Flow;
 use crate::frames::{BlockRest, Frame, LoopRest};
+use crate::halt::Halt;
 use crate::laying::lay;
 use crate::touring::Tour;
 use crate::unwinding::unwind;
@@ -141,7 +142,11 @@ impl<'a, T: Tree, O: Outputs, L: Ledger> Evaluator<'a, T, O, L> {
                     left,
                 };
                 lay(stack, Frame::Block(others))?;
-                self.begin(&code, number, left, stack)
+                match self.begin(&code, number, left, stack) {
+                    Ok(flow) => Ok(flow),
+                    Err(Halt::Stops(stop)) => Err(stop),
+                    Err(Halt::Enters(entry)) => self.enter_inside(entry, left, stack),
+                }
             }
             Walk::Enters { entry, at } => {
                 let others = BlockRest {

@@ -9,7 +9,7 @@ ghost use Rattle.expressions.specs.Codes.{block_by, expressions_by, statements_b
 ghost use Rattle.interp.specs.Blocks.{IsDeep, branch_or, node_at, statements_of};
 ghost use Rattle.interp.specs.Expressions.{value_of};
 ghost use Rattle.interp.specs.Folders.{folder};
-ghost use Rattle.interp.specs.Frames.{ChoosesOf, Does, above_branch, round_by};
+ghost use Rattle.interp.specs.Frames.{Begins, ChoosesOf, above_branch, round_by};
 ghost use Rattle.interp.specs.Parts.{above};
 ghost use Rattle.interp.specs.Statements.{branches_of, do_all, does, stated, walked};
 ghost use Rattle.expressions.specs.Rounds.{looped};
@@ -28,10 +28,9 @@ use expressions::{Choice, check_loop};
 use ports::{Outputs, Tree};
 use std::rc::Rc;
 use std::sync::ledger::Ledger;
-use world::Stop;
 
 impl<'a, T: Tree, O: Outputs, L: Ledger> Evaluator<'a, T, O, L> {
-    ghost use Rattle.expressions.specs.Contexts.{Fails, HasRoom, Same};
+    ghost use Rattle.expressions.specs.Contexts.{HasRoom, Same};
     ghost use Rattle.interp.specs.Evaluates.{FailsInside};
 
     /// Begins the statement with this number, whose end is on the stack, and puts its parts on it; so many more folders may stand inside
@@ -42,14 +41,14 @@ impl<'a, T: Tree, O: Outputs, L: Ledger> Evaluator<'a, T, O, L> {
         number: usize,
         left: usize,
         stack: &mut Vec<Frame>,
-    ) -> Result<Flow, Stop>
+    ) -> Result<Flow, Halt>
         requires there { number < length code.now.value.statements.items }
         requires deep { IsDeep (node_at code.now.value number) }
         requires room { HasRoom T.seen O.seen self.old.context }
         ensures same { Same self.old.context self.new.context }
-        ensures device { Fails T.seen O.seen self.old.context result self.new.context }
-        ensures gives { (few : Bool) → Does T.seen O.seen (λ table.
-            does (folder (bounds few left)) few (statement_at (statements_by table code.now.value) number))
+        ensures device { FailsInside T.seen O.seen self.old.context result self.new.context }
+        ensures gives { (few : Bool) → Begins T.seen O.seen (λ table.
+            does (folder (bounds few left)) few (statement_at (statements_by table code.now.value) number)) (bounds few left)
             code.now.value self.old.context stack.old.items result self.new.context stack.new.items }
     {
         match &code.statements[number] {
@@ -87,30 +86,25 @@ impl<'a, T: Tree, O: Outputs, L: Ledger> Evaluator<'a, T, O, L> {
         value: usize,
         left: usize,
         stack: &mut Vec<Frame>,
-    ) -> Result<Flow, Stop>
+    ) -> Result<Flow, Halt>
         requires here { value < length code.now.nodes.items }
         requires room { HasRoom T.seen O.seen self.old.context }
         ensures same { Same self.old.context self.new.context }
-        ensures device { Fails T.seen O.seen self.old.context result self.new.context }
-        ensures gives { (few : Bool) → Does T.seen O.seen (λ table.
-            stated (folder (bounds few left)) (tree_at (expressions_by table code.now) value)) code.now
+        ensures device { FailsInside T.seen O.seen self.old.context result self.new.context }
+        ensures gives { (few : Bool) → Begins T.seen O.seen (λ table.
+            stated (folder (bounds few left)) (tree_at (expressions_by table code.now) value)) (bounds few left) code.now
             self.old.context stack.old.items result self.new.context stack.new.items }
     {
         if let Node::Call { call, line } = &code.nodes[value] {
             let call: &CallNode = call;
             stack.push(Frame::End)?;
-            match self.perform(code, *line, &call.name, &call.arguments) {
-                Ok(Way::Ends(flow)) => Ok(flow),
-                Ok(Way::Enters(text)) => self.enter(&text, left, stack),
-                Err(Halt::Stops(stop)) => Err(stop),
-                Err(Halt::Enters(entry)) => self.enter_inside(entry, left, stack),
+            match self.perform(code, *line, &call.name, &call.arguments)? {
+                Way::Ends(flow) => Ok(flow),
+                Way::Enters(text) => Ok(self.enter(&text, left, stack)?),
             }
         } else {
-            match self.alone(code, value) {
-                Ok(_given) => Ok(Flow::Next),
-                Err(Halt::Stops(stop)) => Err(stop),
-                Err(Halt::Enters(entry)) => self.enter_inside(entry, left, stack),
-            }
+            self.alone(code, value)?;
+            Ok(Flow::Next)
         }
     }
 
@@ -122,24 +116,20 @@ impl<'a, T: Tree, O: Outputs, L: Ledger> Evaluator<'a, T, O, L> {
         head: LoopHead,
         left: usize,
         stack: &mut Vec<Frame>,
-    ) -> Result<Flow, Stop>
+    ) -> Result<Flow, Halt>
         requires here { list < length code.now.value.nodes.items }
         requires first { IsTrue (nat_lt head.first code.now.value.names) }
         requires second { IsTrue (second_within code.now.value.names head.second) }
         requires room { HasRoom T.seen O.seen self.old.context }
         ensures same { Same self.old.context self.new.context }
-        ensures device { Fails T.seen O.seen self.old.context result self.new.context }
-        ensures gives { (few : Bool) → Does T.seen O.seen (λ table. next
+        ensures device { FailsInside T.seen O.seen self.old.context result self.new.context }
+        ensures gives { (few : Bool) → Begins T.seen O.seen (λ table. next
             (ruled (value_of (folder (bounds few left)) (tree_at (expressions_by table code.now.value) list)))
             (λ d. walked few head.line (round_by table code.now.value (bounds few left) head)
-            (looped (option_map (name_at table) head.second) d)))
+            (looped (option_map (name_at table) head.second) d))) (bounds few left)
             code.now.value self.old.context stack.old.items result self.new.context stack.new.items }
     {
-        let whole = match self.eval(code, list) {
-            Ok(whole) => whole,
-            Err(Halt::Stops(stop)) => return Err(stop),
-            Err(Halt::Enters(entry)) => return self.enter_inside(entry, left, stack),
-        };
+        let whole = self.eval(code, list)?;
         match check_loop(head.second.is_some(), &whole) {
             Ok(()) => {
                 stack.push(Frame::Loop(LoopRest {
@@ -151,7 +141,7 @@ impl<'a, T: Tree, O: Outputs, L: Ledger> Evaluator<'a, T, O, L> {
                 }))?;
                 Ok(Flow::Next)
             }
-            Err(refusal) => self.context.refuse(head.line, refusal, ""),
+            Err(refusal) => Ok(self.context.refuse(head.line, refusal, "")?),
         }
     }
 
@@ -163,20 +153,20 @@ impl<'a, T: Tree, O: Outputs, L: Ledger> Evaluator<'a, T, O, L> {
         parts: &[BranchNode],
         left: usize,
         stack: &mut Vec<Frame>,
-    ) -> Result<Flow, Stop>
+    ) -> Result<Flow, Halt>
         requires here { above above_branch parts.now ≤ length code.now.value.nodes.items }
         requires room { HasRoom T.seen O.seen self.old.context }
         ensures same { Same self.old.context self.new.context }
-        ensures device { Fails T.seen O.seen self.old.context result self.new.context }
+        ensures device { FailsInside T.seen O.seen self.old.context result self.new.context }
         ensures gives { (few : Bool) (otherwise : List ℕ)
             → ((part : ℕ) → statements_of code.now.value (Part number part) ≡ branch_or otherwise parts.now part)
-            → Does T.seen O.seen (λ table. branches_of (folder (bounds few left)) few (branches (map (branch_at
+            → Begins T.seen O.seen (λ table. branches_of (folder (bounds few left)) few (branches (map (branch_at
             (expressions_by table code.now.value) (statements_by table code.now.value)) parts.now))
-            (do_all (folder (bounds few left)) few (block_by table code.now.value otherwise)))
+            (do_all (folder (bounds few left)) few (block_by table code.now.value otherwise))) (bounds few left)
             code.now.value self.old.context stack.old.items result self.new.context stack.new.items }
     {
-        match self.choose_part(code, parts) {
-            Ok(Some(part)) => {
+        match self.choose_part(code, parts)? {
+            Some(part) => {
                 stack.push(Frame::Block(BlockRest {
                     code: code.clone()?,
                     block: Block::Part {
@@ -188,9 +178,7 @@ impl<'a, T: Tree, O: Outputs, L: Ledger> Evaluator<'a, T, O, L> {
                 }))?;
                 Ok(Flow::Next)
             }
-            Ok(None) => Ok(Flow::Next),
-            Err(Halt::Stops(stop)) => Err(stop),
-            Err(Halt::Enters(entry)) => self.enter_inside(entry, left, stack),
+            None => Ok(Flow::Next),
         }
     }
 

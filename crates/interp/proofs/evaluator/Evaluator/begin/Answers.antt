@@ -23,7 +23,8 @@ use Rattle.interp.specs.Statements.{branches_of, do_all, does, stated, walked}
 use Rattle.expressions.specs.Rounds.{looped}
 use Rattle.interp.specs.declared.block.Block.TheVariants.{Part}
 use Rattle.interp.proofs.Spelling.{branches_reach, node_is, parts_of, spelled}
-use Rattle.interp.proofs.Stack.{made_as, moves_as}
+use Rattle.interp.proofs.Halting.{begun_as}
+use Rattle.interp.proofs.Stack.{made_as}
 use Rattle.interp.proofs.Doing.{deep_as, deep_only}
 use Rattle.interp.proofs.evaluator.Evaluator.begin.Goals as goal
 
@@ -96,7 +97,7 @@ returns-in-Expression-clause-gives g c = λ few files rests table hold stacked m
     let node = flat.Expression c.in-Expression.value c.in-Expression.line in
     let tree = spelled table code c.args.number c.index.result.now node c.requires.there at c.in-Expression.is in
     let whole = ap (λ (t : StatementTree). behind_all rests (does (folder (bounds few c.args.left)) few t)) tree in
-    moves_as (ap (λ (d : Code). behind_all rests (stated (folder (bounds few c.args.left)) (tree_at (expressions_by table d) c.in-Expression.value))) c.deref-in-Expression.ensures ∙ whole)
+    begun_as (ap (λ (d : Code). behind_all rests (stated (folder (bounds few c.args.left)) (tree_at (expressions_by table d) c.in-Expression.value))) c.deref-in-Expression.ensures ∙ whole)
     (c.state.ensures.gives few files rests table hold stacked (made_as (sym c.deref-in-Expression.ensures) made))
 
 pub returns-in-If-clause-gives : goal.returns-in-If-clause-gives
@@ -110,7 +111,7 @@ returns-in-If-clause-gives g c = λ few files rests table hold stacked made.
     let otherwise = c.in-If.node.value.otherwise.items in
     let opened = c.deref-in-If.ensures.value ∙ ap (λ (x : IfNode). x.branches.items) c.deref-node.ensures in
     let same = λ (part : ℕ). ap (λ (x : StatementNode). part_of x part) is ∙ ap (λ (bs : List BranchNode). branch_or otherwise bs part) (sym opened) in
-    moves_as (ap (λ (bs : List BranchNode). behind_all rests (branches_of (folder (bounds few c.args.left)) few (branches (map (branch_at (expressions_by table code) (statements_by table code)) bs))
+    begun_as (ap (λ (bs : List BranchNode). behind_all rests (branches_of (folder (bounds few c.args.left)) few (branches (map (branch_at (expressions_by table code) (statements_by table code)) bs))
     (do_all (folder (bounds few c.args.left)) few (block_by table code otherwise)))) opened ∙ whole)
     (c.begin_branch.ensures.gives few otherwise same files rests table hold stacked made)
 
@@ -123,7 +124,7 @@ returns-in-Foreach-clause-gives g c = λ few files rests table hold stacked made
     let whole = ap (λ (t : StatementTree). behind_all rests (does (folder (bounds few c.args.left)) few t)) tree in
     let is = node_is code c.args.number c.index.result.now node c.requires.there at c.in-Foreach.is in
     let l = c.in-Foreach.node.value in
-    moves_as (ap (λ (x : ForeachNode). behind_all rests (next (ruled (value_of (folder (bounds few c.args.left)) (tree_at (expressions_by table code) x.list)))
+    begun_as (ap (λ (x : ForeachNode). behind_all rests (next (ruled (value_of (folder (bounds few c.args.left)) (tree_at (expressions_by table code) x.list)))
     (λ d. walked few x.line (round_by table code (bounds few c.args.left) record { line = x.line; first = x.first; second = x.second; body = Part c.args.number 0 })
     (looped (option_map (name_at table) x.second) d)))) c.deref-node-in-Foreach.ensures
     ∙ ap (λ (ns : List ℕ). behind_all rests (next (ruled (value_of (folder (bounds few c.args.left)) (tree_at (expressions_by table code) l.list)))

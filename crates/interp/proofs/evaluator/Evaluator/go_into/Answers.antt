@@ -9,7 +9,8 @@ use Rattle.interp.specs.Statements.{does}
 use Rattle.interp.specs.declared.walking.Walk.{Walk}
 use Rattle.expressions.proofs.Evaluating.{given_give, leads_start}
 use Rattle.interp.proofs.Doing.{begins_deep, memory_is}
-use Rattle.interp.proofs.Stack.{moves_as, moves_given, moves_none, moves_statement}
+use Rattle.interp.proofs.Halting.{moves_begun, moves_stopped, waits_begun}
+use Rattle.interp.proofs.Stack.{moves_as, moves_given, moves_none, moves_statement, moves_then}
 use Rattle.interp.proofs.evaluator.Evaluator.go_into.Goals as goal
 
 pub returns-in-Ends-clause-gives : goal.returns-in-Ends-clause-gives
@@ -32,24 +33,43 @@ pub returns-in_err-lay-in-Begins-clause-gives : goal.returns-in_err-lay-in-Begin
 returns-in_err-lay-in-Begins-clause-gives g c = λ few files rests table hold stacked made.
     moves_none c.from_residual-in_err-lay-in-Begins.result c.lay.new.stack.items (leads_start hold) (memory_is c.from_residual-in_err-lay-in-Begins.result c.in_err-lay-in-Begins.ensures.lays c.from_residual-in_err-lay-in-Begins.ensures.1)
 
-pub returns-in_ok-lay-in-Begins-clause-gives : goal.returns-in_ok-lay-in-Begins-clause-gives
-returns-in_ok-lay-in-Begins-clause-gives g c = λ few files rests table hold stacked made.
+pub returns-in-Ok-clause-gives : goal.returns-in-Ok-clause-gives
+returns-in-Ok-clause-gives g c = λ few files rests table hold stacked made.
     let left = bounds few c.args.left in
     let fs = c.args.stack.now.items in
     moves_as (ap (λ (w : Walk). behind_all rests (walk_left (parts_by table c.args.code.value left c.args.block) left w)) (sym c.in-Begins.is))
     (moves_statement few fs _ c.lay.new.stack.items rests _ (does (folder left) few (statement_at (statements_by table c.args.code.value) c.in-Begins.number)) table
     c.in_ok-clone-in-Begins.ensures.cases refl c.in_ok-lay-in-Begins.ensures.lays stacked made
-    (λ rs s. c.begin.ensures.gives few files rs table hold s made))
+    (λ rs s. moves_begun refl (c.in-Ok.ensures.gives few files rs table hold s made)))
+
+pub returns-in-Err-Stops-clause-gives : goal.returns-in-Err-Stops-clause-gives
+returns-in-Err-Stops-clause-gives g c = λ few files rests table hold stacked made.
+    let left = bounds few c.args.left in
+    let fs = c.args.stack.now.items in
+    moves_as (ap (λ (w : Walk). behind_all rests (walk_left (parts_by table c.args.code.value left c.args.block) left w)) (sym c.in-Begins.is))
+    (moves_statement few fs _ c.lay.new.stack.items rests _ (does (folder left) few (statement_at (statements_by table c.args.code.value) c.in-Begins.number)) table
+    c.in_ok-clone-in-Begins.ensures.cases refl c.in_ok-lay-in-Begins.ensures.lays stacked made
+    (λ rs s. moves_stopped c.in-Err-Stops.field-0-is (c.in-Err-Stops.ensures.gives few files rs table hold s made)))
+
+pub returns-in-Begins-clause-gives : goal.returns-in-Begins-clause-gives
+returns-in-Begins-clause-gives g c = λ few files rests table hold stacked made.
+    let left = bounds few c.args.left in
+    let fs = c.args.stack.now.items in
+    moves_as (ap (λ (w : Walk). behind_all rests (walk_left (parts_by table c.args.code.value left c.args.block) left w)) (sym c.in-Begins.is))
+    (moves_statement few fs _ c.lay.new.stack.items rests _ (does (folder left) few (statement_at (statements_by table c.args.code.value) c.in-Begins.number)) table
+    c.in_ok-clone-in-Begins.ensures.cases refl c.in_ok-lay-in-Begins.ensures.lays stacked made
+    (λ rs s. let w = waits_begun c.in-Err-Enters.field-0-is (c.in-Err-Enters.ensures.gives few files rs table hold s made) in
+    moves_then c.enter_inside.result w.leads (c.enter_inside.ensures.gives few files w.rests w.leads.holds w.stacked)))
 
 pub returns-in_err-lay-in-Enters-clause-gives : goal.returns-in_err-lay-in-Enters-clause-gives
 returns-in_err-lay-in-Enters-clause-gives g c = λ few files rests table hold stacked made.
     moves_none c.from_residual-in_err-lay-in-Enters.result c.lay-in-Enters.new.stack.items (leads_start hold) (memory_is c.from_residual-in_err-lay-in-Enters.result c.in_err-lay-in-Enters.ensures.lays c.from_residual-in_err-lay-in-Enters.ensures.1)
 
-pub returns-in_ok-lay-in-Enters-clause-gives : goal.returns-in_ok-lay-in-Enters-clause-gives
-returns-in_ok-lay-in-Enters-clause-gives g c = λ few files rests table hold stacked made.
+pub returns-clause-gives : goal.returns-clause-gives
+returns-clause-gives g c = λ few files rests table hold stacked made.
     let left = bounds few c.args.left in
     let fs = c.args.stack.now.items in
     moves_as (ap (λ (w : Walk). behind_all rests (walk_left (parts_by table c.args.code.value left c.args.block) left w)) (sym c.in-Enters.is))
     (moves_statement few fs _ c.lay-in-Enters.new.stack.items rests _ (inside left c.in-Enters.entry.value) table
     refl refl c.in_ok-lay-in-Enters.ensures.lays stacked made
-    (λ rs s. c.enter_inside.ensures.gives few files rs hold s))
+    (λ rs s. c.enter_inside-in-Enters.ensures.gives few files rs hold s))

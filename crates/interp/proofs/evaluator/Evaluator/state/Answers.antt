@@ -4,7 +4,7 @@ use Rattle.code.specs.declared.node.ArgumentNode.{ArgumentNode}
 use Rattle.code.specs.declared.node.CallNode.{CallNode}
 use Rattle.code.specs.declared.node.Node.TheVariants as nodes
 use Rattle.grammar.specs.ExpressionTree.{ExpressionTree, arguments}
-use Rattle.world.specs.Plan.{next}
+use Rattle.world.specs.Plan.{give, next}
 use Rattle.interp.specs.Bounds.{bounds}
 use Rattle.interp.specs.Acting.{performed, way_view}
 use Rattle.interp.specs.Entering.{by_way}
@@ -16,11 +16,12 @@ use Rattle.interp.specs.Statements.{stated}
 use Rattle.interp.specs.declared.acting.Way.{Way}
 use Rattle.interp.specs.declared.flow.Flow.TheVariants as flows
 use Rattle.interp.specs.declared.frames.Frame.TheVariants as frames
-use Rattle.interp.proofs.Coming.{halted_enters, halted_stops, leads_left}
-use Rattle.expressions.proofs.Evaluating.{given_as, given_give, given_stop, given_then, leads_next, leads_other, leads_start}
+use Rattle.interp.proofs.Coming.{comes_as, halts_then}
+use Rattle.expressions.proofs.Evaluating.{given_as, given_give, given_then, leads_next, leads_start}
 use Rattle.interp.proofs.Reading.{arguments_reach, parts_at}
 use Rattle.interp.proofs.Spelling.{call_at, reads_at, stated_at}
-use Rattle.interp.proofs.Stack.{behind_top, leads_under, moves_as, moves_given, moves_none, moves_then, stacked_on, stacked_top}
+use Rattle.interp.proofs.Halting.{begun_as, begun_halt, begun_moved, begun_none, begun_stop}
+use Rattle.interp.proofs.Stack.{behind_top, leads_under, moves_as, moves_given, moves_then, stacked_on, stacked_top}
 use Rattle.interp.proofs.evaluator.Evaluator.state.Goals as goal
 
 pub perform-requires-clause-here : goal.perform-requires-clause-here
@@ -34,10 +35,10 @@ perform-requires-clause-here g c =
 
 pub returns-in_err-push-clause-gives : goal.returns-in_err-push-clause-gives
 returns-in_err-push-clause-gives g c = λ few files rests table hold stacked made.
-    moves_none c.from_residual.result c.push.new.self.items (leads_start hold) c.from_residual.ensures.1
+    begun_none c.from_residual.result c.push.new.self.items (leads_start hold) c.from_residual.ensures.1
 
-pub returns-in-Ok-Ends-clause-gives : goal.returns-in-Ok-Ends-clause-gives
-returns-in-Ok-Ends-clause-gives g c = λ few files rests table hold stacked made.
+pub returns-in_err-flow-clause-gives : goal.returns-in_err-flow-clause-gives
+returns-in_err-flow-clause-gives g c = λ few files rests table hold stacked made.
     let tree = call_at table c.args.code.now c.args.value c.index.result.now c.in-Call.call c.in-Call.line c.requires.here c.index.ensures c.in-Call.is in
     let into = folder (bounds few c.args.left) in
     let fs = c.args.stack.now.items in
@@ -48,13 +49,11 @@ returns-in-Ok-Ends-clause-gives g c = λ few files rests table hold stacked made
     let same = ap (done c.deref-call.result.now.name) c.deref.ensures.value
     ∙ ap (λ (x : CallNode). done x.name x.arguments.items) c.deref-call.ensures in
     let whole = behind_top rests End (next (done c.in-Call.call.value.name c.in-Call.call.value.arguments.items) (λ w. by_way into w)) ∙ ap (λ (t : ExpressionTree). behind_all rests (stated into t)) (sym tree) in
-    let p = given_as same (c.in-Ok-Ends.ensures.gives files (bounds few c.args.left) ts hold (reads_at refl made)).comes in
-    let is = ap (λ (w : Way). behind_all (rests ++ End ∷ []) (by_way into (way_view w))) (sym c.in-Ok-Ends.field-0-is) in
-    moves_as whole (moves_then (Ok c.in-Ok-Ends.flow) (leads_under (rests ++ End ∷ []) (leads_next {view = way_view} {others = λ w. by_way into w} p))
-    (moves_as is (moves_given gs (rests ++ End ∷ []) (Ok c.in-Ok-Ends.flow) (stacked_on gs (rests ++ End ∷ []) p.gives.written.names two) (given_give p.holds refl))))
+    let h = comes_as same (c.in_err-flow.ensures.gives files (bounds few c.args.left) ts hold (reads_at refl made)) in
+    begun_as whole (begun_halt _ _ c.from_residual-in_err-flow.result gs (rests ++ End ∷ []) two (halts_then files (bounds few c.args.left) _ (λ w. by_way into w) _ _ _ h.comes) c.from_residual-in_err-flow.ensures.1)
 
-pub returns-in-Ok-Enters-clause-gives : goal.returns-in-Ok-Enters-clause-gives
-returns-in-Ok-Enters-clause-gives g c = λ few files rests table hold stacked made.
+pub returns-in-Ends-clause-gives : goal.returns-in-Ends-clause-gives
+returns-in-Ends-clause-gives g c = λ few files rests table hold stacked made.
     let tree = call_at table c.args.code.now c.args.value c.index.result.now c.in-Call.call c.in-Call.line c.requires.here c.index.ensures c.in-Call.is in
     let into = folder (bounds few c.args.left) in
     let fs = c.args.stack.now.items in
@@ -65,14 +64,13 @@ returns-in-Ok-Enters-clause-gives g c = λ few files rests table hold stacked ma
     let same = ap (done c.deref-call.result.now.name) c.deref.ensures.value
     ∙ ap (λ (x : CallNode). done x.name x.arguments.items) c.deref-call.ensures in
     let whole = behind_top rests End (next (done c.in-Call.call.value.name c.in-Call.call.value.arguments.items) (λ w. by_way into w)) ∙ ap (λ (t : ExpressionTree). behind_all rests (stated into t)) (sym tree) in
-    let p = given_as same (c.in-Ok-Enters.ensures.gives files (bounds few c.args.left) ts hold (reads_at refl made)).comes in
-    let is = ap (λ (t : List ℕ). behind_all (rests ++ End ∷ []) (into t)) c.deref-in-Ok-Enters.ensures
-    ∙ ap (λ (w : Way). behind_all (rests ++ End ∷ []) (by_way into (way_view w))) (sym c.in-Ok-Enters.field-0-is) in
-    moves_as whole (moves_then c.enter.result (leads_under (rests ++ End ∷ []) (leads_next {view = way_view} {others = λ w. by_way into w} p))
-    (moves_as is (c.enter.ensures.gives few files (rests ++ End ∷ []) p.holds (stacked_on gs (rests ++ End ∷ []) p.gives.written.names two))))
+    let p = given_as same (c.in_ok-flow.ensures.gives files (bounds few c.args.left) ts hold (reads_at refl made)).comes in
+    let is = ap (λ (w : Way). behind_all (rests ++ End ∷ []) (by_way into (way_view w))) (sym c.in-Ends.is) in
+    begun_moved (moves_as whole (moves_then (Ok c.in-Ends.flow) (leads_under (rests ++ End ∷ []) (leads_next {view = way_view} {others = λ w. by_way into w} p))
+    (moves_as is (moves_given gs (rests ++ End ∷ []) (Ok c.in-Ends.flow) (stacked_on gs (rests ++ End ∷ []) p.gives.written.names two) (given_give p.holds refl)))))
 
-pub returns-in-Err-Stops-clause-gives : goal.returns-in-Err-Stops-clause-gives
-returns-in-Err-Stops-clause-gives g c = λ few files rests table hold stacked made.
+pub returns-in_err-enter-in-Enters-clause-gives : goal.returns-in_err-enter-in-Enters-clause-gives
+returns-in_err-enter-in-Enters-clause-gives g c = λ few files rests table hold stacked made.
     let tree = call_at table c.args.code.now c.args.value c.index.result.now c.in-Call.call c.in-Call.line c.requires.here c.index.ensures c.in-Call.is in
     let into = folder (bounds few c.args.left) in
     let fs = c.args.stack.now.items in
@@ -83,11 +81,14 @@ returns-in-Err-Stops-clause-gives g c = λ few files rests table hold stacked ma
     let same = ap (done c.deref-call.result.now.name) c.deref.ensures.value
     ∙ ap (λ (x : CallNode). done x.name x.arguments.items) c.deref-call.ensures in
     let whole = behind_top rests End (next (done c.in-Call.call.value.name c.in-Call.call.value.arguments.items) (λ w. by_way into w)) ∙ ap (λ (t : ExpressionTree). behind_all rests (stated into t)) (sym tree) in
-    let p = given_as same (halted_stops c.in-Err-Stops.field-0-is (c.in-Err-Stops.ensures.gives files (bounds few c.args.left) ts hold (reads_at refl made))) in
-    moves_as whole (moves_given gs (rests ++ End ∷ []) (Err c.in-Err-Stops.stop) two (given_stop p refl))
+    let p = given_as same (c.in_ok-flow.ensures.gives files (bounds few c.args.left) ts hold (reads_at refl made)).comes in
+    let is = ap (λ (t : List ℕ). behind_all (rests ++ End ∷ []) (into t)) c.deref-in-Enters.ensures
+    ∙ ap (λ (w : Way). behind_all (rests ++ End ∷ []) (by_way into (way_view w))) (sym c.in-Enters.is) in
+    begun_stop c.from_residual-in_err-enter-in-Enters.result (moves_as whole (moves_then (Err _) (leads_under (rests ++ End ∷ []) (leads_next {view = way_view} {others = λ w. by_way into w} p))
+    (moves_as is (c.in_err-enter-in-Enters.ensures.gives few files (rests ++ End ∷ []) p.holds (stacked_on gs (rests ++ End ∷ []) p.gives.written.names two))))) c.from_residual-in_err-enter-in-Enters.ensures.1
 
-pub returns-in-Err-Enters-clause-gives : goal.returns-in-Err-Enters-clause-gives
-returns-in-Err-Enters-clause-gives g c = λ few files rests table hold stacked made.
+pub returns-in_ok-enter-in-Enters-clause-gives : goal.returns-in_ok-enter-in-Enters-clause-gives
+returns-in_ok-enter-in-Enters-clause-gives g c = λ few files rests table hold stacked made.
     let tree = call_at table c.args.code.now c.args.value c.index.result.now c.in-Call.call c.in-Call.line c.requires.here c.index.ensures c.in-Call.is in
     let into = folder (bounds few c.args.left) in
     let fs = c.args.stack.now.items in
@@ -98,28 +99,22 @@ returns-in-Err-Enters-clause-gives g c = λ few files rests table hold stacked m
     let same = ap (done c.deref-call.result.now.name) c.deref.ensures.value
     ∙ ap (λ (x : CallNode). done x.name x.arguments.items) c.deref-call.ensures in
     let whole = behind_top rests End (next (done c.in-Call.call.value.name c.in-Call.call.value.arguments.items) (λ w. by_way into w)) ∙ ap (λ (t : ExpressionTree). behind_all rests (stated into t)) (sym tree) in
-    let l = leads_other same (halted_enters c.in-Err-Enters.field-0-is (c.in-Err-Enters.ensures.gives files (bounds few c.args.left) ts hold (reads_at refl made))) in
-    moves_as whole (moves_then c.enter_inside.result (leads_under (rests ++ End ∷ []) (leads_left (bounds few c.args.left) c.in-Err-Enters.entry.value {others = λ w. by_way into w} l))
-    (c.enter_inside.ensures.gives few files (rests ++ End ∷ []) l.holds (stacked_on gs (rests ++ End ∷ []) l.continues.written.names two)))
+    let p = given_as same (c.in_ok-flow.ensures.gives files (bounds few c.args.left) ts hold (reads_at refl made)).comes in
+    let is = ap (λ (t : List ℕ). behind_all (rests ++ End ∷ []) (into t)) c.deref-in-Enters.ensures
+    ∙ ap (λ (w : Way). behind_all (rests ++ End ∷ []) (by_way into (way_view w))) (sym c.in-Enters.is) in
+    begun_moved (moves_as whole (moves_then (Ok _) (leads_under (rests ++ End ∷ []) (leads_next {view = way_view} {others = λ w. by_way into w} p))
+    (moves_as is (c.in_ok-enter-in-Enters.ensures.gives few files (rests ++ End ∷ []) p.holds (stacked_on gs (rests ++ End ∷ []) p.gives.written.names two)))))
 
-pub returns-in-Ok-clause-gives : goal.returns-in-Ok-clause-gives
-returns-in-Ok-clause-gives g c = λ few files rests table hold stacked made.
+pub returns-in_err-alone-clause-gives : goal.returns-in_err-alone-clause-gives
+returns-in_err-alone-clause-gives g c = λ few files rests table hold stacked made.
     let ts = expressions_by table c.args.code.now in
     let whole = ap (behind_all rests) (stated_at (folder (bounds few c.args.left)) table c.args.code.now c.args.value c.index.result.now c.requires.here c.index.ensures c.in_default.not-Call) in
-    let e = (c.in-Ok.ensures.gives files (bounds few c.args.left) ts hold (reads_at refl made)).comes in
-    moves_as whole (moves_given c.args.stack.now.items rests (Ok flows.Next) stacked (given_then e (given_give e.holds refl)))
+    let h = c.in_err-alone.ensures.gives files (bounds few c.args.left) ts hold (reads_at refl made) in
+    begun_as whole (begun_halt _ _ c.from_residual-in_err-alone.result c.args.stack.now.items rests stacked (halts_then files (bounds few c.args.left) _ (λ _. give flows.Next) _ _ _ h.comes) c.from_residual-in_err-alone.ensures.1)
 
-pub returns-in-Err-Stops-alone-clause-gives : goal.returns-in-Err-Stops-alone-clause-gives
-returns-in-Err-Stops-alone-clause-gives g c = λ few files rests table hold stacked made.
+pub returns-in_ok-alone-clause-gives : goal.returns-in_ok-alone-clause-gives
+returns-in_ok-alone-clause-gives g c = λ few files rests table hold stacked made.
     let ts = expressions_by table c.args.code.now in
     let whole = ap (behind_all rests) (stated_at (folder (bounds few c.args.left)) table c.args.code.now c.args.value c.index.result.now c.requires.here c.index.ensures c.in_default.not-Call) in
-    let e = halted_stops c.in-Err-Stops-alone.field-0-is (c.in-Err-Stops-alone.ensures.gives files (bounds few c.args.left) ts hold (reads_at refl made)) in
-    moves_as whole (moves_given c.args.stack.now.items rests (Err c.in-Err-Stops-alone.stop) stacked (given_stop e refl))
-
-pub returns-in-Err-Enters-alone-clause-gives : goal.returns-in-Err-Enters-alone-clause-gives
-returns-in-Err-Enters-alone-clause-gives g c = λ few files rests table hold stacked made.
-    let ts = expressions_by table c.args.code.now in
-    let whole = ap (behind_all rests) (stated_at (folder (bounds few c.args.left)) table c.args.code.now c.args.value c.index.result.now c.requires.here c.index.ensures c.in_default.not-Call) in
-    let l = halted_enters c.in-Err-Enters-alone.field-0-is (c.in-Err-Enters-alone.ensures.gives files (bounds few c.args.left) ts hold (reads_at refl made)) in
-    moves_as whole (moves_then c.enter_inside-in-Err-Enters-alone.result (leads_under rests (leads_left (bounds few c.args.left) c.in-Err-Enters-alone.entry.value l))
-    (c.enter_inside-in-Err-Enters-alone.ensures.gives few files rests l.holds (stacked_on c.args.stack.now.items rests l.continues.written.names stacked)))
+    let e = (c.in_ok-alone.ensures.gives files (bounds few c.args.left) ts hold (reads_at refl made)).comes in
+    begun_moved (moves_as whole (moves_given c.args.stack.now.items rests (Ok flows.Next) stacked (given_then e (given_give e.holds refl))))
