@@ -1,5 +1,5 @@
 -- Values that are printed one after another.
-use Rattle.std.proofs.Common.{◌≡◌, ℕ, ◌+◌, ◌<◌, List, [], ◌∷◌, ◌++◌, map, drop, length, get_or, Result, Ok, Err, String, Global}
+use Rattle.std.proofs.Common.{◌≡◌, ℕ, ◌+◌, ◌<◌, List, [], ◌∷◌, ◌++◌, map, drop, length, get_or, Result, Ok, String, Global}
 use Rattle.std.proofs.Common.{string_bytes, sym, ap, ◌∙◌}
 use Rattle.std.proofs.lemmas.List.{at_drop_more, map-append}
 use Rattle.data.specs.View.{data_of, items_of}
@@ -17,16 +17,6 @@ printed_more ts new t vs i v whole h is p n now =
     ap (λ us. printed_behind (map string_bytes us) (items_of (drop (i + 1) vs))) n
     ∙ ap (λ us. printed_behind us (items_of (drop (i + 1) vs))) (map-append string_bytes ts (t ∷ []))
     ∙ ap (λ r. and_then r (λ x. printed_behind (map string_bytes ts ++ x ∷ []) (items_of (drop (i + 1) vs)))) p
-    ∙ ap (λ x. and_then (printed (data_of x)) (λ y. printed_behind (map string_bytes ts ++ y ∷ []) (items_of (drop (i + 1) vs)))) is
-    ∙ sym (at_drop_more (λ us. printed_behind (map string_bytes ts) (items_of us)) vs i v h)
-    ∙ now
-
--- one that is not printed
-pub printed_none : (ts : List (String Global)) (vs : List Value) (i : ℕ) (v : Value) (refusal : Refusal) (whole : Result (List (List ℕ)) Refusal)
-    → i < length vs → v ≡ get_or vs i v → Err refusal ≡ printed (data_of v)
-    → printed_behind (map string_bytes ts) (items_of (drop i vs)) ≡ whole → Err refusal ≡ whole
-printed_none ts vs i v refusal whole h is p now =
-    ap (λ r. and_then r (λ x. printed_behind (map string_bytes ts ++ x ∷ []) (items_of (drop (i + 1) vs)))) p
     ∙ ap (λ x. and_then (printed (data_of x)) (λ y. printed_behind (map string_bytes ts ++ y ∷ []) (items_of (drop (i + 1) vs)))) is
     ∙ sym (at_drop_more (λ us. printed_behind (map string_bytes ts) (items_of us)) vs i v h)
     ∙ now

@@ -127,10 +127,6 @@ begins_chosen : (b : Bool) (names : List (List ℕ)) (nodes : List Node) (x : No
 begins_chosen true names nodes x = record { more = tree_of names (trees names nodes) x ∷ []; is = trees_push names nodes x }
 begins_chosen false names nodes x = record { more = []; is = sym (append-nil (trees names nodes)) }
 
-pub begins_node : (b : Bool) (names : List (List ℕ)) (old new : List Node) (x : Node) → new ≡ (if b then old ++ x ∷ [] else old)
-    → IsFront (trees names old) (trees names new)
-begins_node b names old new x e = let h = begins_chosen b names old x in record { more = h.more; is = ap (trees names) e ∙ h.is }
-
 pub at_end : {A : Type 0} (xs : List A) (t d : A) → get_or (xs ++ t ∷ []) (length xs) d ≡ t
 at_end [] t d = refl
 at_end (x ∷ xs) t d = at_end xs t d

@@ -1,10 +1,9 @@
 -- What a dictionary keeps when a value is put into it.
-use Rattle.std.proofs.Common.{◌≡◌, ℕ, zero, suc, ◌+◌, ◌<◌, ◌≤◌, Bool, true, false, List, [], ◌∷◌, length, get_or, set, Some, None, cond}
+use Rattle.std.proofs.Common.{◌≡◌, ℕ, zero, suc, ◌+◌, ◌<◌, ◌≤◌, Bool, true, false, List, [], ◌∷◌, length, get_or, set, Some, None}
 use Rattle.std.proofs.Common.{bytes_eq, refl, sym, ap, ◌∙◌, subst, arith, Option}
-use Rattle.std.specs.Prelude.{max, nat_le, nat_lt, option_map, option_and_then, IfSome, slice_get, not, ◌||◌, if◌then◌else◌}
+use Rattle.std.specs.Prelude.{max, nat_le, nat_lt, option_map, option_and_then, IfSome, slice_get, if◌then◌else◌}
 use Rattle.std.proofs.lemmas.Bool.{leb-true, leb-false, ltb-true}
 use Rattle.data.specs.Builder.{replaced_depth}
-use Rattle.std.specs.List.{position_or_len, list_any}
 use Rattle.std.specs.Cmp.Lexicographic.{bytes_decides}
 use Rattle.data.specs.Data.{Data, count, Entries, no_entries, entry, entry_count, entry_values, keys_in, find, put, merged, AreDistinct}
 use Rattle.data.specs.Limits.{is_within, entries_fit}
@@ -104,14 +103,6 @@ pub put-distinct : (k : List ℕ) (d : Data) (es : Entries) → AreDistinct es �
 put-distinct k d no_entries h = (refl, tt)
 put-distinct k d (entry l e es) h = put-distinct_at (bytes_eq k l) k l d e es refl h.0 h.1 (put-distinct k d es h.1)
 
-not_any_at : (b c : Bool) (n m : ℕ) → suc m ≤ cond (not b) (1 + n) 0 → (m ≤ n → c ≡ false) → (b || c) ≡ false
-not_any_at true c n m h later = absurd (omega arith)
-not_any_at false c n m h later = later (omega arith)
-
-pub not_any : {X : Type 0} (p : X → Bool) (xs : List X) → length xs ≤ position_or_len p xs → list_any p xs ≡ false
-not_any p [] h = refl
-not_any p (x ∷ xs) h = not_any_at (p x) (list_any p xs) (position_or_len p xs) (length xs) h (not_any p xs)
-
 pub weight-le-entries_weight : (ks : List (List ℕ)) (vs : List Value) (i : ℕ) (d : Value) → length ks ≡ length vs → i < length vs → weight (data_of (get_or vs i d)) ≤ entries_weight (entries_of ks vs)
 weight-le-entries_weight ks vs i d fit h = omega (arith, entries_weight-entries_of ks vs fit, weight-le-items_weight vs i d h)
 
@@ -160,10 +151,6 @@ no_entries_left (entry k d es) (suc i) h = no_entries_left es i (omega arith)
 pub count-entry_values : (es : Entries) → count (entry_values es) ≡ entry_count es
 count-entry_values no_entries = refl
 count-entry_values (entry k d es) = ap suc (count-entry_values es)
-
-merged-distinct : (es fs : Entries) → AreDistinct es → AreDistinct (merged es fs)
-merged-distinct es no_entries h = h
-merged-distinct es (entry k d fs) h = merged-distinct (put k d es) fs (put-distinct k d es h)
 
 -- ---- a dictionary put into an empty one
 

@@ -122,10 +122,6 @@ keys_in-entries_of [] (v ∷ vs) fit = absurd (omega arith)
 keys_in-entries_of (k ∷ ks) [] fit = absurd (omega arith)
 keys_in-entries_of (k ∷ ks) (v ∷ vs) fit = ap (λ x. k ∷ x) (keys_in-entries_of ks vs (omega arith))
 
-pub length-keys_in : (es : Entries) → length (keys_in es) ≡ entry_count es
-length-keys_in no_entries = refl
-length-keys_in (entry k d es) = ap suc (length-keys_in es)
-
 -- the same keys beside the same values are the same entries
 pub entries_from : (es fs : Entries) → keys_in es ≡ keys_in fs → entry_values es ≡ entry_values fs → es ≡ fs
 entries_from no_entries no_entries e f = refl

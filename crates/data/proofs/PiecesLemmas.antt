@@ -1,16 +1,15 @@
 -- The first piece of a text.
 use Rattle.std.proofs.Common.{◌≡◌, ℕ, zero, suc, ◌+◌, ◌-◌, ◌<◌, ◌≤◌, Bool, true, false, not, List, [], ◌∷◌, ◌++◌, length, take, drop}
 use Rattle.std.proofs.Common.{nat_eq, refl, sym, ap, ◌∙◌, subst, arith, rules, tests, map, Bor}
-use Rattle.std.specs.Prelude.{filter, ◌||◌, ◌&&◌, ◌==◌, codes, nat_le, Ok, Err, if◌then◌else◌}
+use Rattle.std.specs.Prelude.{filter, ◌||◌, ◌==◌, nat_le, Ok, Err, if◌then◌else◌}
 use Rattle.std.specs.List.{starts_with, slice_split, onto_first, position_or_len, prefix_len}
 use Rattle.std.specs.Str.Pattern.{LacksTextAt}
 use Rattle.std.proofs.lemmas.List.{length-append, append_assoc, map_push}
-use Rattle.std.proofs.lemmas.Bool.{false≢true, eqb-true, false_from_ne_true, cond-true, cond-false}
-use Rattle.std.proofs.lemmas.Bool.Decides.{nat_tests}
+use Rattle.std.proofs.lemmas.Bool.{eqb-true, false_from_ne_true, cond-true, cond-false}
 use Rattle.data.specs.declared.refusal.Refusal.TheVariants as refusal
 use Rattle.data.specs.texts.Strip.{is_blank}
 use Rattle.data.specs.texts.Pieces.{parts, parts_after, words, lines, lines_after, is_filled, is_line_end, within_items}
-use Rattle.data.specs.texts.Cut.{lines_behind, end_length}
+use Rattle.data.specs.texts.Cut.{lines_behind}
 use Rattle.data.proofs.SearchLemmas.{Decides-starts_with}
 
 -- a separator's other bytes are passed over
@@ -143,32 +142,6 @@ pub lines_first : (b : ℕ) (bs : List ℕ)
 lines_first b [] = line_case (b == 10) (b == 13) b [] 0 refl refl refl
 lines_first b (c ∷ cs) = line_case (b == 10) (b == 13) b (c ∷ cs) (position_or_len is_line_end (c ∷ cs)) refl refl
     (ap (onto_first b) (lines_first c cs))
-
-same_tests : (a b : ℕ) → nat_eq a b ≡ (b == a)
-same_tests a b = grind (arith, nat_tests)
-
-last_byte : (long : Bool) (b : ℕ) → [] ≡ lines (drop (if long then 2 else 1) (b ∷ []))
-last_byte true b = refl
-last_byte false b = refl
-
-end_case : (long returned newline : Bool) (b c : ℕ) (cs : List ℕ) → c == 10 ≡ newline → long ≡ (returned && (newline && true))
-    → lines_after returned (c ∷ cs) ≡ lines (drop (if long then 2 else 1) (b ∷ c ∷ cs))
-end_case true true true b c cs is both = cond-true (c == 10) (lines cs) (if c == 13 then [] ∷ lines_after true cs else onto_first c
-    (lines cs)) is
-end_case false true false b c cs is both =
-    cond-false (c == 10) (lines cs) (if c == 13 then [] ∷ lines_after true cs else onto_first c (lines cs)) is
-    ∙ sym (cond-false (c == 10) ([] ∷ lines cs) (if c == 13 then [] ∷ lines_after true cs else onto_first c (lines cs)) is)
-end_case false false newline b c cs is both = refl
-end_case true false newline b c cs is both = absurd (false≢true (sym both))
-end_case false true true b c cs is both = absurd (false≢true both)
-end_case true true false b c cs is both = absurd (false≢true (sym both))
-
--- what stands behind the end of a line
-pub behind_end : (b : ℕ) (bs : List ℕ) → lines_behind (b ∷ bs) ≡ lines (drop (end_length (b ∷ bs)) (b ∷ bs))
-behind_end b [] = last_byte (starts_with nat_eq (b ∷ []) (codes "\r\n")) b
-behind_end b (c ∷ cs) =
-    end_case (starts_with nat_eq (b ∷ c ∷ cs) (codes "\r\n")) (b == 13) (c == 10) b c cs refl
-    (λ k. same_tests 13 b k && (same_tests 10 c k && true))
 
 -- a list has no room for another piece
 pub too_many : (all found more : List (List ℕ)) (piece : List ℕ) → all ≡ found ++ (piece ∷ more) → length found ≡ 65536

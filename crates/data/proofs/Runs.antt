@@ -5,7 +5,7 @@ use Rattle.std.specs.Prelude.{◌||◌, if◌then◌else◌}
 use Rattle.std.specs.List.{prefix_len, AllPass}
 use Rattle.std.proofs.lemmas.List.{get_or-take, length-take}
 use Rattle.std.proofs.lemmas.List.Sums.{prefix_len_passes}
-use Rattle.std.specs.Char.{is_ascii_digit, is_ascii_alphabetic, is_ascii_alphanumeric, is_ascii_uppercase, is_ascii_lowercase}
+use Rattle.std.specs.Char.{is_ascii_digit, is_ascii_alphabetic}
 use Rattle.data.specs.texts.Version.{Run, number, word, with_digit, with_letter, parts, present, runs}
 
 one_more : {X : Type 0} (b : Bool) (n : ℕ) (x : X) (xs : List X) → cond b (1 + n) 0 ≡ cond b (suc n) 0
@@ -84,27 +84,11 @@ pub word_run : (bs : List ℕ) → 0 < prefix_len is_ascii_alphabetic bs → run
 word_run [] h = absurd (omega arith)
 word_run (c ∷ cs) h = ap present (word_at (is_ascii_digit c) (is_ascii_alphabetic c) c (prefix_len is_ascii_alphabetic cs) cs (letters_apart c) refl (word_front c cs) h)
 
-skipped_at : (d u l : Bool) (c : ℕ) (cs : List ℕ) → ((d || u) || l) ≡ false
-    → parts (c ∷ cs) ≡ (if d then with_digit c (parts cs) else if (u || l) then with_letter c (parts cs) else None ∷ parts cs)
-    → runs (c ∷ cs) ≡ runs cs
-skipped_at false false false c cs h e = ap present e
-skipped_at true u l c cs h e = absurd cc
-skipped_at false true l c cs h e = absurd cc
-skipped_at false false true c cs h e = absurd cc
-
--- what separates runs makes none
-pub runs_skipped : (c : ℕ) (cs : List ℕ) → is_ascii_alphanumeric c ≡ false → runs (c ∷ cs) ≡ runs cs
-runs_skipped c cs h = skipped_at (is_ascii_digit c) (is_ascii_uppercase c) (is_ascii_lowercase c) c cs h refl
-
 begins_at : (d u l : Bool) (m n : ℕ) → ((d || u) || l) ≡ true → cond d (1 + m) 0 ≡ 0 → cond (u || l) (1 + n) 0 ≡ 0 → ⊥
 begins_at true u l m n h x y = omega arith
 begins_at false true l m n h x y = omega arith
 begins_at false false true m n h x y = omega arith
 begins_at false false false m n h x y = absurd cc
-
--- a run begins at a digit or a letter
-pub run_begins : (c : ℕ) (cs : List ℕ) → is_ascii_alphanumeric c ≡ true → prefix_len is_ascii_digit (c ∷ cs) ≡ 0 → prefix_len is_ascii_alphabetic (c ∷ cs) ≡ 0 → ⊥
-run_begins c cs = begins_at (is_ascii_digit c) (is_ascii_uppercase c) (is_ascii_lowercase c) (prefix_len is_ascii_digit cs) (prefix_len is_ascii_alphabetic cs)
 
 -- each element of the longest front that passes does
 pub front_passes : (p : ℕ → Bool) (xs ys : List ℕ) (n : ℕ) → n ≡ prefix_len p xs → ys ≡ take n xs → AllPass p ys

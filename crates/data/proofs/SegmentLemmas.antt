@@ -9,7 +9,7 @@ use Rattle.std.specs.Str.Parse.{IsNumeral, digits_value, without_leading_plus}
 use Rattle.std.proofs.lemmas.Str.Parse.{without_leading_plus_none}
 use Rattle.std.proofs.lemmas.Bool.{eq-eqb, eqb-true, cases_lt, cond-true, cond-false, and_parts}
 use Rattle.std.proofs.lemmas.Bool.Decides.{nat_tests}
-use Rattle.std.proofs.lemmas.List.{get_or-drop, take_all, drop_all, drop_more, append-nil, append_assoc, take-append-drop}
+use Rattle.std.proofs.lemmas.List.{take_all, drop_all, drop_more, append-nil, append_assoc, take-append-drop}
 use Rattle.std.proofs.lemmas.List.Sums.{prefix_len_passes}
 use Rattle.data.specs.declared.texts.placed.Places.{Places}
 use Rattle.data.specs.declared.texts.placed.Places.TheVariants as places
@@ -132,18 +132,6 @@ place_fits kind (b ∷ bs) count is some =
       omega arith,
       λ k within. place_bytes b bs n (eqb-true b 64 parts.0) end (name_is_ascii kind bs) k (omega arith),
     )
-
--- a text may be cut in front of a place, and behind each byte of it
-pub boundary_before_place : (kind : Places) (t : List ℕ) (at : ℕ) → at ≤ length t → (at < length t → 0 < place_length kind (drop at t))
-    → IsCharBoundary t at
-boundary_before_place kind t at within stands = (
-  within,
-  λ below high. absurd (
-      let fits = place_fits kind (drop at t) (place_length kind (drop at t)) refl (stands below) in
-      let low = fits.1 0 (omega arith) in
-      let same : at + 0 ≡ at = omega arith in
-      omega (arith, get_or-drop at t 0 0, ap (λ i. get_or t i 0) same)),
-)
 
 pub boundary_in_place : (kind : Places) (rest : List ℕ) (count n : ℕ) → IsUtf8 rest → count ≡ place_length kind rest → 0 < count
     → n ≤ count + 2 → IsCharBoundary rest n

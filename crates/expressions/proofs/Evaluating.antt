@@ -4,8 +4,8 @@ use Rattle.std.proofs.Common.{drop_of_length-le, Result, Ok, Err, IsErrAnd, refl
 use Rattle.ports.specs.Outputs.{OutputState}
 use Rattle.ports.specs.Tree.{TreeState}
 use Rattle.basics.specs.declared.faults.refusal.Refusal.{Refusal}
-use Rattle.world.specs.Answering.{Carries, Refuses}
-use Rattle.world.specs.Deed.{Files, Deed, read, change}
+use Rattle.world.specs.Answering.{Refuses}
+use Rattle.world.specs.Deed.{Files, read, change}
 use Rattle.world.specs.Store.{changing}
 use Rattle.world.specs.Gives.{Gives, Holds, is_ended}
 use Rattle.world.specs.Plan.{Plan, deed, ruled, next, carry, give, refuse}
@@ -15,7 +15,6 @@ use Rattle.world.specs.World.{World, Facts, LeavesPaths, with_facts, with_line}
 use Rattle.world.specs.declared.stop.Stop.{Stop}
 use Rattle.world.specs.declared.stop.Stop.TheVariants as stops
 use Rattle.world.proofs.Follow.{begun, done, further, gives_later, stopped_later, wanted_later, ended_later, refused_later, gives_rule}
-use Rattle.world.proofs.Holding.{holds_later}
 use Rattle.world.proofs.Marks.{none_added}
 use Rattle.expressions.specs.Contexts.{Stand, Given, Leads, seen_of}
 
@@ -91,12 +90,6 @@ given_rule {view = view} {files = files} {p = p} {s0 = s0} {w = w} {names = name
       (gives_rule view (carry files p s0.world) result w (seen_of s0) (record { out = out; ticks = n; names = names }) g.gives);
   holds = g.holds;
 }
-
--- a deed that a caller carries out
-pub given_deed : {A B : Type 0} {view : B → A} {files : Files} {d : Deed A} {w w1 : World} {names names1 : List (List ℕ)} {tree tree1 : TreeState} {out out1 : OutputState} {lent lent1 : ℕ × ℕ × ℕ} {n : ℕ} {result : Result B Stop}
-    → Holds tree files → Carries view d (record { world = w; names = names; tree = tree; out = out; lent = lent }) result (record { world = w1; names = names1; tree = tree1; out = out1; lent = lent1 })
-    → Given view files (deed d) (record { world = w; names = names; tree = tree; out = out; ticks = n }) result (record { world = w1; names = names1; tree = tree1; out = out1; ticks = n })
-given_deed {files = files} {n = n} h c = record { gives = c.gives files n h; holds = holds_later c.stays h }
 
 -- the facts change
 pub given_change : {files : Files} {f : Facts → Facts} {leaves : LeavesPaths f} {w w1 : World} {names names1 : List (List ℕ)} {tree : TreeState} {out : OutputState} {n : ℕ}

@@ -1,5 +1,5 @@
 -- What the functions that read expressions answer, case by case.
-use Rattle.std.proofs.Common.{◌⊎◌, ◌&&◌, ◌||◌, subst, inl, inr, take, drop, get_or, Bool, Option, Some, None, ◌≡◌, ℕ, zero, suc, ◌+◌, ◌-◌}
+use Rattle.std.proofs.Common.{◌⊎◌, ◌&&◌, ◌||◌, subst, inl, inr, take, drop, get_or, Bool, Option, Some, None, ◌≡◌, ℕ, zero, suc, ◌-◌}
 use Rattle.std.proofs.Common.{◌≤◌, ◌<◌, true, false, List, [], ◌∷◌, length, Result, Ok, Err, refl, sym, ap, ◌∙◌, arith, sub-one}
 use Rattle.lexer.specs.declared.token.Kind.{Kind}
 use Rattle.lexer.specs.declared.token.Token.{Token}
@@ -9,7 +9,7 @@ use Rattle.grammar.specs.declared.stop.Stop.TheVariants.{Unexpected, TooDeep}
 use Rattle.grammar.specs.declared.stop.ReadError.{ReadError}
 use Rattle.grammar.specs.declared.stop.ReadError.TheVariants as errors
 use Rattle.lexer.specs.Kinds.{is}
-use Rattle.lexer.specs.Lexeme.{Lexeme, lexeme_of, lexemes}
+use Rattle.lexer.specs.Lexeme.{Lexeme, lexemes}
 use Rattle.grammar.specs.ExpressionTree.{ArgumentTree, ChainTree, DictionaryTree, EntryTree, ListTree, entries, expressions, ExpressionTree}
 use Rattle.grammar.specs.ExpressionTree.{FunctionTree, IndexTree, LinkTree, MethodTree, OperandTree, PostfixTree, PrefixTree, TernaryTree}
 use Rattle.grammar.specs.ExpressionTree.{arguments, links, operands}
@@ -59,21 +59,6 @@ module _ {B : Type 0} (f : Kind → Option B) where
   unfolding taken
   taken_found [] d x le e = absurd (omega arith)
   taken_found (t ∷ ts) d x le e = rw e (ap (λ (us : List Token). (Some x, lexemes us)) (sym (rest_is t ts)))
-
-  pub as_end : (ts : List Token) → length ts < 1 → token_as_at f (lexemes ts) ≡ Err (Unexpected (length ts))
-  unfolding token_as_at
-  as_end [] lt = refl
-  as_end (t ∷ ts) lt = absurd (omega arith)
-
-  pub as_missing : (ts : List Token) (d : Token) → 1 ≤ length ts → f (get_or ts 0 d).kind ≡ None → token_as_at f (lexemes ts) ≡ Err (Unexpected (length ts))
-  unfolding token_as_at
-  as_missing [] d le e = absurd (omega arith)
-  as_missing (t ∷ ts) d le e = rw e (ap (λ (n : ℕ). Err (Unexpected n)) (let q : length (lexemes ts) + 1 ≡ length (t ∷ ts) = omega (arith, length_lexemes ts) in q))
-
-  pub as_found : (ts : List Token) (d : Token) (x : B) → 1 ≤ length ts → f (get_or ts 0 d).kind ≡ Some x → token_as_at f (lexemes ts) ≡ Ok ((x, lexeme_of (get_or ts 0 d)), lexemes (take (length ts - 1) (drop 1 ts)))
-  unfolding token_as_at
-  as_found [] d x le e = absurd (omega arith)
-  as_found (t ∷ ts) d x le e = rw e (ap (λ (us : List Token). Ok ((x, lexeme_of t), lexemes us)) (rest_is t ts))
 
   -- what was taken
   pub taken_some : (x : B) (ts rest : List Lexeme) → (Some x, rest) ≡ taken f ts → (t : Lexeme) × (token_as_at f ts ≡ Ok ((x, t), rest)) × (head_is (stands_for f) ts ≡ true)

@@ -22,7 +22,7 @@ use Rattle.grammar.proofs.Atoms.{line-name, of_kind, starts-either, starts-weake
 use Rattle.grammar.proofs.Atoms.{AfterArgument}
 use Rattle.grammar.proofs.Binding.{After, AfterExpression, after_kind, binding}
 use Rattle.grammar.proofs.Chains.{line-map, line-then-many}
-use Rattle.grammar.proofs.TernaryLines.{line-before, single_ternary}
+use Rattle.grammar.proofs.TernaryLines.{line-before}
 use Rattle.grammar.proofs.Laws.{give_at}
 use Rattle.grammar.proofs.Line.{Line, Any, line-choice, line-give, line-stops, line-then, line-token}
 use Rattle.grammar.proofs.Numbers.{is-true}
@@ -97,9 +97,6 @@ module _ (u u' : Inner) (v v' : Option (Bool → Reader ExpressionTree)) (h : Is
 
   line-in-parentheses : Line (in_parentheses u b) (in_parentheses u' b) (in_parentheses_at v b) (in_parentheses_at v' b) Any 1
   line-in-parentheses = line-opened Kinds.OpenParenthesis (λ e. items e b) (λ e. items_at e b) Any line-items u u' v v' h
-
-  abbrev After0 : List Lexeme → Type 0
-  After0 ts = After 0 ts
 
   not_call : (ts : List Lexeme) → After 0 ts → begins Kinds.OpenParenthesis ts ≡ false
   not_call ts st = begins-head Kinds.OpenParenthesis ts ∙ head_ends (of_kind Kinds.OpenParenthesis) 0 call_ends ts st
@@ -228,8 +225,3 @@ line-expr n = inside (unary n) (unary (suc n)) (unary_at n) (unary_at (suc n)) (
 pub starts-expr : (n : ℕ) → Starts (expr n) opens_expr
 unfolding expr
 starts-expr n = starts-inside (unary n) (unary (suc n)) (unary_at n) (unary_at (suc n)) (is-unary n) true
-
--- a name alone is an expression
-pub name-is-expr : (n : ℕ) (t : Lexeme) (us : List Lexeme) → t.kind ≡ Kinds.Name → (expr n).spells (NameTree t.text t.line) (t ∷ us) us
-unfolding expr
-name-is-expr n t us k = single_ternary (unary n) true (NameTree t.text t.line) (t ∷ us) us ((is-unary n true).single t us k)

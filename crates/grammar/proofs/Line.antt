@@ -108,6 +108,3 @@ pub begun_token : {B : Type 0} (k : Kind) (G : Lexeme → Form B) (ts more : Lis
 begun_token k G ts more (inl (inl same)) = inl (sym same)
 begun_token k G ts more (inl (inr (t, e, l))) = inr (rw e (eq-is t.kind k l))
 begun_token k G ts more (inr (t, m, h, f)) = inr (rw h.0 (eq-is t.kind k h.1))
-
-abbrev pub StopsBefore : Kind → (List Lexeme → Type 0) → Type 0
-StopsBefore k Stops = (ts : List Lexeme) → begins k ts ≡ true → Stops ts

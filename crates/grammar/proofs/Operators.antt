@@ -15,7 +15,7 @@ use Rattle.grammar.proofs.Chains.{line-map, line-then-many}
 use Rattle.grammar.proofs.Laws.{bind_at, give_at}
 use Rattle.grammar.proofs.Line.{Line, line-stops, line-then}
 use Rattle.grammar.proofs.Starts.{Starts, starts-bind}
-use Rattle.grammar.proofs.Steps.{line-as, line-here, starts-as, starts-here}
+use Rattle.grammar.proofs.Steps.{line-as, line-here, starts-as}
 
 -- Operators of one rank: they bind so tightly, and nothing else does.
 pub record IsRank (f : Kind → Option Operator) (rank : ℕ) : Type 0 where
@@ -107,6 +107,3 @@ module _ (f : Kind → Option Operator) (rank below : ℕ) (is_rank : IsRank f r
       (λ ts h. let a = head_binds (stands_for f) below (λ k e. omega (arith, is_rank.binds k e)) ts h in (a, a))
       (λ ts st. (head_ends (stands_for f) rank is_rank.ends ts st, after_less rank below (omega arith) ts st, after_less rank below (omega arith) ts st))
       (chain_tree line)))
-
-  pub starts-chain : (p : Kind → Bool) → Starts F p → Starts (chain f F) p
-  starts-chain p s = starts-here _ p (λ line. starts-bind F _ p s)

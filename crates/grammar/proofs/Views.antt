@@ -15,10 +15,9 @@ use Rattle.grammar.specs.declared.tree.Entry.{Entry}
 use Rattle.grammar.specs.declared.tree.Link.{Link}
 use Rattle.grammar.specs.declared.tree.Link.TheVariants as Links
 use Rattle.grammar.specs.declared.tree.Prefix.{Prefix}
-use Rattle.grammar.specs.declared.tree.Literal.{Literal}
 use Rattle.grammar.specs.declared.tree.Operator.{Operator}
 use Rattle.grammar.specs.ExpressionTree.{ArgumentTree, ChainTree, DictionaryTree, ListTree, entries, entry_of, expressions, EntryTree}
-use Rattle.grammar.specs.ExpressionTree.{ExpressionTree, FunctionTree, IndexTree, LinkTree, LiteralTree, MethodTree, OperandTree}
+use Rattle.grammar.specs.ExpressionTree.{ExpressionTree, FunctionTree, IndexTree, LinkTree, MethodTree, OperandTree}
 use Rattle.grammar.specs.ExpressionTree.{PostfixTree, PrefixTree, TernaryTree, arguments, argument_of, argument_step, entry_step}
 use Rattle.grammar.specs.ExpressionTree.{expression_of, expression_step, link_of, link_step, links, operand_of, operand_step, operands}
 
@@ -33,9 +32,6 @@ entry_of-made k v = fold-roll-Entry ExpressionTree LinkTree ArgumentTree EntryTr
 
 pub entries_pushed : (es : List Entry) (k v : Expression) (key : ExpressionTree) → key ≡ expression_of k → map entry_of (es ++ Views.roll-Entry record { key = k; value = v } ∷ []) ≡ map entry_of es ++ (key, expression_of v) ∷ []
 entries_pushed es k v key same = rw same (map_push entry_of es _ ∙ ap (λ (t : EntryTree). map entry_of es ++ t ∷ []) (entry_of-made k v))
-
-pub expression_of-Literal : (l : Literal) (text : Bor (List ℕ)) (line : ℕ) → expression_of (Variants.Literal l text line) ≡ LiteralTree l text.now line
-expression_of-Literal l text line = ap expression_of (sym (Variants.rolls-Literal l text line)) ∙ fold-roll-Expression ExpressionTree LinkTree ArgumentTree EntryTree OperandTree expression_step link_step argument_step entry_step operand_step (Open.Literal l text line)
 
 pub some_kept : (o : Option (Bor (List ℕ))) → is_some (option_map (λ k. k.now) o) ≡ is_some o
 some_kept None = refl

@@ -1,5 +1,5 @@
 -- Calls inside of an expression one after another, against their plans.
-use Rattle.std.proofs.Common.{◌≡◌, ℕ, zero, suc, ◌+◌, List, [], ◌∷◌, ◌++◌, add-one, string_bytes, Result, Ok, Err, IsErrAnd, Box, Global}
+use Rattle.std.proofs.Common.{◌≡◌, ℕ, zero, suc, ◌+◌, List, [], ◌∷◌, ◌++◌, add-one, string_bytes, Result, Ok, Err, IsErrAnd}
 use Rattle.std.proofs.Common.{refl, sym, ap, subst, ◌∙◌}
 use Rattle.basics.specs.Faults.{FaultData}
 use Rattle.basics.specs.declared.faults.refusal.Refusal.{Refusal}
@@ -96,16 +96,6 @@ given_halt : {A B C : Type 0} {view : B → A} (view' : C → A) {files : Files}
 given_halt view' (stops.Refused fault) g = record { gives = g.gives; holds = g.holds }
 given_halt view' stops.Device g = record { gives = g.gives; holds = g.holds }
 given_halt view' stops.Memory g = record { gives = g.gives; holds = g.holds }
-
--- the call stopped
-pub halted_stops : {A B : Type 0} {view : B → A} {files : Files} {left : Bounds} {p : Plan A} {s0 s1 : Stand} {halt : Halt} {stop : Stop} → halt ≡ halts.Stops stop
-    → Comes view files left p s0 (Err halt) s1 → Given {B = A} (λ a. a) files p s0 (Err stop) s1
-halted_stops {files = files} {left = left} {p = p} {s0 = s0} {s1 = s1} e h = subst (λ d. HaltsTo files left p s0 d s1) e h.comes
-
--- it was left for a folder
-pub halted_enters : {A B : Type 0} {view : B → A} {files : Files} {left : Bounds} {p : Plan A} {s0 s1 : Stand} {halt : Halt} {entry : Box Inside Global} → halt ≡ halts.Enters entry
-    → Comes view files left p s0 (Err halt) s1 → Leads files p s0 (inside left entry.value) s1
-halted_enters {files = files} {left = left} {p = p} {s0 = s0} {s1 = s1} e h = subst (λ d. HaltsTo files left p s0 d s1) e h.comes
 
 pub halts_then : {A B : Type 0} (files : Files) (left : Bounds) (p : Plan A) (others : A → Plan B) (s0 s1 : Stand) (halt : Halt)
     → HaltsTo files left p s0 halt s1 → HaltsTo files left (next p others) s0 halt s1

@@ -64,11 +64,6 @@ done_enters {files = files} {left = left} {plan = plan} {s0 = s0} {s1 = s1} is d
 pub deep_as : {node other : StatementNode} → node ≡ other → IsDeep other → IsDeep node
 deep_as e d = subst (λ x. IsDeep x) (sym e) d
 
-pub deep_always : {node other : StatementNode} (result : Result (Option Flow) Halt) → node ≡ other → IsDeep other → DeepIfNone node result
-deep_always (Ok None) e d = deep_as e d
-deep_always (Ok (Some flow)) e d = tt
-deep_always (Err halt) e d = tt
-
 pub deep_none : (node : StatementNode) {o : Option Flow} → o ≡ None → DeepIfNone node (Ok o) → IsDeep node
 deep_none node is d = subst (λ (x : Option Flow). DeepIfNone node (Ok x)) is d
 

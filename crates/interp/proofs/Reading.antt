@@ -1,5 +1,5 @@
 -- The trees of a source's nodes.
-use Rattle.std.proofs.Common.{◌≡◌, ℕ, zero, suc, ◌+◌, ◌<◌, ◌≤◌, max, Bool, List, [], ◌∷◌, length, length-append, get_or, IsTrue, sym, ap}
+use Rattle.std.proofs.Common.{◌≡◌, ℕ, suc, ◌+◌, ◌<◌, ◌≤◌, max, Bool, List, [], ◌∷◌, length, length-append, get_or, IsTrue, sym, ap}
 use Rattle.std.proofs.Common.{subst, ◌∙◌, arith}
 use Rattle.std.specs.Prelude.{nat_lt, ◌&&◌}
 use Rattle.std.specs.List.{list_all}
@@ -91,15 +91,6 @@ three_reach n i j k h =
     let b : j < n = less j n q.0 in
     let d : k < n = less k n q.1 in
     omega arith
-
--- one part reaches no further than all
-pub at_above : {X : Type 0} (f : X → ℕ) (xs : List X) (i : ℕ) (x : X) → i < length xs → f (get_or xs i x) ≤ above f xs
-at_above f [] i x l = absurd (omega arith)
-at_above f (y ∷ ys) zero x l = omega arith
-at_above f (y ∷ ys) (suc i) x l = omega (arith, at_above f ys i x (omega arith))
-
-pub one_above : {X : Type 0} (f : X → ℕ) (xs : List X) (i : ℕ) (x : X) → i < length xs → x ≡ get_or xs i x → f x ≤ above f xs
-one_above f xs i x l at = subst (λ y. f y ≤ above f xs) (sym at) (at_above f xs i x l)
 
 -- the name with a number is what it was when the code was made
 pub name_of : {ts : List ExpressionTree} {s : Code} {names : List (List ℕ)} (r : Reads ts s names) (number : ℕ) → IsTrue (nat_lt number s.names)

@@ -1,6 +1,6 @@
 -- What the statements of code spell, by the table of names as it was when the code was made.
 use Rattle.std.proofs.Common.{◌≡◌, Bool, ℕ, zero, suc, ◌+◌, ◌<◌, ◌≤◌, List, [], ◌∷◌, drop, drop_of_length-le, IsErrAnd, Result, Ok, Err}
-use Rattle.std.proofs.Common.{length, length-append, length-drop, get_or, Box, Global, Vec, map, IsTrue, Option, Some, None, option_map}
+use Rattle.std.proofs.Common.{length, length-append, get_or, Box, Global, Vec, map, IsTrue, Option, Some, None, option_map}
 use Rattle.std.proofs.Common.{refl, sym, ap, subst, ◌∙◌, arith}
 use Rattle.std.specs.Prelude.{nat_lt}
 use Rattle.std.specs.List.{list_all}
@@ -89,10 +89,6 @@ parts_of c number x node l at is =
     (statement_parts_before c.names (length c.nodes.items) c.statements.items number x c.placed l)
 
 -- ---- places
-
--- where one stands at a place, the place is there
-pub place_there : {A : Type 0} (xs : List A) (at : ℕ) (x : A) (ys : List A) → drop at xs ≡ x ∷ ys → at < length xs
-place_there xs at x ys is = let e : length (drop at xs) ≡ suc (length ys) = ap length is in omega (arith, e, length-drop at xs)
 
 -- ---- the parts of an `if`
 

@@ -1,6 +1,6 @@
 -- How an evaluation begins.
 use Rattle.std.proofs.Common.{◌≡◌, ℕ, ◌<◌, Bool, true, false, List, [], ◌∷◌, length, get_or, IsTrue, Option, Some, None, Result, Ok, Err}
-use Rattle.std.proofs.Common.{IsErrAnd, refl, sym, ap, subst, ◌∙◌, arith}
+use Rattle.std.proofs.Common.{IsErrAnd, refl, sym, ap, subst, ◌∙◌}
 use Rattle.std.specs.Prelude.{codes, slice_get}
 use Rattle.code.specs.Nodes.{tree_at, tree_of}
 use Rattle.code.specs.Statements.{statement_at, statement_tree, statement_within}
@@ -34,8 +34,6 @@ use Rattle.grammar.specs.Tree.{StatementTree, AssignTree, AppendTree, ValueTree,
 use Rattle.grammar.specs.Tree.{NoStatement, MoreStatements}
 use Rattle.interp.specs.Beginnings.{Reads, RootGives, Starts, begun_at, line_before, line_unless, other_line}
 use Rattle.interp.specs.Evaluation.{MachineSaid, begins, begins_all, begun_by, defined, evaluation, is_project, sections_of}
-use Rattle.interp.proofs.Blocks.{number_below}
-use Rattle.interp.specs.declared.block.Block.TheVariants as blocks
 
 -- the tree of a statement that is there
 pub statement_is : (names : List (List ℕ)) (c : Code) (i : ℕ) (x n : StatementNode) → i < length c.statements.items → x ≡ get_or c.statements.items i x → x ≡ n
@@ -75,10 +73,6 @@ begins_as (ForeachTree line first second items items_line body) = refl
 pub begins_at : (ss : Statements) (o : Option ℕ) → o ≡ line_before ss → begun_at o ≡ begins_all ss
 begins_at NoStatement o is = ap begun_at is
 begins_at (MoreStatements s ss) o is = ap begun_at is ∙ sym (begins_as s)
-
--- the first statement of a file is there
-pub first_below : (c : Code) (number : ℕ) (rest : List ℕ) → c.body.items ≡ number ∷ rest → number < length c.statements.items
-first_below c number rest is = number_below c blocks.File (number ∷ rest) 0 0 (sym is) (omega arith)
 
 -- an evaluation, by whether long loops are refused
 abbrev pub run_of : Bool → Files → SettingsData → MachineSaid → Run (Unit {0})

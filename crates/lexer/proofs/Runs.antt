@@ -63,10 +63,6 @@ pub run_at_least : (p : ℕ → Bool) (text rest : List ℕ) → list_all p text
 run_at_least p [] rest h = omega arith
 run_at_least p (b ∷ text) rest h = let w = all_first p b text h in omega (arith, run_step p b (text ++ rest) w.0, run_at_least p text rest w.1)
 
-pub run_exact : (p : ℕ → Bool) (text : List ℕ) (b : ℕ) (rest : List ℕ) → list_all p text ≡ true → p b ≡ false → run p (text ++ b ∷ rest) ≡ length text
-run_exact p [] b rest h n = run_stop p b rest n
-run_exact p (a ∷ text) b rest h n = let w = all_first p a text h in omega (arith, run_step p a (text ++ b ∷ rest) w.0, run_exact p text b rest w.1 n)
-
 pub take_all : (s : List ℕ) → take (length s) s ≡ s
 take_all s = search (rules, common_steps)
 

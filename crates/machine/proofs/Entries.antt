@@ -13,7 +13,7 @@ use Rattle.machine.specs.machine_file.Values.{Value, value_of}
 use Rattle.machine.specs.declared.machine_file.section.SectionKind.{SectionKind}
 use Rattle.machine.specs.declared.machine_file.section.SectionKind.TheVariants as Kinds
 use Rattle.machine.specs.machine_file.Files as file
-use Rattle.machine.specs.machine_file.View.{entry_in, entries_in, section_in, sections_in}
+use Rattle.machine.specs.machine_file.View.{entry_in, entries_in, sections_in}
 use Rattle.machine.specs.declared.machine_file.machine.Entry.{Entry}
 use Rattle.machine.specs.declared.machine_file.machine.Section.{Section}
 
@@ -34,10 +34,6 @@ has_name_lookup name (s ∷ ss) = or_some (bytes_eq name (string_bytes s.0)) s.1
 pub entries_in-append : (es : List (String Global × Entry)) (e : String Global × Entry)
     → entries_in (es ++ e ∷ []) ≡ entries_in es ++ entry_in e ∷ []
 entries_in-append es e = map-append entry_in es (e ∷ [])
-
-pub sections_in-append : (ss : List (String Global × Section)) (s : String Global × Section)
-    → sections_in (ss ++ s ∷ []) ≡ sections_in ss ++ section_in s ∷ []
-sections_in-append ss s = map-append section_in ss (s ∷ [])
 
 pub none_from : {X : Type 0} (o : Option X) → is_some o ≡ false → o ≡ None
 none_from None e = refl

@@ -38,9 +38,6 @@ join xs b (Some ys) = ap Some (sym append_assoc_here)
     append_assoc_here : (xs ++ b ∷ []) ++ ys ≡ xs ++ b ∷ ys
     append_assoc_here = simp append_assoc
 
-if_is : {X : Type 0} (b : Bool) (v : Bool) (x y : X) → v ≡ b → (if b then x else y) ≡ (if v then x else y)
-if_is b v x y e = ap (λ w. if w then x else y) (sym e)
-
 -- a string, and what the token behind it leads to
 two : (items : List (String Global)) (text : String Global) (rest : List Token) (d e : Token) (v : Bool) → 1 < length rest
     → Some (string_bytes text) ≡ plain_text (lexeme_of (get_or rest 0 d)) → v ≡ is (get_or rest 1 e).kind Kinds.Comma

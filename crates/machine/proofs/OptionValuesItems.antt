@@ -1,10 +1,10 @@
 -- Lists of texts, item by item.
-use Rattle.std.proofs.Common.{◌≡◌, ℕ, ◌+◌, ◌<◌, List, [], ◌∷◌, ◌++◌, length, drop, take, get_or, map, String, string_bytes, refl, sym, ap}
+use Rattle.std.proofs.Common.{◌≡◌, ℕ, ◌+◌, ◌<◌, List, [], ◌∷◌, ◌++◌, length, drop, get_or, map, String, string_bytes, refl, sym, ap}
 use Rattle.std.proofs.Common.{◌∙◌, arith, append_assoc}
 use Rattle.std.specs.Prelude.{◌&&◌, ◌==◌, codes}
 use Rattle.std.specs.List.{list_all, slice_split}
 use Rattle.std.specs.declared.alloc.Global.{Global}
-use Rattle.std.proofs.lemmas.List.{at_drop_more, map-append, take_more}
+use Rattle.std.proofs.lemmas.List.{at_drop_more, map-append}
 use Rattle.lexer.specs.Bytes.{comma}
 use Rattle.machine.specs.option_values.Given.{quoted}
 use Rattle.machine.specs.option_values.Lists.{without_spaces, parts_of}
@@ -15,16 +15,6 @@ pub all_items : (choices : List (List ℕ)) (items : List (String Global))
     → list_all (λ item. is_among choices (string_bytes item)) items ≡ list_all (is_among choices) (strings_in items)
 all_items choices [] = refl
 all_items choices (x ∷ xs) = ap (λ b. is_among choices (string_bytes x) && b) (all_items choices xs)
-
-pub copied_more : (items copies more : List (String Global)) (s d : String Global) (i : ℕ) → strings_in copies ≡ strings_in (take i items)
-    → i < length items
-    → string_bytes s ≡ string_bytes (get_or items i d) → more ≡ copies ++ s ∷ [] → strings_in more ≡ strings_in (take (i + 1) items)
-copied_more items copies more s d i h l e m =
-    ap strings_in m ∙ map-append string_bytes copies (s ∷ [])
-    ∙ ap (λ xs. xs ++ string_bytes s ∷ []) h
-    ∙ ap (λ b. strings_in (take i items) ++ b ∷ []) e
-    ∙ sym (map-append string_bytes (take i items) (get_or items i d ∷ []))
-    ∙ sym (ap strings_in (take_more items i d l))
 
 join_quoted : (text sep q x rest : List ℕ) → ((((text ++ sep) ++ q) ++ x) ++ q) ++ rest ≡ text ++ (sep ++ (q ++ (x ++ (q ++ rest))))
 join_quoted text sep q x rest =

@@ -1,37 +1,22 @@
 -- What the lines so far say, in the code's own types and as plain data.
-use Rattle.std.proofs.Common.{◌≡◌, ℕ, ◌+◌, ◌<◌, ◌≤◌, false, List, [], ◌∷◌, ◌++◌, length, drop, get_or, Option, Some, None, Result}
+use Rattle.std.proofs.Common.{◌≡◌, ℕ, ◌+◌, ◌<◌, ◌≤◌, false, List, [], ◌∷◌, length, drop, get_or, Some, Result}
 use Rattle.std.proofs.Common.{Ok, Err, String, string_bytes, refl, sym, ap, ◌∙◌, is_some, arith, add-one, length-drop, map}
-use Rattle.std.specs.Option.{option_map, option_to_list}
 use Rattle.std.specs.Result.{result_map_both}
 use Rattle.std.specs.declared.alloc.Global.{Global}
 use Rattle.std.specs.Map.{lookup}
 use Rattle.std.specs.Str.{bytes_eq}
-use Rattle.std.proofs.lemmas.List.{append-nil, drop-map, length-map}
+use Rattle.std.proofs.lemmas.List.{drop-map, length-map}
 use Rattle.std.proofs.Math.Seq.{drop-cons}
 use Rattle.machine.specs.declared.machine_file.machine.Section.{Section}
 use Rattle.machine.specs.declared.machine_file.state.OpenSection.{OpenSection}
-use Rattle.machine.specs.declared.machine_file.state.Reading.{Reading}
 use Rattle.machine.specs.machine_file.Files as file
 use Rattle.machine.specs.machine_file.Fault.{MachineFaultData, bad_line}
-use Rattle.machine.specs.machine_file.Files.{Said, has_name, default_entries, closed, sections_said, after}
+use Rattle.machine.specs.machine_file.Files.{Said, has_name, sections_said, after}
 use Rattle.machine.specs.machine_file.Files.{go_on, said_from, machine_of, nothing_said}
 use Rattle.machine.specs.declared.machine_file.text.Blanks.TheVariants as blanks
 use Rattle.machine.specs.machine_file.Texts.{trimmed}
-use Rattle.machine.specs.machine_file.View.{entries_in, sections_in, open_in, said_in}
-use Rattle.machine.proofs.Entries.{has_name_lookup, sections_in-append}
-
-pub said_none : (r : Reading) → r.current ≡ None → sections_in r.ended.entries ≡ sections_said (said_in r)
-said_none r e = sym (append-nil (sections_in r.ended.entries))
-    ∙ ap (λ (o : Option OpenSection). sections_in r.ended.entries ++ option_to_list (option_map closed (option_map open_in o))) (sym e)
-
-pub said_closed : (r : Reading) (o : OpenSection) (new : List (String Global × Section)) (s : Section) → r.current ≡ Some o
-    → new ≡ r.ended.entries ++ (o.name, s) ∷ []
-    → entries_in s.entries.entries ≡ entries_in o.entries.entries ++ default_entries o.kind o.line (entries_in o.entries.entries)
-    → sections_in new ≡ sections_said (said_in r)
-said_closed r o new s c n e =
-    ap sections_in n ∙ sections_in-append r.ended.entries (o.name, s)
-    ∙ ap (λ (es : List file.Entry). sections_in r.ended.entries ++ record { name = string_bytes o.name; entries = es } ∷ []) e
-    ∙ ap (λ (w : Option OpenSection). sections_in r.ended.entries ++ option_to_list (option_map closed (option_map open_in w))) (sym c)
+use Rattle.machine.specs.machine_file.View.{sections_in}
+use Rattle.machine.proofs.Entries.{has_name_lookup}
 
 pub fresh_new : (ended : List (String Global × Section)) (o x : OpenSection) (name : List ℕ) → Some o ≡ Some x → string_bytes o.name ≡ name
     → has_name name (sections_in ended) ≡ false → is_some (lookup (λ k. bytes_eq (string_bytes x.name) (string_bytes k)) ended) ≡ false

@@ -1,6 +1,6 @@
 -- Texts without blanks at their ends, by index.
 use Rattle.std.proofs.Common.{◌≡◌, ℕ, suc, ◌+◌, ◌-◌, ◌<◌, ◌≤◌, Bool, true, false, List, [], ◌∷◌, ◌++◌, length, take, drop, get_or, refl}
-use Rattle.std.proofs.Common.{sym, ap, ◌∙◌, arith, if◌then◌else◌, add-one, length-drop}
+use Rattle.std.proofs.Common.{sym, ap, ◌∙◌, arith, if◌then◌else◌, add-one}
 use Rattle.std.proofs.lemmas.Bool.Decides.{nat_tests}
 use Rattle.std.proofs.Math.Seq.{drop-cons, take-suc}
 use Rattle.std.specs.Str.{IsUtf8, IsCharBoundary}
@@ -25,17 +25,6 @@ at_index text i l = drop-cons text i 0 l ∙ ap (λ n. get_or text i 0 ∷ drop 
 pub from_blank : (w : Blanks) (text : List ℕ) (i : ℕ) → i < length text → is_blank w (get_or text i 0) ≡ true
     → from_word w (drop (i + 1) text) ≡ from_word w (drop i text)
 from_blank w text i l t = sym (ap (from_word w) (at_index text i l) ∙ if_true _ _ _ t)
-
-pub from_other : (w : Blanks) (text : List ℕ) (i : ℕ) → i < length text → is_blank w (get_or text i 0) ≡ false
-    → from_word w (drop i text) ≡ drop i text
-from_other w text i l f = ap (from_word w) (at_index text i l) ∙ if_false _ _ _ f ∙ sym (at_index text i l)
-
-from_nil : (w : Blanks) (text : List ℕ) → length text ≡ 0 → from_word w text ≡ text
-from_nil w [] e = refl
-from_nil w (b ∷ bs) e = absurd (omega arith)
-
-pub from_end : (w : Blanks) (text : List ℕ) (i : ℕ) → length text ≤ i → from_word w (drop i text) ≡ drop i text
-from_end w text i l = from_nil w (drop i text) (omega (arith, length-drop i text))
 
 pub start_after : (w : Blanks) (text : List ℕ) (i : ℕ) → IsUtf8 text → i < length text → is_blank w (get_or text i 0) ≡ true
     → IsCharBoundary text (i + 1)

@@ -1,7 +1,7 @@
 -- One part of a text with placeholders after another.
-use Rattle.std.proofs.Common.{◌≡◌, List, [], ◌∷◌, ◌++◌, Option, Some, None, codes, refl, sym, ap, ◌∙◌, append-nil, append_assoc}
+use Rattle.std.proofs.Common.{◌≡◌, List, ◌∷◌, ◌++◌, Option, Some, None, codes, refl, sym, ap, ◌∙◌, append_assoc}
 use Rattle.targets.specs.edge.Texts.{Text}
-use Rattle.named_sources.specs.Holes.{MeaningData, stays, refused, means, behind_text, step, filled_behind}
+use Rattle.named_sources.specs.Holes.{MeaningData, stays, means, behind_text, step, filled_behind}
 
 behind_behind : (a b : Text) (o : Option Text) → behind_text a (behind_text b o) ≡ behind_text (a ++ b) o
 behind_behind a b None = refl
@@ -19,12 +19,3 @@ module _ (m : Text → MeaningData) (made now : Text) (name text : Text) (others
       ap (λ x. behind_text x (filled_behind m others)) (f ∙ append_assoc made value text)
       ∙ sym (behind_behind made (value ++ text) (filled_behind m others))
       ∙ ap (λ x. behind_text made (step x name text (filled_behind m (text ∷ others)) (filled_behind m others))) (sym e)
-
-  pub refused_step : m name ≡ refused → None ≡ behind_text made (filled_behind m (name ∷ text ∷ others))
-  refused_step e = ap (λ x. behind_text made (step x name text (filled_behind m (text ∷ others)) (filled_behind m others))) (sym e)
-
-pub last_step : (m : Text → MeaningData) (made now name : Text) → now ≡ (made ++ codes "@") ++ name → Some now ≡ behind_text made (filled_behind m (name ∷ []))
-last_step m made now name f = ap Some (f ∙ append_assoc made (codes "@") name)
-
-pub no_step : (m : Text → MeaningData) (made : Text) → Some made ≡ behind_text made (filled_behind m [])
-no_step m made = ap Some (sym (append-nil made))

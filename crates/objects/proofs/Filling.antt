@@ -62,10 +62,6 @@ of_stop {view = view} {view' = view'} {d = d} {next = next} {s0 = s0} {s1 = s1} 
   same = p.same;
 }
 
--- the same deeds, written otherwise
-pub of_as : {A B : Type 0} {view : B → A} {d e : Files → Deed A} {s s1 : State} {result : Result B Stop} → d ≡ e → CarriesOf view d s result s1 → CarriesOf view e s result s1
-of_as {view = view} {s = s} {s1 = s1} {result = result} is p = subst (λ f. CarriesOf view f s result s1) is p
-
 -- want of memory before anything was done
 pub of_none : {A B : Type 0} {view : B → A} {d : Files → Deed A} {s : State} {result : Result B Stop} → IsErrAnd result (λ e. e ≡ stops.Memory) → CarriesOf view d s result s
 of_none {view = view} {d = d} {s = s} is = record {

@@ -27,15 +27,6 @@ none_of : (t : List ℕ) (o : Option (List ℕ)) → IfSome o (λ u. t ≡ u ++ 
 none_of t None h none = refl
 none_of t (Some u) h none = absurd (none u h)
 
--- no quote stands first
-first_byte : (b : ℕ) (t : List ℕ) (is : Bool) → (b == 34) ≡ is → ((rest : List ℕ) → b ∷ t ≢ 34 ∷ rest) → b ∷ t ≡ (if is then unwrap_or (before_quote t) (b ∷ t) else b ∷ t)
-first_byte b t true e none = absurd (none t (ap (λ x. x ∷ t) (eqb-true b 34 e)))
-first_byte b t false e none = refl
-
-pub no_first : (text : List ℕ) → ((rest : List ℕ) → text ≢ 34 ∷ rest) → text ≡ unquoted_text text
-no_first [] none = refl
-no_first (b ∷ t) none = first_byte b t (b == 34) refl none
-
 -- a quote stands first, and none last
 pub no_last : (text rest : List ℕ) → text ≡ 34 ∷ rest → ((front : List ℕ) → rest ≢ front ++ 34 ∷ []) → text ≡ unquoted_text text
 no_last text rest is none = is ∙ sym (ap unquoted_text is ∙ ap (λ o. unwrap_or o (34 ∷ rest)) (none_of rest (before_quote rest) (before_quote-is rest) none))

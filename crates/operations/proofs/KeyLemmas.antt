@@ -1,12 +1,9 @@
 -- Keys in the order of their bytes.
-use Rattle.std.proofs.Common.{◌≡◌, ℕ, ◌+◌, List, [], ◌∷◌, Some, map, drop, refl, ap, ◌∙◌}
-use Rattle.std.specs.Prelude.{slice_get}
+use Rattle.std.proofs.Common.{◌≡◌, List, [], ◌∷◌, map, refl, ap}
 use Rattle.std.specs.Ordering.{match_ordering}
 use Rattle.std.specs.declared.cmp.Ordering.{Ordering}
 use Rattle.std.specs.declared.cmp.Ordering.TheVariants as ordering
 use Rattle.std.specs.BTreeSet.{insert_key}
-use Rattle.std.proofs.lemmas.List.{drop_more}
-use Rattle.std.proofs.lemmas.Option.{slice_get_within, get_or_from_slice_get}
 
 at_order : {K L : Type 0} (f : K → L) (o : Ordering) (k x : K) (xs r : List K) (r' : List L) → map f r ≡ r'
     → map f (match_ordering o (k ∷ x ∷ xs) (x ∷ xs) (x ∷ r)) ≡ match_ordering o (f k ∷ f x ∷ map f xs) (f x ∷ map f xs) (f x ∷ r')
@@ -21,6 +18,3 @@ map-insert_key f cmp [] k = refl
 map-insert_key f cmp (x ∷ xs) k =
     at_order f (cmp (f k) (f x)) k x xs (insert_key (λ a b. cmp (f a) (f b)) xs k) (insert_key cmp (map f xs) (f k))
     (map-insert_key f cmp xs k)
-
-pub drop_got : {X : Type 0} (xs : List X) (i : ℕ) (x : X) → slice_get xs i ≡ Some x → drop i xs ≡ x ∷ drop (i + 1) xs
-drop_got xs i x is = drop_more xs i x (slice_get_within xs i x is) ∙ ap (λ y. y ∷ drop (i + 1) xs) (get_or_from_slice_get xs i x x is)

@@ -1,18 +1,16 @@
 -- What the status says of what was written.
-use Rattle.std.proofs.Common.{◌≡◌, ◌+◌, true, List, Result, Ok, Err, refl, ◌∙◌, arith}
+use Rattle.std.proofs.Common.{◌≡◌, ◌+◌, List, Result, Ok, Err, refl, ◌∙◌, arith}
 use Rattle.std.proofs.lemmas.Bool.{false≢true}
 use Rattle.ports.specs.Endings.{ended}
-use Rattle.ports.specs.Outputs.{OutputState, Step, Sends, Makes, Writes, faults}
+use Rattle.ports.specs.Outputs.{OutputState, Step, Makes, Writes, faults}
 use Rattle.ports.specs.declared.fault.DeviceFault.{DeviceFault}
-use Rattle.ports.proofs.Sending.{sends_then}
 use Rattle.basics.specs.Faults.{FaultData, fault_line}
 use Rattle.project.specs.World.{WorldData}
 use Rattle.outputs.specs.build_file.BuildFile.{ending_of}
 use Rattle.outputs.specs.declared.build_file.stop.WriteStop.{WriteStop}
 use Rattle.outputs.specs.declared.build_file.stop.WriteStop.TheVariants as stops
-use Rattle.outputs.specs.build_file.Concluding.{Whole, Agrees, done_with, faulted_with, outputs_steps, told_before, failed_devices}
+use Rattle.outputs.specs.build_file.Concluding.{Agrees, done_with, faulted_with, outputs_steps, failed_devices}
 use Rattle.outputs.specs.build_file.Concluding.{status_of_fault, status_of_outputs}
-use Rattle.outputs.specs.declared.build_file.concluding.Status.{Status}
 
 -- the outputs of a project
 pub agrees_outputs : (w : WorldData) (r : Result (Unit {0}) WriteStop) {old new : OutputState} → Makes old (outputs_steps w) (ending_of r) new → Agrees (done_with w) (status_of_outputs r) old new
@@ -33,7 +31,3 @@ agrees_fault f (Err e) m = record { status = λ h. absurd (false≢true h); even
 pub device_fault : (r : Result (Unit {0}) DeviceFault) {run : List Step} {old new : OutputState} → Writes old run (ended r) new → new.failures ≡ old.failures + failed_devices (status_of_fault r)
 device_fault (Ok x) {old = old} m = let e : old.failures ≡ old.failures + 0 = omega arith in m.failures ∙ e
 device_fault (Err x) m = m.failures
-
--- what was told before is a part of the run
-pub agrees_then : {old mid new : OutputState} {told : List Step} (run : Whole) (status : Status) → Sends old mid told true → Agrees run status mid new → Agrees (told_before told run) status old new
-agrees_then run status s a = record { status = a.status; events = sends_then s a.events }

@@ -37,12 +37,6 @@ pub quoted_value : (w : List ℕ) → value_rest_text (quoted w) ≡ 39 ∷ (fla
 quoted_value w =
     ap (λ v. 39 ∷ v) (flat_map-append value_byte_text (quoted_bytes w) (39 ∷ []) ∙ ap (λ v. v ++ 39 ∷ []) (flat_map-flat_map value_byte_text quoted_byte w))
 
--- a word more
-pub later_words_next : (ts : List (List ℕ)) (w : List ℕ) → value_rest_text (later_words_text (ts ++ w ∷ [])) ≡ value_rest_text (later_words_text ts) ++ value_rest_text (later_word_text w)
-later_words_next ts w =
-    ap value_rest_text (flat_map-append later_word_text ts (w ∷ []) ∙ ap (λ v. later_words_text ts ++ v) (append-nil (later_word_text w)))
-    ∙ flat_map-append value_byte_text (later_words_text ts) (later_word_text w)
-
 pub lone_redirect_value : (redirect : Option (List ℕ)) → value_text (words_text [] redirect) ≡ value_rest_text (lone_redirect_text redirect)
 unfolding value_text
 lone_redirect_value None = refl

@@ -124,10 +124,6 @@ name_at-new names name span s e =
     let width : span.end - span.start ≡ length name = omega (arith, length-append names name) in
     ap (λ n. take (span.end - span.start) (drop n (names ++ name))) s ∙ ap (take (span.end - span.start)) (drop-append_seam names name) ∙ ap (λ n. take n name) width ∙ take-length name
 
-pub name_recorded : (names more name : List ℕ) (span : Span) → more ≡ names ++ name → span.start ≡ length names → span.end ≡ length more → open_at more (Some span) ≡ Some name
-unfolding open_at
-name_recorded names more name span m s e = ap (λ r. Some r) (ap (λ r. name_at r span) m ∙ name_at-new names name span s (e ∙ ap length m))
-
 pub open_recorded : (names more name : List ℕ) (slots new : List (Event Span)) (current : Option Span) (span : Span) (f g : ℕ) → are_within (length names) slots ≡ true
     → more ≡ names ++ name → span.start ≡ length names → span.end ≡ length more
     → new ≡ slots ++ Open span ∷ [] → Takes (state_at names slots current f) (state_at more new (Some span) g) (opening name)

@@ -68,10 +68,6 @@ pub sends_all : {old new : OutputState} {run : List Step} (whole : Bool) → Tak
 sends_all true t = all t
 sends_all {run = run} false t = part run [] (sym (append-nil run)) t
 
--- and the other way round
-pub takes_all : {old new : OutputState} {run : List Step} → Sends old new run true → Takes old new run
-takes_all (all t) = t
-
 -- before the first call
 pub sends_nothing : (s : OutputState) → Sends s s [] true
 sends_nothing s = all (takes_nothing s)
@@ -100,9 +96,6 @@ sends_exit (Ok x) e s = absurd (false≢true e)
 sends_exit (Err x) e s = s
 
 -- ---- calls that make outputs
-
-pub makes_nothing : (s : OutputState) → Makes s [] Whole s
-makes_nothing s = record { sends = sends_nothing s; failures = refl }
 
 -- one call of a device
 pub makes_took : {old new : OutputState} {run : List Step} {e : Ending} → Took old run e new → Makes old run e new
@@ -156,10 +149,6 @@ writes_took k t = record { sends = sends_all _ t.takes; name = t.takes.name ∙ 
 pub writes_exit : {old new : OutputState} {a : List Step} {T : Type 0} (r : Result T DeviceFault) → IsErr r → Writes old a Failed new → Writes old a (ended r) new
 writes_exit (Ok x) e s = absurd (false≢true e)
 writes_exit (Err x) e s = s
-
-pub makes_exit : {old new : OutputState} {a : List Step} {T : Type 0} (r : Result T DeviceFault) → IsErr r → Makes old a Failed new → Makes old a (ended r) new
-makes_exit (Ok x) e s = absurd (false≢true e)
-makes_exit (Err x) e s = s
 
 -- an output that was begun is open
 pub open_opened : {old new : OutputState} (name : List ℕ) → Took old (opening name) Whole new → old.failures + 1 < 2 ^ 64 → IsOpen new

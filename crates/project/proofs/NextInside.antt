@@ -1,5 +1,5 @@
 -- The edges of a target that fits make nothing outside the build folder.
-use Rattle.std.proofs.Common.{◌≡◌, ℕ, Bool, true, false, List, [], ◌∷◌, map, codes, eqb, refl, ap, ◌∙◌}
+use Rattle.std.proofs.Common.{◌≡◌, Bool, true, false, List, [], ◌∷◌, map, codes, eqb, refl, ap, ◌∙◌}
 use Rattle.std.specs.Prelude.{◌&&◌, ◌||◌, not, bytes_eq}
 use Rattle.std.specs.List.{list_all}
 use Rattle.std.proofs.lemmas.List.Folds.{list_all-map}
@@ -38,9 +38,6 @@ name_inside (a ∷ b ∷ c ∷ rest) h =
     let h2 = or_parts (eqb b 47) (has_slash (c ∷ rest)) h1.1 in
     let h3 = or_parts (eqb c 47) (has_slash rest) h2.1 in
     two_false (eqb a 46) (eqb b 46) (eqb c 47) h3.0
-
-two_dots : (a b : ℕ) → bytes_eq (a ∷ b ∷ []) (codes "..") ≡ false → (eqb a 46 && (eqb b 46 && true)) ≡ false
-two_dots a b h = h
 
 -- a file of a folder of the tree does not either
 pub path_inside : (folder : Path) (name : Text) → is_folder folder ≡ true → has_slash name ≡ false → is_upward (path_in folder name) ≡ false

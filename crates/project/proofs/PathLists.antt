@@ -5,7 +5,6 @@ use Rattle.std.specs.Prelude.{not, ◌||◌, if◌then◌else◌, string_eq, Opt
 use Rattle.std.specs.List.{list_any}
 use Rattle.std.specs.Global.{Global}
 use Rattle.std.proofs.lemmas.List.{take_more, map-append}
-use Rattle.std.proofs.Math.Seq.{take-append_seam}
 use Rattle.std.proofs.lemmas.List.Folds.{list_any-append}
 use Rattle.std.proofs.lemmas.Slice.Eq.{bytes_eq-Decides}
 use Rattle.std.proofs.lemmas.Bool.{not-true, not-false}
@@ -75,9 +74,6 @@ added_more old ks new fresh i item h at one so_far =
 
 pub begins_more : (old ks new : List (String Global)) (item : Path) → Inserted ks new item → IsFront old ks → IsFront old new
 begins_more old ks new item one b = record { more = b.more ++ one.key ∷ []; is = one.is ∙ ap (λ l. l ++ one.key ∷ []) b.is ∙ append_assoc old b.more (one.key ∷ []) }
-
-pub begins_take : (old new : List (String Global)) → IsFront old new → take (length old) new ≡ old
-begins_take old new b = ap (take (length old)) b.is ∙ take-append_seam old b.more
 
 -- ---- new paths
 
@@ -150,7 +146,3 @@ taken_then seen (x ∷ ps) qs e =
     ap (λ c. if c then Some x else first_taken (seen ++ x ∷ []) (ps ++ qs)) a
     ∙ taken_then (seen ++ x ∷ []) ps qs b
     ∙ ap (λ s. first_taken s qs) (append_assoc seen (x ∷ []) ps)
-
-pub begins_then : (old mid new : List (String Global)) → IsFront old mid → IsFront mid new → IsFront old new
-begins_then old mid new a b =
-    record { more = a.more ++ b.more; is = b.is ∙ ap (λ l. l ++ b.more) a.is ∙ append_assoc old a.more b.more }

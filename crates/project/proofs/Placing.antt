@@ -177,22 +177,6 @@ whole_with_present s ls outputs present now kept more w e =
 
 -- ---- nothing yet
 
-whole_none : (s : SurroundingsData) → IsWhole s [] [] [] reserved
-whole_none s = record {
-  libraries = refl;
-  paths = λ p. refl;
-  once = once_more [] reserved (λ p. omega arith) refl;
-  made = refl;
-  inside = refl;
-  outputs_inside = refl;
-  writable = refl;
-  back = refl;
-}
-
-pub whole_empty : (s : SurroundingsData) (ls : List LinkedData) (outputs present kept : List Path) → ls ≡ [] → outputs ≡ [] → present ≡ [] → kept ≡ reserved → IsWhole s ls outputs present kept
-whole_empty s ls outputs present kept a b c d =
-    subst (λ x. IsWhole s x outputs present kept) (sym a) (subst (λ x. IsWhole s [] x present kept) (sym b) (subst (λ x. IsWhole s [] [] x kept) (sym c) (subst (λ x. IsWhole s [] [] [] x) (sym d) (whole_none s))))
-
 pub whole_same : (s : SurroundingsData) (ls now_ls : List LinkedData) (outputs present kept now : List Path) → IsWhole s ls outputs present kept → now_ls ≡ ls → now ≡ kept → IsWhole s now_ls outputs present now
 whole_same s ls now_ls outputs present kept now w a b = subst (λ x. IsWhole s x outputs present now) (sym a) (subst (λ x. IsWhole s ls outputs present x) (sym b) w)
 

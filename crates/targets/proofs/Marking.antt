@@ -1,5 +1,5 @@
 -- Marks of the numbers that were met.
-use Rattle.std.proofs.Common.{◌≡◌, ◌≢◌, ℕ, ◌<◌, ◌≤◌, Bool, true, false, List, [], ◌∷◌, ◌++◌, length, get_or, set, nat_eq, refl, sym, ap}
+use Rattle.std.proofs.Common.{◌≡◌, ◌≢◌, ℕ, ◌<◌, Bool, true, false, List, [], ◌∷◌, ◌++◌, length, get_or, set, nat_eq, refl, sym, ap}
 use Rattle.std.proofs.Common.{subst, ◌∙◌, arith, inl, inr}
 use Rattle.std.specs.Prelude.{◌||◌, if◌then◌else◌}
 use Rattle.std.specs.List.{list_any}
@@ -50,10 +50,6 @@ marked marks ks x are lt k below =
           let within : k < length marks = omega (arith, length-set marks x true, below) in
           get_or-set_other marks x k true false ne ∙ are k within ∙ sym (any_other ks x k ne)
     ]
-
--- a number is met that has none
-pub unmarked : (marks : List Bool) (ks : List ℕ) (x : ℕ) → AreMarks marks ks → length marks ≤ x → AreMarks marks (insert_key nat_eq ks x)
-unmarked marks ks x are le k below = let ne : k ≢ x = omega (arith, le, below) in are k below ∙ sym (any_other ks x k ne)
 
 -- ---- one number more
 

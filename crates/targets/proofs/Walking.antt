@@ -136,10 +136,6 @@ walks_first ls ns = record {
   left = left_enters ls ns [];
 }
 
--- at its end
-pub walks_last : (ls : List LinkedData) (all kept : List ℕ) (steps : List Step) → steps ≡ [] → Walks ls all steps kept → reverse kept ≡ last_kept all
-walks_last ls all kept steps e w = ap (λ ss. before_all (all_of ls ss) (reverse kept)) (sym e) ∙ w.order
-
 -- other steps at the end
 left_swapped : (ls : List LinkedData) (ss old bs : List Step) (kept now : List ℕ) → Within (all_of ls old ++ kept) (all_of ls bs ++ now) → Left ls bs now
     → Left ls (ss ++ old) kept → Left ls (ss ++ bs) now

@@ -53,10 +53,6 @@ pub lines_of-last : (b : ℕ) (line : List ℕ) → Lacks 10 (b ∷ line) → li
 lines_of-last b [] h = lines_of-one b h.0
 lines_of-last b (x ∷ line) h = lines_of-other b (x ∷ line) h.0 ∙ ap (onto b) (lines_of-last x line h.1) ∙ onto-cons b (x ∷ line) []
 
-pub lines_of-none : lines_of [] ≡ []
-unfolding lines_of
-lines_of-none = refl
-
 -- the first line of some bytes is longer than this
 pub record IsLong (n : ℕ) (lines : List (List ℕ)) : Type 0 where
   pub line : List ℕ

@@ -1,6 +1,6 @@
 -- How the search for '@' follows the definition, which goes byte by byte.
 use Rattle.std.proofs.Common.{◌≡◌, ℕ, zero, suc, ◌+◌, ◌-◌, ◌/◌, ◌%◌, ◌<◌, ◌≤◌, Bool, true, false, cond, ◌&&◌, ◌==◌, List, [], ◌∷◌, ◌++◌}
-use Rattle.std.proofs.Common.{length, take, drop, get_or, refl, sym, ap, ◌∙◌, append_assoc, arith, drop-cons, add-one, ⊎_elim, eqb-true}
+use Rattle.std.proofs.Common.{length, take, drop, get_or, refl, sym, ap, ◌∙◌, append_assoc, arith, ⊎_elim, eqb-true}
 use Rattle.std.proofs.Common.{eq-eqb, subst, inl, inr, ◌⊎◌, Some, None}
 use Rattle.std.proofs.lemmas.Bool.{lt-ltb}
 use Rattle.std.proofs.lemmas.Bool.{cases_Bool}
@@ -38,9 +38,6 @@ lacks-take a (b ∷ hay) (suc k) h = (
   false_of (b == a) (h 0 (omega arith) (omega arith)),
   lacks-take a hay k (λ j low high. h (suc j) (omega arith) (omega arith)),
 )
-
-pub prefix_len-drop : (p : ℕ → Bool) (xs : List ℕ) (n : ℕ) → n < length xs → prefix_len p (drop n xs) ≡ cond (p (get_or xs n 0)) (1 + prefix_len p (drop (n + 1) xs)) 0
-prefix_len-drop p xs n h = rw (drop-cons xs n 0, add-one)
 
 pub slashes_at-drop : (slashes : ℕ) (xs : List ℕ) (n : ℕ) → n < length xs → slashes_at slashes (drop n xs) ≡ cond (get_or xs n 0 == 92) (slashes_at (slashes + 1) (drop (n + 1) xs)) (slashes_at 0 (drop (n + 1) xs))
 unfolding slashes_at
@@ -188,19 +185,6 @@ replaced-first entries path number rest k le lacks at64 =
     let cut : rest ≡ text ++ 64 ∷ drop (k + 1) rest = sym (take-append-drop k rest) ∙ ap (λ r. text ++ r) (drop_more rest k 0 le) ∙ ap (λ x. text ++ x ∷ drop (k + 1) rest) at64 in
     let same : kept 0 text ≡ take (k - (s - s / 2)) rest = kept-is 0 text ∙ ap (λ n. take n text) (omega arith) ∙ take-take (k - (s - s / 2)) k rest (omega arith) in
     ap (λ r. replaced entries path number 0 0 r) cut ∙ replaced-at entries path number text (drop (k + 1) rest) 0 lacks ∙ ap (λ b. puts b ++ at_sign entries path number s (drop (k + 1) rest)) same
-
--- what stands behind an '@' that begins a name, and one that begins none
-pub at_sign-name : (entries : Entries) (path : List ℕ) (number slashes : ℕ) (bytes : List ℕ) → (slashes % 2 == 0) ≡ true → 0 < name_length bytes
-    → at_sign entries path number slashes bytes ≡ sign_steps entries path number (name_length bytes) bytes
-unfolding at_sign sign_steps
-at_sign-name entries path number slashes bytes e h =
-    let f : nat_lt 0 (name_length bytes) ≡ true = lt-ltb 0 (name_length bytes) h in
-    rw e (rw f (ap (λ r. in_place entries path number (take (name_length bytes) bytes) ++ r) (replaced-skip entries path number (name_length bytes + 1) bytes)))
-
-pub at_sign-alone : (entries : Entries) (path : List ℕ) (number slashes : ℕ) (bytes : List ℕ) → ((slashes % 2 == 0) && nat_lt 0 (name_length bytes)) ≡ false
-    → at_sign entries path number slashes bytes ≡ sign_steps entries path number 0 bytes
-unfolding at_sign sign_steps
-at_sign-alone entries path number slashes bytes e = rw e
 
 sign_steps-name : (entries : Entries) (path : List ℕ) (number name : ℕ) (bytes : List ℕ) → 0 < name
     → sign_steps entries path number name bytes ≡ in_place entries path number (take name bytes) ++ replaced entries path number 0 0 (drop (name + 1) bytes)

@@ -18,7 +18,7 @@ use Rattle.std.specs.Map.{lookup, keys_of}
 use Rattle.std.specs.declared.alloc.Global.{Global}
 use Rattle.std.proofs.lemmas.List.{get_or_append_left}
 use Rattle.std.proofs.lemmas.Bool.{cases_Bool, false≢true}
-use Rattle.std.proofs.lemmas.Str.{encode_ascii, inside_one}
+use Rattle.std.proofs.lemmas.Str.{inside_one}
 use Rattle.std.proofs.lemmas.Map.Text.{is_eq-slice_cmp}
 use Rattle.template.specs.declared.config.ConfigValue.{ConfigValue}
 use Rattle.template.specs.Config.{Content, Entries, escaped, merged, names, value_of, with_value}
@@ -129,17 +129,9 @@ merged-more all all' s later name key value held at k v e =
 
 -- quotes
 
-escaped-quote : (b : ℕ) (text : List ℕ) → (b == 34) ≡ true → escaped (b ∷ text) ≡ 92 ∷ 34 ∷ escaped text
-unfolding escaped
-escaped-quote b text e = rw e refl
-
 escaped-other : (b : ℕ) (text : List ℕ) → (b == 34) ≡ false → escaped (b ∷ text) ≡ b ∷ escaped text
 unfolding escaped
 escaped-other b text e = rw e refl
-
-pub escaped-none : escaped [] ≡ []
-unfolding escaped
-escaped-none = refl
 
 -- bytes without quote are their own
 escaped-plain : (bytes rest : List ℕ) → ((k : ℕ) → k < length bytes → get_or bytes k 0 ≡ 34 → ⊥) → escaped (bytes ++ rest) ≡ bytes ++ escaped rest
@@ -164,12 +156,6 @@ pub quoting_other : (made made' s later whole : List ℕ) (c : ℕ) → made ++ 
 quoting_other made made' s later whole c h at other e =
     ap (λ m. m ++ escaped later) e ∙ append_assoc made (encode_utf8 c) (escaped later)
     ∙ ap (λ r. made ++ r) (sym (ap escaped at ∙ escaped-char c later other)) ∙ h
-
-pub quoting_quote : (made made' s later whole : List ℕ) (c : ℕ) → made ++ escaped s ≡ whole → s ≡ encode_utf8 c ++ later → c ≡ 34
-    → made' ≡ made ++ 92 ∷ 34 ∷ [] → made' ++ escaped later ≡ whole
-quoting_quote made made' s later whole c h at is e =
-    let t : s ≡ 34 ∷ later = at ∙ ap (λ n. encode_utf8 n ++ later) is ∙ ap (λ r. r ++ later) (encode_ascii 34 (omega arith)) in
-    ap (λ m. m ++ escaped later) e ∙ append_assoc made (92 ∷ 34 ∷ []) (escaped later) ∙ ap (λ r. made ++ r) (sym (ap escaped t ∙ escaped-quote 34 later refl)) ∙ h
 
 -- what a name stands for after a change
 

@@ -139,11 +139,6 @@ opens price (f ∷ fs) folders folder bytes new is = at (opens price fs folders 
         omega (arith, ap (λ b. unless b (price f)) before, ap (λ b. unless b (price f)) after, whole, unopened-append price fs folders folder)
     at others false other is' = omega (arith, others is', unless-append f.0 folder folders (price f))
 
--- what all files cost is never less
-pub unopened-all : (price : Price) (files : Files) (folders : List (List ℕ)) → unopened price files folders ≤ unopened price files []
-unopened-all price [] folders = omega arith
-unopened-all price (f ∷ fs) folders = omega (arith, unless-or false (is_opened folders f.0) (price f), unopened-all price fs folders)
-
 -- ---- runs whose result has a price of its own
 
 abbrev pub paid : {A : Type 0} → (A → ℕ) → Run A → ℕ

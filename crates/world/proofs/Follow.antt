@@ -177,10 +177,6 @@ pub given_as : {A B : Type 0} (view : B → A) (run : Run A) (x : B) (d : A) (w 
     → run ≡ pure d w → view x ≡ d → Gives view run (Ok x) w old old
 given_as view run x d w old is e = ended_later view x d w old e (same_run is old)
 
-pub wanted_as : {A B : Type 0} (view : B → A) (run : Run A) (w : World) (old : Seen) (result : Result B Stop)
-    → IsErrAnd result (λ e. e ≡ stops.Memory) → Gives view run result w old old
-wanted_as view run w old result is = wanted_later view w old result (begun run old) is
-
 -- a device failed, after a beginning
 pub device_stops : {A B : Type 0} (view : B → A) (r : Run A) (w : World) (old new : Seen) (result : Result B Stop) → IsErrAnd result (λ e. e ≡ stops.Device)
     → Begins (marks_of r) old new → Gives view r result w old new

@@ -1,6 +1,6 @@
 -- Texts as lists of their bytes, and lists of texts.
 pub use Rattle.basics.specs.Texts.{texts}
-use Rattle.std.specs.Prelude.{ℕ, ◌+◌, Bool, List, [], ◌∷◌, ◌++◌, bytes_eq, if◌then◌else◌}
+use Rattle.std.specs.Prelude.{ℕ, Bool, List, [], ◌∷◌, ◌++◌, bytes_eq, if◌then◌else◌}
 use Rattle.std.specs.List.{list_any}
 
 abbrev pub Text : Type 0
