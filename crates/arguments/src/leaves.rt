@@ -6,7 +6,7 @@ ghost use Rattle.arguments.specs.Leaves.{leaves_from, leaves_named};
 
 use crate::arguments::Arguments;
 use crate::given::behind;
-use data::{Value, opened, opened_all};
+use data::{Value, open_all, open_up};
 use std::alloc::{AllocError, Global};
 
 impl Arguments {
@@ -15,7 +15,7 @@ impl Arguments {
         ensures { IfOk result (λ found. map (λ v. data_of v.now) found.items ≡ leaves_named name.now (arguments_data self.now)) }
     {
         match self.keyword(name) {
-            Some(value) => opened(alloc, value),
+            Some(value) => open_up(alloc, value),
             None => Ok(Vec::new(alloc)),
         }
     }
@@ -24,6 +24,6 @@ impl Arguments {
     pub fn leaves_behind(&self, alloc: Global, place: usize) -> Result<Vec<&Value>, AllocError>
         ensures { IfOk result (λ found. map (λ v. data_of v.now) found.items ≡ leaves_from place (arguments_data self.now)) }
     {
-        opened_all(alloc, behind(&self.positional, place))
+        open_all(alloc, behind(&self.positional, place))
     }
 }

@@ -89,7 +89,7 @@ impl<'a> Misfit<'a> {
     }
 
     /// What a call is refused as that has it.
-    pub fn refused(&self, alloc: Global) -> Result<Refused, AllocError>
+    pub fn refuse(&self, alloc: Global) -> Result<Refused, AllocError>
         ensures { IfOk result (λ refused. refused_data refused ≡ refused_as (misfit_data self.now)) }
     {
         let refusal = self.refusal();

@@ -78,7 +78,7 @@ fn at_place(place: usize, kind: Option<Kind>, value: &Value) -> Option<Misfit<'_
 }
 
 // The first positional argument that is not what the row says.
-fn misplaced<'a>(row: &Row, values: &'a [Value]) -> Option<Misfit<'a>>
+fn find_misplaced<'a>(row: &Row, values: &'a [Value]) -> Option<Misfit<'a>>
     ensures { option_map misfit_data result ≡ misplaced (row_data row.now) 0 (map data_of values.now) }
 {
     for (i, value) in values.iter().enumerate() {
@@ -114,7 +114,7 @@ fn of_keyword<'a>(name: &'a str, kind: Option<Kind>, value: &'a Value) -> Option
 }
 
 // The first keyword that is not what the row says.
-fn misnamed<'a>(lists: &[&[Keyword]], named: &'a [Named]) -> Option<Misfit<'a>>
+fn find_misnamed<'a>(lists: &[&[Keyword]], named: &'a [Named]) -> Option<Misfit<'a>>
     ensures { option_map misfit_data result
         ≡ misnamed (flat_map (λ ks. map keyword_data ks.now) lists.now) (map named_data named.now) }
 {
@@ -217,7 +217,7 @@ fn is_common_left_out(name: &str) -> bool
 }
 
 // The first keyword that is left out.
-fn left_out<'a>(names: &[&str], named: &'a [Named]) -> Option<Misfit<'a>>
+fn find_left_out<'a>(names: &[&str], named: &'a [Named]) -> Option<Misfit<'a>>
     ensures { option_map misfit_data result ≡ left_out (map (λ n. n.now) names.now) (map named_data named.now) }
 {
     for one in named {
@@ -243,16 +243,16 @@ fn too_few<'a>(needed: usize, given: usize) -> Option<Misfit<'a>>
 fn unfit<'a>(row: &Row, arguments: &'a Arguments) -> Option<Misfit<'a>>
     ensures { option_map misfit_data result ≡ unfit (row_data row.now) (arguments_data arguments.now) }
 {
-    if let Some(misfit) = left_out(row.left_out, &arguments.named) {
+    if let Some(misfit) = find_left_out(row.left_out, &arguments.named) {
         return Some(misfit);
     }
     if let Some(misfit) = too_few(row.needed, arguments.positional.len()) {
         return Some(misfit);
     }
-    if let Some(misfit) = misplaced(row, &arguments.positional) {
+    if let Some(misfit) = find_misplaced(row, &arguments.positional) {
         return Some(misfit);
     }
-    if let Some(misfit) = misnamed(row.keywords, &arguments.named) {
+    if let Some(misfit) = find_misnamed(row.keywords, &arguments.named) {
         return Some(misfit);
     }
     missing(row.keywords, &arguments.named)
@@ -282,7 +282,7 @@ pub fn check(
     ensures { IfOk result (λ r. answer_data r ≡ checked (row_data row.now) (arguments_data arguments.now)) }
 {
     match misfit(alloc, row, arguments)? {
-        Some(misfit) => Ok(Err(misfit.refused(alloc)?)),
+        Some(misfit) => Ok(Err(misfit.refuse(alloc)?)),
         None => Ok(Ok(())),
     }
 }

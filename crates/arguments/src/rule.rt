@@ -141,7 +141,7 @@ impl Rule {
     }
 
     /// That this text breaks the rule, or the keyword of this name: `'../a.c': names no file of the project`.
-    pub fn broken(self, alloc: Global, text: &str) -> Result<String, AllocError>
+    pub fn tell_breach(self, alloc: Global, text: &str) -> Result<String, AllocError>
         ensures { IfOk result (λ words. string_bytes words ≡ broken self text.now) }
     {
         let (thing, words) = (self.thing(), self.words());
@@ -149,10 +149,10 @@ impl Rule {
     }
 
     /// The refusal of arguments of which this text breaks the rule, or the keyword of this name.
-    pub fn refused(self, alloc: Global, text: &str) -> Result<Refused, AllocError>
+    pub fn refuse(self, alloc: Global, text: &str) -> Result<Refused, AllocError>
         ensures { IfOk result (λ refused. refused_data refused ≡ breaks self text.now) }
     {
-        let detail = self.broken(alloc, text)?;
+        let detail = self.tell_breach(alloc, text)?;
         Ok(Refused {
             refusal: Refusal::Arguments,
             detail,

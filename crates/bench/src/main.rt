@@ -48,18 +48,18 @@ fn report_all(rt: &HostRuntime) -> Result<(), Stop> {
 fn report(rt: &HostRuntime, word: &str) -> Result<(), Stop> {
     let (group, rest) = word.split_once(':').ok_or(USAGE)?;
     let (measure, of) = rest.split_once(':').ok_or(USAGE)?;
-    let Measured { made, taken } = measured_in(rt, group, measure, of)?;
+    let Measured { made, taken } = measure_in(rt, group, measure, of)?;
     println!(rt; "{measure} {made}")?;
     eprintln!(rt; "{}", taken.as_nanos())?;
     Ok(())
 }
 
-fn measured_in(rt: &HostRuntime, group: &str, measure: &str, of: &str) -> Result<Measured, Stop> {
+fn measure_in(rt: &HostRuntime, group: &str, measure: &str, of: &str) -> Result<Measured, Stop> {
     match group {
-        "syntax" => syntax_measures::measured(rt, measure, of),
-        "values" => value_measures::measured(rt, measure, of),
-        "options" => option_measures::measured(rt, measure, of),
-        "template" => template_measures::measured(rt, measure, of),
+        "syntax" => syntax_measures::measure(rt, measure, of),
+        "values" => value_measures::measure(rt, measure, of),
+        "options" => option_measures::measure(rt, measure, of),
+        "template" => template_measures::measure(rt, measure, of),
         _ => Err(Stop("the groups are syntax, values, options and template")),
     }
 }

@@ -23,7 +23,7 @@ use std::time::Instant;
 const WALKS: usize = 100;
 
 /// Makes so many items, and carries out the calls of this measure on them.
-pub fn measured(rt: &HostRuntime, measure: &str, of: &str) -> Result<Measured, Stop> {
+pub fn measure(rt: &HostRuntime, measure: &str, of: &str) -> Result<Measured, Stop> {
     let count = count_of(of)?;
     match measure {
         "declare" => measure_declare(rt, count),
@@ -40,7 +40,7 @@ pub fn measured(rt: &HostRuntime, measure: &str, of: &str) -> Result<Measured, S
 }
 
 // What the statements of an option file declare, where none is refused.
-fn declared(alloc: Global, file: &File<'_>) -> Result<Declared, Stop> {
+fn declare_all(alloc: Global, file: &File<'_>) -> Result<Declared, Stop> {
     match declare(alloc, file)? {
         Ok(declared) => Ok(declared),
         Err(_) => Err(Stop("an option is refused")),
@@ -51,7 +51,7 @@ fn declared(alloc: Global, file: &File<'_>) -> Result<Declared, Stop> {
 fn options_declared(alloc: Global, count: usize) -> Result<Declared, Stop> {
     let source = option_file(alloc, count)?;
     let file = tree(alloc, source.as_str())?;
-    declared(alloc, &file)
+    declare_all(alloc, &file)
 }
 
 fn machine_of(alloc: Global, text: &str) -> Result<Machine, Stop> {
@@ -82,7 +82,7 @@ fn measure_declare(rt: &HostRuntime, count: usize) -> Result<Measured, Stop> {
     let source = option_file(alloc, count)?;
     let file = tree(alloc, source.as_str())?;
     let start = Instant::now(rt)?;
-    let declared = declared(alloc, &file)?;
+    let declared = declare_all(alloc, &file)?;
     Measured::since(rt, start, declared.len())
 }
 
@@ -133,7 +133,7 @@ fn measure_choices(rt: &HostRuntime, count: usize) -> Result<Measured, Stop> {
     let word = all_choices(alloc, count)?;
     let start = Instant::now(rt)?;
     let file = tree(alloc, source.as_str())?;
-    let declared = declared(alloc, &file)?;
+    let declared = declare_all(alloc, &file)?;
     let machine = Machine::empty(alloc);
     let options = options_of(resolve(alloc, &declared, &[], &machine, &[word])?)?;
     let made = item_count(&options, "array");

@@ -19,7 +19,7 @@ pub fn tree(alloc: Global, source: &str) -> Result<File<'_>, Stop> {
 }
 
 /// How many statements this file has, by the one measure `statements`.
-pub fn measured(rt: &HostRuntime, measure: &str, file: &str) -> Result<Measured, Stop> {
+pub fn measure(rt: &HostRuntime, measure: &str, file: &str) -> Result<Measured, Stop> {
     if measure != "statements" {
         return Err(Stop("the measure of syntax is statements"));
     }

@@ -46,7 +46,7 @@ fn read_settings(alloc: Global, settings: &str) -> Result<ConfigData, SetStop> {
 }
 
 /// Writes one template of the folder, whose names stand for the texts of these settings.
-pub fn measured(rt: &HostRuntime, template: &str, settings: &str) -> Result<Measured, Stop> {
+pub fn measure(rt: &HostRuntime, template: &str, settings: &str) -> Result<Measured, Stop> {
     let alloc = rt.alloc();
     let config = read_settings(alloc, settings)?;
     let output = format!(in alloc; "{template}.out")?;

@@ -15,21 +15,21 @@ use std::alloc::Global;
 use std::time::Instant;
 
 /// Carries out the operations of this measure, and what they need, so many times.
-pub fn measured(rt: &HostRuntime, measure: &str, of: &str) -> Result<Measured, Stop> {
+pub fn measure(rt: &HostRuntime, measure: &str, of: &str) -> Result<Measured, Stop> {
     let count = count_of(of)?;
     let start = Instant::now(rt)?;
-    let made = made(rt.alloc(), measure, count)?;
+    let made = make(rt.alloc(), measure, count)?;
     Measured::since(rt, start, made)
 }
 
 // The size of what so many operations make.
-fn made(alloc: Global, measure: &str, count: usize) -> Result<usize, Stop> {
+fn make(alloc: Global, measure: &str, count: usize) -> Result<usize, Stop> {
     match measure {
         "append" => append(alloc, count),
         "characters" => characters(alloc, count),
         "double" => double(alloc, count),
         "entries" => entries(alloc, count),
-        "replaced" => replaced(alloc, count),
+        "replaced" => replace(alloc, count),
         "lookups" => lookups(alloc, count),
         "format" => format_places(alloc, count, "word"),
         "unused" => format_unused(alloc, count),
@@ -39,7 +39,7 @@ fn made(alloc: Global, measure: &str, count: usize) -> Result<usize, Stop> {
 }
 
 // The value of an operation that is not refused.
-fn given<E: Drop>(answer: Result<Value, E>) -> Result<Value, Stop> {
+fn read_given<E: Drop>(answer: Result<Value, E>) -> Result<Value, Stop> {
     match answer {
         Ok(value) => Ok(value),
         Err(_) => Err(Stop("an operation is refused")),
@@ -47,16 +47,16 @@ fn given<E: Drop>(answer: Result<Value, E>) -> Result<Value, Stop> {
 }
 
 // What the method with a name gives.
-fn called(alloc: Global, receiver: &Value, name: &str, values: &[Value]) -> Result<Value, Stop> {
+fn call(alloc: Global, receiver: &Value, name: &str, values: &[Value]) -> Result<Value, Stop> {
     let Ok(name) = Text::of_str(alloc, name)? else {
         return Err(Stop("the name of a method is too long"));
     };
     let name = MethodName::new(name);
-    given(method(alloc, receiver, &name, values)?)
+    read_given(method(alloc, receiver, &name, values)?)
 }
 
 fn text(alloc: Global, string: String) -> Result<Value, Stop> {
-    given(Value::of_string(alloc, string)?)
+    read_given(Value::of_string(alloc, string)?)
 }
 
 // How many items a list has, entries a dictionary or bytes a text.
@@ -72,7 +72,7 @@ fn size(value: &Value) -> usize {
 fn append(alloc: Global, count: usize) -> Result<usize, Stop> {
     let mut list = Value::of_list(alloc, List::new(alloc))?;
     for _ in 0..count {
-        list = given(binary(alloc, Binary::Add, list, Value::Integer(7))?)?;
+        list = read_given(binary(alloc, Binary::Add, list, Value::Integer(7))?)?;
     }
     Ok(size(&list))
 }
@@ -81,7 +81,7 @@ fn characters(alloc: Global, count: usize) -> Result<usize, Stop> {
     let mut grown = text(alloc, String::new(alloc))?;
     let character = text(alloc, String::from_str(alloc, "a")?)?;
     for _ in 0..count {
-        grown = given(binary(alloc, Binary::Add, grown, character.clone()?)?)?;
+        grown = read_given(binary(alloc, Binary::Add, grown, character.clone()?)?)?;
     }
     Ok(size(&grown))
 }
@@ -91,7 +91,7 @@ fn double(alloc: Global, bytes: usize) -> Result<usize, Stop> {
     for _ in 0..24 {
         if size(&grown) < bytes {
             let same = grown.clone()?;
-            grown = given(binary(alloc, Binary::Add, grown, same)?)?;
+            grown = read_given(binary(alloc, Binary::Add, grown, same)?)?;
         }
     }
     Ok(size(&grown))
@@ -102,7 +102,7 @@ fn key(alloc: Global, number: usize) -> Result<Value, Stop> {
 }
 
 fn empty_table(alloc: Global) -> Result<Value, Stop> {
-    given(dictionary(alloc, Vec::new(alloc))?)
+    read_given(dictionary(alloc, Vec::new(alloc))?)
 }
 
 // A dictionary with so many entries put in one by one.
@@ -110,8 +110,8 @@ fn put_each(alloc: Global, table: Value, count: usize) -> Result<Value, Stop> {
     let mut table = table;
     for i in 0..count {
         let pair = (key(alloc, i)?, Value::Integer(7));
-        let entry = given(dictionary(alloc, vec![in alloc; pair]?)?)?;
-        table = given(binary(alloc, Binary::Add, table, entry)?)?;
+        let entry = read_given(dictionary(alloc, vec![in alloc; pair]?)?)?;
+        table = read_given(binary(alloc, Binary::Add, table, entry)?)?;
     }
     Ok(table)
 }
@@ -120,7 +120,7 @@ fn entries(alloc: Global, count: usize) -> Result<usize, Stop> {
     Ok(size(&put_each(alloc, empty_table(alloc)?, count)?))
 }
 
-fn replaced(alloc: Global, count: usize) -> Result<usize, Stop> {
+fn replace(alloc: Global, count: usize) -> Result<usize, Stop> {
     let table = put_each(alloc, empty_table(alloc)?, count)?;
     Ok(size(&put_each(alloc, table, count)?))
 }
@@ -128,13 +128,13 @@ fn replaced(alloc: Global, count: usize) -> Result<usize, Stop> {
 fn lookups(alloc: Global, count: usize) -> Result<usize, Stop> {
     let table = put_each(alloc, empty_table(alloc)?, count)?;
     for i in 0..count {
-        let _value = given(index(alloc, &table, &key(alloc, i)?)?)?;
+        let _value = read_given(index(alloc, &table, &key(alloc, i)?)?)?;
     }
     Ok(size(&table))
 }
 
 // One piece again and again.
-fn repeated(alloc: Global, piece: &str, count: usize) -> Result<String, Stop> {
+fn repeat(alloc: Global, piece: &str, count: usize) -> Result<String, Stop> {
     let mut text = String::new(alloc);
     for _ in 0..count {
         text.push_str(piece)?;
@@ -143,18 +143,18 @@ fn repeated(alloc: Global, piece: &str, count: usize) -> Result<String, Stop> {
 }
 
 fn format_places(alloc: Global, count: usize, unused: &str) -> Result<usize, Stop> {
-    let places = text(alloc, repeated(alloc, "@0@ @1@ ", count / 2)?)?;
+    let places = text(alloc, repeat(alloc, "@0@ @1@ ", count / 2)?)?;
     let values = vec![in alloc;
         Value::Integer(7),
         text(alloc, String::from_str(alloc, "word")?)?,
         text(alloc, String::from_str(alloc, unused)?)?,
     ]?;
-    let formatted = called(alloc, &places, "format", &values)?;
+    let formatted = call(alloc, &places, "format", &values)?;
     Ok(size(&formatted))
 }
 
 fn format_unused(alloc: Global, count: usize) -> Result<usize, Stop> {
-    let unused = repeated(alloc, "word", count)?;
+    let unused = repeat(alloc, "word", count)?;
     format_places(alloc, count, unused.as_str())
 }
 
@@ -164,6 +164,6 @@ fn join(alloc: Global, count: usize) -> Result<usize, Stop> {
     for i in 0..count {
         words.push(key(alloc, i)?)?;
     }
-    let joined = called(alloc, &separator, "join", &words)?;
+    let joined = call(alloc, &separator, "join", &words)?;
     Ok(size(&joined))
 }

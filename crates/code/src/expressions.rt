@@ -57,7 +57,7 @@ impl Draft {
         ensures stands { IfOk result (λ number. Stands (trees_in self.new) number (expression_of expression.now)) }
     {
         match expression {
-            Expression::Name { name, line } => self.named(name, *line),
+            Expression::Name { name, line } => self.add_name(name, *line),
             Expression::Literal {
                 literal,
                 text,
@@ -91,7 +91,7 @@ impl Draft {
     }
 
     // A name.
-    fn named(&mut self, name: &str, line: usize) -> Result<usize, AllocError>
+    fn add_name(&mut self, name: &str, line: usize) -> Result<usize, AllocError>
         ensures grows { Grows self.old self.new }
         ensures stands { IfOk result (λ number. Stands (trees_in self.new) number (NameTree name.now line)) }
     {

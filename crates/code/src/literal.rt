@@ -87,7 +87,7 @@ fn short(literal: Literal, text: &str) -> Option<Short>
 }
 
 // The text of a string, where it is not too long.
-fn decoded(alloc: Global, literal: Literal, text: &str) -> Result<Option<Box<Text>>, AllocError>
+fn decode(alloc: Global, literal: Literal, text: &str) -> Result<Option<Box<Text>>, AllocError>
     ensures { IfOk result (λ o. ForSome o (λ t. t.value ≡ text_of (kind_of literal) text.now)) }
 {
     let kind = kind_of(literal);
@@ -139,7 +139,7 @@ fn plain(alloc: Global, literal: Literal, text: &str) -> Result<Meaning, AllocEr
     if let Some(short) = short(literal, text) {
         return Ok(Meaning::Short(short));
     }
-    match decoded(alloc, literal, text)? {
+    match decode(alloc, literal, text)? {
         Some(decoded) => Ok(Meaning::Text(decoded)),
         None => unread(alloc, literal, text),
     }

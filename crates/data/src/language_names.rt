@@ -13,7 +13,7 @@ mod value_methods;
 
 pub use functions::{Function, FunctionName, ProjectFunction};
 pub use method_name::MethodName;
-pub use names::{is_left_out, is_name, is_predefined, predefined};
+pub use names::{is_left_out, is_name, is_predefined, predefined_value};
 pub use object_methods::{
     CompilerMethod, ConfigurationMethod, DependencyMethod, FeatureMethod, MachineMethod,
     MesonMethod, ProgramMethod, TargetMethod,

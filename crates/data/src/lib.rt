@@ -28,7 +28,7 @@ pub use equal::{equal_objects, is_equal};
 pub use flat_texts::{are_texts, flat, flat_all, is_texts};
 pub use laws::values_have_few_items;
 pub use object::{Dependency, Feature, Numbers, Object, Program, Source, Sources};
-pub use opening::{opened, opened_all, opened_count};
+pub use opening::{open_all, open_up, opened_count};
 pub use refusal::Refusal;
 pub use short::Short;
 pub use text::{Text, Texts};

@@ -35,7 +35,7 @@ fn open_items<'v>(found: &mut Vec<&'v Value>, items: &'v [Value]) -> Result<(), 
 }
 
 /// What a value is with all its lists opened: itself where it is no list.
-pub fn opened(alloc: Global, value: &Value) -> Result<Vec<&Value>, AllocError>
+pub fn open_up(alloc: Global, value: &Value) -> Result<Vec<&Value>, AllocError>
     ensures { IfOk result (λ found. map (λ v. data_of v.now) found.items ≡ opened (data_of value.now)) }
 {
     let mut found = Vec::new(alloc);
@@ -44,7 +44,7 @@ pub fn opened(alloc: Global, value: &Value) -> Result<Vec<&Value>, AllocError>
 }
 
 /// What some values are with all their lists opened, in order, so that none of them is a list.
-pub fn opened_all(alloc: Global, values: &[Value]) -> Result<Vec<&Value>, AllocError>
+pub fn open_all(alloc: Global, values: &[Value]) -> Result<Vec<&Value>, AllocError>
     ensures { IfOk result (λ found. map (λ v. data_of v.now) found.items ≡ opened_all (map data_of values.now)) }
 {
     let mut found = Vec::new(alloc);

@@ -56,7 +56,7 @@ fn an_edge_with_blanks_and_quotes(rt: HostRuntime) -> Result<(), Fail> {
     let edges = [edge];
     assert!(rt; are_writable(&edges));
     let mut text = Vec::new(alloc);
-    push_edge(&mut text, &edges[0].lent())?;
+    push_edge(&mut text, &edges[0].lend())?;
     assert_eq!(rt;
         text.as_slice(),
         b"build q.p/a$ b$:c$$.c.o: c_compile ../a$ b$:c$$.c | i || o

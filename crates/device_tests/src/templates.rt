@@ -49,7 +49,7 @@ impl Plan {
 
 // What outputs took: the bytes of the files as they stand, `<name>` and `</>` where one was begun and ended, and a stretch of the log
 // between `{` and `}`, of which the `}` stands where something else follows.
-fn shown(alloc: Global, out: &MemOutputs) -> Result<Vec<u8>, AllocError> {
+fn show(alloc: Global, out: &MemOutputs) -> Result<Vec<u8>, AllocError> {
     let mut shown = Vec::new(alloc);
     let mut in_log = false;
     for i in 0..out.event_count() {
@@ -139,12 +139,12 @@ fn ran(alloc: Global, plan: Plan) -> Result<Outcome, Fail> {
     );
     let mut line = line_room(alloc)?;
     let stop = write_three(&mut tree, &config, line.as_mut_slice(), &mut out).err();
-    let shown = shown(alloc, &out)?;
-    Ok(judged(plan.fails.0, stop, shown.as_slice()))
+    let shown = show(alloc, &out)?;
+    Ok(judge(plan.fails.0, stop, shown.as_slice()))
 }
 
 // What a call of the outputs took before it failed is less than all; a call of the tree may fail behind the last byte that is written.
-fn judged(device: Device, stop: Option<PassStop>, shown: &[u8]) -> Outcome {
+fn judge(device: Device, stop: Option<PassStop>, shown: &[u8]) -> Outcome {
     let is_begun = WRITTEN.as_bytes().starts_with(shown);
     let is_whole = is_begun && shown.len() == WRITTEN.len();
     if is_whole && stop == Some(PassStop::Template(3)) {
@@ -247,7 +247,11 @@ impl Tree for OddTree {
 }
 
 // Passes the odd file, and says how that ended and how many bytes it wrote.
-fn passed(alloc: Global, size: Option<u64>, bytes: u64) -> Result<(Option<PassStop>, usize), Fail> {
+fn pass_odd(
+    alloc: Global,
+    size: Option<u64>,
+    bytes: u64,
+) -> Result<(Option<PassStop>, usize), Fail> {
     let config = ConfigData::new(alloc);
     let mut line = line_room(alloc)?;
     let mut tree = OddTree { size, bytes };
@@ -269,7 +273,7 @@ fn files_end_before_or_behind_their_size(rt: HostRuntime) -> Result<(), Fail> {
         (Some(65_540), 65_537, Some(PassStop::Limit(1)), 0),
     ] {
         assert_eq!(rt;
-            passed(rt.alloc(), size, bytes)?,
+            pass_odd(rt.alloc(), size, bytes)?,
             (stop, written),
             "{size:?} {bytes}"
         );

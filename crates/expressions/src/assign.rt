@@ -58,7 +58,7 @@ impl<'a, T: Tree, O: Outputs, L: Ledger> Context<'a, T, O, L> {
 
     // A copy of configuration data.
     #[cold]
-    fn copied(&mut self, number: usize) -> Result<Value, Stop>
+    fn copy_data(&mut self, number: usize) -> Result<Value, Stop>
         requires room { HasRoom T.seen O.seen self.old }
         ensures same { Same self.old self.new }
         ensures device { Fails T.seen O.seen self.old result self.new }
@@ -77,7 +77,7 @@ impl<'a, T: Tree, O: Outputs, L: Ledger> Context<'a, T, O, L> {
         ensures gives { Answers T.seen O.seen data_of (own (data_of value)) self.old result self.new }
     {
         match configuration_in(&value) {
-            Some(number) => Ok(self.copied(number)?),
+            Some(number) => Ok(self.copy_data(number)?),
             None => Ok(value),
         }
     }
@@ -90,7 +90,7 @@ impl<'a, T: Tree, O: Outputs, L: Ledger> Context<'a, T, O, L> {
         ensures quiet { (n : ℕ) → failures_after n result ≡ n }
     {
         let name = self.store.name(number);
-        let detail = Rule::IsSettable.broken(self.alloc, name)?;
+        let detail = Rule::IsSettable.tell_breach(self.alloc, name)?;
         self.refuse(line, Refusal::Arguments, detail.as_str())
     }
 
@@ -187,7 +187,7 @@ impl<'a, T: Tree, O: Outputs, L: Ledger> Context<'a, T, O, L> {
         let taken = self.store.take(number);
         match taken {
             Some(left) => self.sum(line, number, left, right),
-            None => self.unknown(line, number),
+            None => self.refuse_unknown(line, number),
         }
     }
 
@@ -202,7 +202,7 @@ impl<'a, T: Tree, O: Outputs, L: Ledger> Context<'a, T, O, L> {
     }
 
     // Refuses the name of a number, whose variable has no value.
-    fn unknown(&self, line: usize, number: usize) -> Result<(), Stop>
+    fn refuse_unknown(&self, line: usize, number: usize) -> Result<(), Stop>
         ensures refuses { number < length self.now.store.now.names → Refuses (fault_on self.now line Refusal.UndefinedName
             (name_at self.now.store.now.names number)) result }
         ensures quiet { (n : ℕ) → failures_after n result ≡ n }
@@ -232,7 +232,7 @@ impl<'a, T: Tree, O: Outputs, L: Ledger> Context<'a, T, O, L> {
             (added line (name_at self.old.store.now.names number) (data_of left) (data_of right)) self.old result self.new }
     {
         let answer = binary(self.alloc, Binary::Add, left, right)?;
-        let sum = self.answered(line, answer)?;
+        let sum = self.answer(line, answer)?;
         self.assign(line, number, sum)
     }
 }

@@ -63,7 +63,7 @@ impl<'a, T: Tree, O: Outputs, L: Ledger> Context<'a, T, O, L> {
     }
 
     /// Refuses what is left out by this name.
-    pub fn left_out<A>(&self, line: usize, name: &str) -> Result<A, Stop>
+    pub fn refuse_left_out<A>(&self, line: usize, name: &str) -> Result<A, Stop>
         ensures { Refuses (fault_on self.now line Refusal.LeftOut name.now) result }
     {
         self.refuse(line, Refusal::LeftOut, name)
@@ -71,7 +71,7 @@ impl<'a, T: Tree, O: Outputs, L: Ledger> Context<'a, T, O, L> {
 
     /// What an operation answered, or the stop of its refusal.
     #[inline(always)]
-    pub fn answered(&self, line: usize, answer: Result<Value, data::Refusal>) -> Result<Value, Stop>
+    pub fn answer(&self, line: usize, answer: Result<Value, data::Refusal>) -> Result<Value, Stop>
         ensures gives { (given : Result Data OperationRefusal) → AnswersSo given answer
             → Answers T.seen O.seen data_of (answered line given) self.now result self.now }
         ensures quiet { (n : ℕ) → failures_after n result ≡ n }
@@ -84,7 +84,7 @@ impl<'a, T: Tree, O: Outputs, L: Ledger> Context<'a, T, O, L> {
 
     /// What a call gave, where it gave a value.
     #[inline(always)]
-    pub fn needed(&self, line: usize, answer: Option<Value>) -> Result<Value, Stop>
+    pub fn need(&self, line: usize, answer: Option<Value>) -> Result<Value, Stop>
         ensures gives { Answers T.seen O.seen data_of (needed line (option_map data_of answer)) self.now result self.now }
         ensures quiet { (n : ℕ) → failures_after n result ≡ n }
     {
@@ -95,7 +95,7 @@ impl<'a, T: Tree, O: Outputs, L: Ledger> Context<'a, T, O, L> {
     }
 
     /// What a ternary gives whose condition is no boolean: a disabler, where it is one.
-    pub fn unchosen(&self, line: usize, value: Value) -> Result<Value, Stop>
+    pub fn refuse_choice(&self, line: usize, value: Value) -> Result<Value, Stop>
         ensures gives { Answers T.seen O.seen data_of (unchosen line (is_disabler (data_of value))) self.now result self.now }
         ensures quiet { (n : ℕ) → failures_after n result ≡ n }
     {
@@ -107,7 +107,7 @@ impl<'a, T: Tree, O: Outputs, L: Ledger> Context<'a, T, O, L> {
     }
 
     /// What a test of arguments answered, or the stop of its refusal, with what that is about.
-    pub fn fitted(&self, line: usize, answer: Result<(), Refused>) -> Result<(), Stop>
+    pub fn fit(&self, line: usize, answer: Result<(), Refused>) -> Result<(), Stop>
         ensures gives { Answers T.seen O.seen (λ u. u) (fitted line (answer_data answer)) self.now result self.now }
         ensures quiet { (n : ℕ) → failures_after n result ≡ n }
     {

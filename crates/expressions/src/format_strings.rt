@@ -74,7 +74,7 @@ impl<'a, T: Tree, O: Outputs, L: Ledger> Context<'a, T, O, L> {
     ghost use Rattle.expressions.specs.Contexts.{Answers};
 
     /// The value of an f-string of these parts: what its variables are printed as stands in their places.
-    pub fn filled(&self, line: usize, parts: &[Part]) -> Result<Value, Stop>
+    pub fn fill(&self, line: usize, parts: &[Part]) -> Result<Value, Stop>
         ensures gives { Answers T.seen O.seen data_of (filled line [] (map part_data parts.now)) self.now result self.now }
         ensures quiet { (n : ℕ) → failures_after n result ≡ n }
     {
@@ -90,6 +90,6 @@ impl<'a, T: Tree, O: Outputs, L: Ledger> Context<'a, T, O, L> {
                 }
             }
         }
-        self.answered(line, text_value(made))
+        self.answer(line, text_value(made))
     }
 }

@@ -20,12 +20,12 @@ impl<'a, T: Tree, O: Outputs, L: Ledger> Context<'a, T, O, L> {
     ghost use Rattle.expressions.specs.Contexts.{Answers, fault_on};
 
     /// `[first, second]`
-    pub fn listed(&self, line: usize, values: Vec<Value>) -> Result<Value, Stop>
+    pub fn list(&self, line: usize, values: Vec<Value>) -> Result<Value, Stop>
         ensures gives { Answers T.seen O.seen data_of (listed line (items_of values.items)) self.now result self.now }
         ensures quiet { (n : ℕ) → failures_after n result ≡ n }
     {
         let answer = list(self.alloc, values)?;
-        self.answered(line, answer)
+        self.answer(line, answer)
     }
 
     // Refuses a key of a dictionary that stands before it already.
@@ -37,7 +37,7 @@ impl<'a, T: Tree, O: Outputs, L: Ledger> Context<'a, T, O, L> {
     }
 
     /// `{key : value, key : value}`
-    pub fn paired(&self, line: usize, pairs: Vec<(Value, Value)>) -> Result<Value, Stop>
+    pub fn pair(&self, line: usize, pairs: Vec<(Value, Value)>) -> Result<Value, Stop>
         ensures gives { Answers T.seen O.seen data_of (paired line (pairs_of pairs.items)) self.now result self.now }
         ensures quiet { (n : ℕ) → failures_after n result ≡ n }
     {
@@ -51,12 +51,12 @@ impl<'a, T: Tree, O: Outputs, L: Ledger> Context<'a, T, O, L> {
     }
 
     /// `not value` or `-value`
-    pub fn prefixed(&self, line: usize, prefix: Prefix, value: Value) -> Result<Value, Stop>
+    pub fn prefix(&self, line: usize, prefix: Prefix, value: Value) -> Result<Value, Stop>
         ensures gives { Answers T.seen O.seen data_of (prefixed line prefix (data_of value)) self.now result self.now }
         ensures quiet { (n : ℕ) → failures_after n result ≡ n }
     {
         let answer = unary(unary_of(prefix), value);
-        self.answered(line, answer)
+        self.answer(line, answer)
     }
 
     /// `whole[at]`
@@ -66,6 +66,6 @@ impl<'a, T: Tree, O: Outputs, L: Ledger> Context<'a, T, O, L> {
         ensures quiet { (n : ℕ) → failures_after n result ≡ n }
     {
         let answer = index(self.alloc, whole, at)?;
-        Ok(Some(self.answered(line, answer)?))
+        Ok(Some(self.answer(line, answer)?))
     }
 }

@@ -50,7 +50,7 @@ fn short_text(short: &Short) -> Value
 }
 
 // The value of a text, shared.
-fn shared(string: &Text) -> Result<Value, AllocError>
+fn share(string: &Text) -> Result<Value, AllocError>
     ensures { IfOk result (λ v. within (text string.now) ≡ Ok (data_of v)) }
 {
     let _within = string.as_str();
@@ -61,13 +61,13 @@ impl<'a, T: Tree, O: Outputs, L: Ledger> Context<'a, T, O, L> {
     ghost use Rattle.expressions.specs.Contexts.{Answers};
 
     // The text of a string of this kind.
-    fn decoded(&self, line: usize, kind: Kind, slice: &str) -> Result<Value, Stop>
+    fn decode(&self, line: usize, kind: Kind, slice: &str) -> Result<Value, Stop>
         ensures gives { Answers T.seen O.seen data_of (answered line (within (text (text_of kind slice.now)))) self.now result self.now }
         ensures quiet { (n : ℕ) → failures_after n result ≡ n }
     {
         let string = text_of_slice(self.alloc, kind, slice)?;
         let answer = Value::of_string(self.alloc, string)?;
-        self.answered(line, answer)
+        self.answer(line, answer)
     }
 
     // The value of a literal that is no f-string and stands so in the source.
@@ -80,9 +80,9 @@ impl<'a, T: Tree, O: Outputs, L: Ledger> Context<'a, T, O, L> {
         match literal {
             Literal::True => Ok(Value::Boolean(true)),
             Literal::False => Ok(Value::Boolean(false)),
-            Literal::Number => self.answered(line, number(text)),
-            Literal::String => self.decoded(line, Kind::String, text),
-            Literal::RawString => self.decoded(line, Kind::RawString, text),
+            Literal::Number => self.answer(line, number(text)),
+            Literal::String => self.decode(line, Kind::String, text),
+            Literal::RawString => self.decode(line, Kind::RawString, text),
             Literal::FormatString | Literal::RawFormatString => unreachable!(),
         }
     }
@@ -114,11 +114,11 @@ impl<'a, T: Tree, O: Outputs, L: Ledger> Context<'a, T, O, L> {
             Meaning::Short(text) => Ok(short_text(text)),
             Meaning::Text(text) => {
                 let text: &Text = text;
-                Ok(shared(text)?)
+                Ok(share(text)?)
             }
             Meaning::Format(format) => {
                 let format: &FormatString = format;
-                Ok(self.filled(line, &format.parts)?)
+                Ok(self.fill(line, &format.parts)?)
             }
             Meaning::Source(text) => Ok(self.unread(line, node.literal, text.as_str())?),
         }

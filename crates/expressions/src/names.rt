@@ -12,7 +12,7 @@ use crate::details::method_detail;
 use arguments::{Arguments, any_values, check};
 use basics::faults::Refusal;
 use data::language_names::{
-    Function, FunctionName, MethodName, is_left_out, is_predefined, predefined,
+    Function, FunctionName, MethodName, is_left_out, is_predefined, predefined_value,
 };
 use data::{Object, Value};
 use operations::methods::{has_method, method};
@@ -67,7 +67,7 @@ impl<'a, T: Tree, O: Outputs, L: Ledger> Context<'a, T, O, L> {
         ensures gives { Answers T.seen O.seen data_of (thing name.now) self.now result self.now }
         ensures quiet { (n : ℕ) → failures_after n result ≡ n }
     {
-        let value = predefined(self.alloc, name)?;
+        let value = predefined_value(self.alloc, name)?;
         Ok(value)
     }
 
@@ -83,7 +83,7 @@ impl<'a, T: Tree, O: Outputs, L: Ledger> Context<'a, T, O, L> {
             return Ok(self.thing(name)?);
         }
         let value = self.store.value(number)?;
-        self.known(line, name, value)
+        self.require_known(line, name, value)
     }
 
     /// The value of the variable of a name, which is looked for at this number first.
@@ -95,11 +95,11 @@ impl<'a, T: Tree, O: Outputs, L: Ledger> Context<'a, T, O, L> {
             return self.thing(name);
         }
         let value = self.store.find_at(number, name)?;
-        self.known(line, name, value)
+        self.require_known(line, name, value)
     }
 
     // The value of a variable that has one.
-    fn known(&self, line: usize, name: &str, value: Option<Value>) -> Result<Value, Stop>
+    fn require_known(&self, line: usize, name: &str, value: Option<Value>) -> Result<Value, Stop>
         ensures gives { Answers T.seen O.seen data_of (known line name.now (option_map data_of value)) self.now result self.now }
         ensures quiet { (n : ℕ) → failures_after n result ≡ n }
     {
@@ -119,7 +119,7 @@ impl<'a, T: Tree, O: Outputs, L: Ledger> Context<'a, T, O, L> {
             None => {
                 let text = name.as_str();
                 if is_left_out(text) {
-                    self.left_out(line, text)
+                    self.refuse_left_out(line, text)
                 } else {
                     self.refuse(line, Refusal::UnknownFunction, text)
                 }
@@ -156,7 +156,7 @@ impl<'a, T: Tree, O: Outputs, L: Ledger> Context<'a, T, O, L> {
     }
 
     /// Refuses to ask what may not be asked yet.
-    pub fn asked_of(&self, line: usize, object: &Object) -> Result<(), Stop>
+    pub fn allow_asking(&self, line: usize, object: &Object) -> Result<(), Stop>
         ensures gives { Answers T.seen O.seen (λ u. u) (asked_of line object.now) self.now result self.now }
         ensures quiet { (n : ℕ) → failures_after n result ≡ n }
     {
@@ -212,7 +212,7 @@ impl<'a, T: Tree, O: Outputs, L: Ledger> Context<'a, T, O, L> {
             return Ok(());
         }
         let fits = check(self.alloc, &any_values(), arguments)?;
-        self.fitted(line, fits)
+        self.fit(line, fits)
     }
 
     /// A method of a value that is no object.

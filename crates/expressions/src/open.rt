@@ -69,7 +69,7 @@ impl<'a, T: Tree, O: Outputs, L: Ledger> Context<'a, T, O, L> {
     fn refuse_folder<A>(&self, rule: Rule, text: &str) -> Result<A, Stop>
         ensures { Refuses (fault_on self.now self.now.store.now.line Refusal.Subdir (broken rule text.now)) result }
     {
-        let detail = rule.broken(self.alloc, text)?;
+        let detail = rule.tell_breach(self.alloc, text)?;
         self.refuse(self.store.line(), Refusal::Subdir, detail.as_str())
     }
 
@@ -83,7 +83,7 @@ impl<'a, T: Tree, O: Outputs, L: Ledger> Context<'a, T, O, L> {
         if self.store.is_entered(&folder) {
             return self.refuse_folder(Rule::IsNew, text);
         }
-        if self.store.entered() < FOLDERS {
+        if self.store.folders_entered() < FOLDERS {
             Ok(folder)
         } else {
             self.refuse(self.store.line(), Refusal::Limit, "")

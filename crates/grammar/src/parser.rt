@@ -42,7 +42,7 @@ fn put<T: Drop>(items: &mut Vec<T>, item: T) -> Result<(), AllocError>
 }
 
 // The items, in no more memory than they need: a tree stands for long, and most of its lists are short.
-fn fitted<T>(items: Vec<T>) -> Vec<T>
+fn fit<T>(items: Vec<T>) -> Vec<T>
     ensures { result.items ≡ items.items }
 {
     let mut items = items;
@@ -68,7 +68,7 @@ impl<'t, 'a> Parser<'t, 'a> {
 
     // What was read, once a token of this kind has closed it.
     #[tactic(auto, using(crate::proofs::Tails::first_taken))]
-    fn closed<T: Drop>(&mut self, kind: Kind, value: T) -> Read<T>
+    fn close<T: Drop>(&mut self, kind: Kind, value: T) -> Read<T>
         ensures read { Gives (λ v. first_of (lexemes self.old.rest.now)) result (lexemes self.new.rest.now)
             (token_at kind (lexemes self.old.rest.now)) }
         ensures same { IfOk result (λ v. v ≡ value) }
@@ -106,7 +106,7 @@ impl<'t, 'a> Parser<'t, 'a> {
             self.take(Kind::Newline)?;
             self.line(false, levels, &mut statements)?;
         }
-        Ok(fitted(statements))
+        Ok(fit(statements))
     }
 
     // The file that all tokens spell.
@@ -135,7 +135,7 @@ fn line_of(source: &str, tokens: &[Token<'_>], left: usize) -> usize
 }
 
 // The fault of a source whose tokens cannot be read on.
-fn located(source: &str, tokens: &[Token<'_>], stop: Stop) -> SyntaxFault
+fn locate(source: &str, tokens: &[Token<'_>], stop: Stop) -> SyntaxFault
     requires { tokens_left stop ≤ length tokens.now }
     ensures { result ≡ located source.now (lexemes tokens.now) stop }
 {
@@ -189,6 +189,6 @@ pub fn parse(alloc: Global, source: &str) -> Result<File<'_>, SyntaxError>
     match parser.file(LEVELS) {
         Ok(file) => Ok(file),
         Err(ReadError::Memory) => Err(SyntaxError::Memory),
-        Err(ReadError::Stop(stop)) => Err(SyntaxError::Fault(located(source, &tokens, stop))),
+        Err(ReadError::Stop(stop)) => Err(SyntaxError::Fault(locate(source, &tokens, stop))),
     }
 }

@@ -14,7 +14,7 @@ ghost use Rattle.hawkottoman.specs.Questions.{ending_with, lines_then, questions
 ghost use Rattle.hawkottoman.specs.Setup.{Concludes, FailsOnce};
 ghost use Rattle.hawkottoman.specs.Telling.{Asks, AsksOver, Ended, Told, text_of};
 
-use crate::running::stopped;
+use crate::running::tell_fault;
 use crate::telling::questions_text;
 use basics::faults::Fault;
 use interp::{Inputs, definitions, read_machine};
@@ -74,7 +74,7 @@ impl Asking {
 }
 
 // What was asked, where the definitions ended so, over outputs that keep nothing and have failed so often: they do where no memory is left.
-fn told_after(
+fn tell_after(
     alloc: Global,
     machine: &Machine,
     asked: &[Asked],
@@ -109,7 +109,7 @@ fn ask_in<T: Tree, L: Ledger>(
 {
     let mut nothing = NoOutputs::new(alloc);
     let ended = definitions(alloc, store, tree, &mut nothing, steps);
-    told_after(alloc, machine, store.asked(), ended, nothing.failures())
+    tell_after(alloc, machine, store.questions(), ended, nothing.failures())
 }
 
 // Evaluates the definitions over a machine file.
@@ -190,7 +190,7 @@ fn settle<O: Outputs>(answer: Result<Asking, Stop>, out: &mut O) -> Status
 {
     match answer {
         Ok(asking) => asking.tell(out),
-        Err(stop) => stopped(stop, out),
+        Err(stop) => tell_fault(stop, out),
     }
 }
 

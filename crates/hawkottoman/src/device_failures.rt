@@ -19,7 +19,7 @@ pub enum Ran {
     Wrong,
 }
 
-fn judged(failures: u64, status: Status, expected: Expected<'_>, out: &MemOutputs) -> Ran {
+fn judge(failures: u64, status: Status, expected: Expected<'_>, out: &MemOutputs) -> Ran {
     let is_whole = expected.has_ended(out);
     if !expected.is_begun(out) {
         Ran::Wrong
@@ -45,7 +45,7 @@ fn run_to_outputs(
     let mut out = outputs(alloc)?.with_plan(piece, Some(fail));
     let status = run_over(alloc, &mut tree, &mut out)?;
     let failures = out.failures();
-    Ok(judged(failures, status, given.expected, &out))
+    Ok(judge(failures, status, given.expected, &out))
 }
 
 // Runs where the tree gives so many bytes a call and fails at this call.
@@ -61,7 +61,7 @@ fn run_from_tree(
     let mut out = outputs(alloc)?;
     let status = run_over(alloc, &mut tree, &mut out)?;
     let failures = tree.failures();
-    Ok(judged(failures, status, given.expected, &out))
+    Ok(judge(failures, status, given.expected, &out))
 }
 
 // More than the calls of one kind in each run of these tests.

@@ -47,21 +47,21 @@ const STANDARD_ERROR: i32 = 2;
 
 fn main(rt: HostRuntime) -> ExitCode {
     let Ok(_held) = hold_streams(&rt) else {
-        return ended(&rt, "meson: device fault", DEVICE_FAILED);
+        return say_and_exit(&rt, "meson: device fault", DEVICE_FAILED);
     };
     let words = match words(&rt) {
         Ok(words) => words,
         Err(error) if error.kind() == ErrorKind::OutOfMemory => {
-            return ended(&rt, "meson: out of memory", MEMORY_RAN_OUT);
+            return say_and_exit(&rt, "meson: out of memory", MEMORY_RAN_OUT);
         }
-        Err(_) => return ended(&rt, "error: a word is not UTF-8", BAD_LINE),
+        Err(_) => return say_and_exit(&rt, "error: a word is not UTF-8", BAD_LINE),
     };
     let root = match env::current_dir(&rt) {
         Ok(root) => root.into_string(),
         Err(error) if error.kind() == ErrorKind::OutOfMemory => {
-            return ended(&rt, "meson: out of memory", MEMORY_RAN_OUT);
+            return say_and_exit(&rt, "meson: out of memory", MEMORY_RAN_OUT);
         }
-        Err(_) => return ended(&rt, "meson: device fault", DEVICE_FAILED),
+        Err(_) => return say_and_exit(&rt, "meson: device fault", DEVICE_FAILED),
     };
     let status = run(
         &rt,
@@ -92,7 +92,7 @@ fn words(rt: &HostRuntime) -> io::Result<Vec<String>> {
     Ok(env::args(rt)?.collect(rt.alloc())?)
 }
 
-fn ended(rt: &impl Eprint, text: &str, status: u8) -> ExitCode {
+fn say_and_exit(rt: &impl Eprint, text: &str, status: u8) -> ExitCode {
     let _ = rt.eprintln(text);
     ExitCode::from(status)
 }

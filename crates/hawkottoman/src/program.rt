@@ -53,17 +53,17 @@ pub fn run<R: Files<File = File> + AllocGlobal, L: Write + Drop, F: Write + Drop
                 Ok(status) => status,
                 Err(error) => status_of(&error),
             };
-            ended(status, &mut faults)
+            say_ending(status, &mut faults)
         }
         Err(LineFault::Help(text)) => match log.write_all(text.as_str().as_bytes()) {
-            Ok(()) => ended(Status::Done, &mut faults),
-            Err(_) => ended(Status::Device, &mut faults),
+            Ok(()) => say_ending(Status::Done, &mut faults),
+            Err(_) => say_ending(Status::Device, &mut faults),
         },
         Err(LineFault::Usage(text)) => {
             let _ = faults.write_all(text.as_str().as_bytes());
             BAD_LINE
         }
-        Err(LineFault::Memory(_)) => ended(Status::Memory, &mut faults),
+        Err(LineFault::Memory(_)) => say_ending(Status::Memory, &mut faults),
     }
 }
 
@@ -186,7 +186,7 @@ fn status_of(error: &io::Error) -> Status
 }
 
 // Says why a run ended early, and gives its exit status.
-fn ended<F: Write>(status: Status, faults: &mut F) -> u8
+fn say_ending<F: Write>(status: Status, faults: &mut F) -> u8
     ensures { result ≡ exit_status status }
 {
     match status {

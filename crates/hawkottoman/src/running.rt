@@ -19,7 +19,7 @@ use std::sync::ledger::{Blank, Ledger};
 use world::{Settings, Stop, Store, new_steps};
 
 // What is done where a run stopped: the line of its fault is told, and else nothing.
-pub(crate) fn stopped<O: Outputs>(stop: Stop, out: &mut O) -> Status
+pub(crate) fn tell_fault<O: Outputs>(stop: Stop, out: &mut O) -> Status
     requires { OnFault stop (HasRoom (O.seen out.old).failures) }
     ensures { Stops stop result (O.seen out.old) (O.seen out.new) }
 {
@@ -43,7 +43,7 @@ fn settle<O: Outputs>(alloc: Global, answer: Result<Store, Stop>, out: &mut O) -
             forget(store);
             status
         }
-        Err(stop) => stopped(stop, out),
+        Err(stop) => tell_fault(stop, out),
     }
 }
 

@@ -53,7 +53,7 @@ pub fn action_of(function: Function) -> Action
 }
 
 // The folder of a call of `subdir`, where all dependencies of `if_found` are found.
-fn entered(alloc: Global, arguments: &Arguments) -> Result<Way, AllocError>
+fn way_into(alloc: Global, arguments: &Arguments) -> Result<Way, AllocError>
     ensures { IfOk result (λ way. way_view way ≡ entered_by (is_wanted (arguments_data arguments.now)) (arguments_data arguments.now)) }
 {
     let is_wanted = match arguments.keyword("if_found") {
@@ -82,9 +82,9 @@ impl<'a, T: Tree, O: Outputs, L: Ledger> Evaluator<'a, T, O, L> {
             return Ok(Way::Ends(Flow::Next));
         }
         let fits = check(self.context.alloc, &row(Function::Subdir), arguments)?;
-        self.context.fitted(line, fits)?;
+        self.context.fit(line, fits)?;
         self.context.store.at(line);
-        Ok(entered(self.context.alloc, arguments)?)
+        Ok(way_into(self.context.alloc, arguments)?)
     }
 
     // `subdir_done`
@@ -97,12 +97,17 @@ impl<'a, T: Tree, O: Outputs, L: Ledger> Evaluator<'a, T, O, L> {
             return Ok(Way::Ends(Flow::Next));
         }
         let fits = check(self.context.alloc, &row(Function::SubdirDone), arguments)?;
-        self.context.fitted(line, fits)?;
+        self.context.fit(line, fits)?;
         Ok(Way::Ends(Flow::Finished))
     }
 
     // A function as a statement, on its evaluated arguments: a value is let go.
-    fn acted(&mut self, line: usize, function: Function, arguments: &Arguments) -> Result<Way, Stop>
+    fn call_as_statement(
+        &mut self,
+        line: usize,
+        function: Function,
+        arguments: &Arguments,
+    ) -> Result<Way, Stop>
         requires room { HasRoom T.seen O.seen self.old.context }
         ensures same { Same self.old.context self.new.context }
         ensures device { Fails T.seen O.seen self.old.context result self.new.context }
@@ -113,7 +118,7 @@ impl<'a, T: Tree, O: Outputs, L: Ledger> Evaluator<'a, T, O, L> {
             Action::Enter => self.subdir(line, arguments),
             Action::Leave => self.subdir_done(line, arguments),
             Action::Call => {
-                self.called(line, function, arguments)?;
+                self.call_function(line, function, arguments)?;
                 Ok(Way::Ends(Flow::Next))
             }
         }
@@ -136,7 +141,7 @@ impl<'a, T: Tree, O: Outputs, L: Ledger> Evaluator<'a, T, O, L> {
     {
         let function = self.context.function_at(line, name)?;
         let mut arguments = self.arguments(code, arguments)?;
-        let way = self.acted(line, function, &arguments)?;
+        let way = self.call_as_statement(line, function, &arguments)?;
         arguments.clear();
         *self.room = arguments;
         Ok(way)

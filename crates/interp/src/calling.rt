@@ -66,7 +66,7 @@ fn object_method_of<T: Tree, O: Outputs, L: Ledger>(
 
 impl<'a, T: Tree, O: Outputs, L: Ledger> Evaluator<'a, T, O, L> {
     /// A function on its evaluated arguments: it gives a value, or nothing.
-    pub fn called(
+    pub fn call_function(
         &mut self,
         line: usize,
         function: Function,
@@ -91,11 +91,11 @@ impl<'a, T: Tree, O: Outputs, L: Ledger> Evaluator<'a, T, O, L> {
         ensures quiet { (n : ℕ) → failures_after n result ≡ n }
     {
         if has_object_method(object, name) {
-            return self.context.asked_of(line, object);
+            return self.context.allow_asking(line, object);
         }
         let text = name.as_str();
         if is_left_out_method(object, text) {
-            self.context.left_out(line, text)
+            self.context.refuse_left_out(line, text)
         } else {
             self.context.refuse(line, Refusal::UnknownFunction, text)
         }

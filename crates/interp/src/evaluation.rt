@@ -23,7 +23,7 @@ use ports::{Outputs, Tree};
 use std::alloc::Global;
 use std::rc::Rc;
 use std::sync::ledger::Ledger;
-use world::{Settings, Steps, Stop, Store, ended, ends_keep_up};
+use world::{Settings, Steps, Stop, Store, end_rule, ends_keep_up};
 
 /// What an evaluation is given beside its devices.
 #[derive(Clone, Copy)]
@@ -61,13 +61,13 @@ impl<'a, T: Tree, O: Outputs, L: Ledger> Evaluator<'a, T, O, L> {
     {
         let code = self.context.open("")?;
         let answer = self.root_statements(code);
-        ended(answer, self.context.steps)?;
+        end_rule(answer, self.context.steps)?;
         Ok(())
     }
 }
 
 /// Evaluates the definitions of a tree, from its root file on, in a new world. What was done stands in the store, also after a fault: the
-/// questions that were asked of the machine file until then are [`Store::asked`].
+/// questions that were asked of the machine file until then are [`Store::questions`].
 pub fn definitions<T: Tree, O: Outputs, L: Ledger>(
     alloc: Global,
     store: &mut Store,
@@ -98,7 +98,7 @@ pub fn read_machine(alloc: Global, bytes: &[u8]) -> Result<Rc<Machine>, Stop>
 {
     match Machine::read(alloc, bytes)? {
         Ok(machine) => Ok(Rc::new(alloc, machine)?),
-        Err(fault) => Err(Stop::Refused(fault.told(alloc)?)),
+        Err(fault) => Err(Stop::Refused(fault.tell(alloc)?)),
     }
 }
 

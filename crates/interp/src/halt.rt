@@ -61,7 +61,7 @@ impl<T: Drop> From<AllocFailed<T>> for Halt {
 
 // The halt of a rule that ends: it ticks by a fault, and stands behind a folder that its expression was left for.
 #[cold]
-fn halted<L: Ledger>(halt: Halt, steps: &mut Steps<L>) -> Halt
+fn end_halted<L: Ledger>(halt: Halt, steps: &mut Steps<L>) -> Halt
     ensures ends { HaltEnds halt steps.old result steps.new }
     ensures quiet { (n : ℕ) → failures_halted n result ≡ failures_halted n halt }
 {
@@ -84,7 +84,7 @@ fn halted<L: Ledger>(halt: Halt, steps: &mut Steps<L>) -> Halt
 
 /// Ticks where the rule of a node has ended, by a value or by a fault. Where its expression was left for a folder it ends behind that.
 /// The answer stays where it is.
-pub fn ended_inside<A, L: Ledger>(answer: &mut Result<A, Halt>, steps: &mut Steps<L>)
+pub fn end_rule_inside<A, L: Ledger>(answer: &mut Result<A, Halt>, steps: &mut Steps<L>)
     ensures ends { RuleEnds answer.old steps.old answer.new steps.new }
     ensures quiet { (n : ℕ) → failures_inside n answer.new ≡ failures_inside n answer.old }
 {
@@ -92,7 +92,7 @@ pub fn ended_inside<A, L: Ledger>(answer: &mut Result<A, Halt>, steps: &mut Step
         Ok(_) => steps.tick(),
         Err(halt) => {
             let old = mem::replace(halt, Halt::Stops(Stop::Memory));
-            *halt = halted(old, steps);
+            *halt = end_halted(old, steps);
         }
     }
 }

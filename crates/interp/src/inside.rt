@@ -27,7 +27,7 @@ impl<'a, T: Tree, O: Outputs, L: Ledger> Evaluator<'a, T, O, L> {
     ghost use Rattle.interp.specs.Evaluates.{FailsInside, Tries};
 
     /// A function inside of an expression, on its evaluated arguments.
-    pub fn called_inside(
+    pub fn call_inside(
         &mut self,
         line: usize,
         function: Function,
@@ -40,14 +40,14 @@ impl<'a, T: Tree, O: Outputs, L: Ledger> Evaluator<'a, T, O, L> {
             self.old.context result self.new.context }
     {
         match action_of(function) {
-            Action::Enter => self.entered_inside(line, arguments),
-            Action::Leave => self.valued(line, function, arguments),
-            Action::Call => self.valued(line, function, arguments),
+            Action::Enter => self.leave_for_folder(line, arguments),
+            Action::Leave => self.call_for_value(line, function, arguments),
+            Action::Call => self.call_for_value(line, function, arguments),
         }
     }
 
     // A function that enters no folder.
-    fn valued(
+    fn call_for_value(
         &mut self,
         line: usize,
         function: Function,
@@ -59,12 +59,12 @@ impl<'a, T: Tree, O: Outputs, L: Ledger> Evaluator<'a, T, O, L> {
         ensures gives { Tries T.seen O.seen data_of (λ _. next (called line function (arguments_data arguments.now)) (needed line))
             self.old.context result self.new.context }
     {
-        let answer = self.called(line, function, arguments)?;
-        Ok(self.context.needed(line, answer)?)
+        let answer = self.call_function(line, function, arguments)?;
+        Ok(self.context.need(line, answer)?)
     }
 
     // `subdir`: its folder is entered, and then it is refused, since it gives nothing.
-    fn entered_inside(&mut self, line: usize, arguments: &Arguments) -> Result<Value, Halt>
+    fn leave_for_folder(&mut self, line: usize, arguments: &Arguments) -> Result<Value, Halt>
         ensures same { Same self.old.context self.new.context }
         ensures device { FailsInside T.seen O.seen self.old.context result self.new.context }
         ensures gives { Tries T.seen O.seen data_of (λ into. entered_inside into (gives_disabler (arguments_data arguments.now)) line

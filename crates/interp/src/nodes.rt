@@ -10,7 +10,7 @@ ghost use Rattle.interp.specs.Expressions.{value_of, arguments_of, link_of, link
 ghost use Rattle.interp.specs.Parts.{above, above_number, above_entry, above_argument, above_operand, above_link, has_parts_at, is_rare_at};
 
 use crate::evaluator::Evaluator;
-use crate::halt::{Halt, ended_inside};
+use crate::halt::{Halt, end_rule_inside};
 use arguments::{Arguments, add_argument, no_arguments};
 use code::Code;
 use code::node::{ArgumentNode, CallNode, EntryNode, LinkNode, Node, OperandNode};
@@ -36,7 +36,7 @@ impl<'a, T: Tree, O: Outputs, L: Ledger> Evaluator<'a, T, O, L> {
             self.old.context result self.new.context }
     {
         let mut answer = self.form(code, node);
-        ended_inside(&mut answer, self.context.steps);
+        end_rule_inside(&mut answer, self.context.steps);
         answer
     }
 
@@ -77,8 +77,8 @@ impl<'a, T: Tree, O: Outputs, L: Ledger> Evaluator<'a, T, O, L> {
         match &code.nodes[node] {
             Node::Name { .. } | Node::Literal { .. } => unreachable!(),
             Node::Postfix { first, links, line } => {
-                let given = self.asked(code, *first as usize, links, *line)?;
-                Ok(self.context.needed(*line, given)?)
+                let given = self.ask_links(code, *first as usize, links, *line)?;
+                Ok(self.context.need(*line, given)?)
             }
             Node::Chain {
                 first,
@@ -108,7 +108,7 @@ impl<'a, T: Tree, O: Outputs, L: Ledger> Evaluator<'a, T, O, L> {
                 let call: &CallNode = call;
                 let function = self.context.function_inside(*line, &call.name)?;
                 let mut arguments = self.arguments(code, &call.arguments)?;
-                let given = self.called_inside(*line, function, &arguments)?;
+                let given = self.call_inside(*line, function, &arguments)?;
                 arguments.clear();
                 *self.room = arguments;
                 Ok(given)
@@ -119,7 +119,7 @@ impl<'a, T: Tree, O: Outputs, L: Ledger> Evaluator<'a, T, O, L> {
                 line,
             } => {
                 let value = self.eval(code, *value)?;
-                Ok(self.context.prefixed(*line, *prefix, value)?)
+                Ok(self.context.prefix(*line, *prefix, value)?)
             }
             Node::Ternary {
                 test,
@@ -131,7 +131,7 @@ impl<'a, T: Tree, O: Outputs, L: Ledger> Evaluator<'a, T, O, L> {
                 match value.as_boolean() {
                     Some(true) => self.eval(code, *yes),
                     Some(false) => self.eval(code, *no),
-                    None => Ok(self.context.unchosen(*line, value)?),
+                    None => Ok(self.context.refuse_choice(*line, value)?),
                 }
             }
             _ => unreachable!(),
@@ -154,7 +154,7 @@ impl<'a, T: Tree, O: Outputs, L: Ledger> Evaluator<'a, T, O, L> {
             let value = self.eval(code, *item)?;
             values.push(value)?;
         }
-        Ok(self.context.listed(line, values)?)
+        Ok(self.context.list(line, values)?)
     }
 
     // `{key : value, key : value}`
@@ -174,7 +174,7 @@ impl<'a, T: Tree, O: Outputs, L: Ledger> Evaluator<'a, T, O, L> {
             let value = self.eval(code, entry.value)?;
             pairs.push((key, value))?;
         }
-        Ok(self.context.paired(line, pairs)?)
+        Ok(self.context.pair(line, pairs)?)
     }
 
     /// The values of these arguments, in order.
@@ -199,7 +199,7 @@ impl<'a, T: Tree, O: Outputs, L: Ledger> Evaluator<'a, T, O, L> {
 
     /// What the last link gives of what is asked of an expression: a method may give nothing.
     #[cycle(eval)]
-    pub fn asked(
+    pub fn ask_links(
         &mut self,
         code: &Code,
         first: usize,
@@ -217,7 +217,7 @@ impl<'a, T: Tree, O: Outputs, L: Ledger> Evaluator<'a, T, O, L> {
         let value = self.eval(code, first)?;
         let mut given = Some(value);
         for link in links {
-            let whole = self.context.needed(line, given)?;
+            let whole = self.context.need(line, given)?;
             given = self.link(code, line, link, whole)?;
         }
         Ok(given)
@@ -276,12 +276,12 @@ impl<'a, T: Tree, O: Outputs, L: Ledger> Evaluator<'a, T, O, L> {
             let connective = match meaning_of(operand.operator) {
                 Meaning::Combines(operator) => {
                     let right = self.eval(code, operand.value)?;
-                    value = self.combined(line, operator, value, right)?;
+                    value = self.combine(line, operator, value, right)?;
                     continue;
                 }
                 Meaning::Connects(connective) => connective,
             };
-            let said = self.decided(line, connective, value)?;
+            let said = self.decide(line, connective, value)?;
             match said {
                 Left::Decides(whole) => {
                     value = whole;
@@ -290,7 +290,7 @@ impl<'a, T: Tree, O: Outputs, L: Ledger> Evaluator<'a, T, O, L> {
                 Left::Open => {}
             }
             let right = self.eval(code, operand.value)?;
-            value = self.context.answered(line, right_side(right))?;
+            value = self.context.answer(line, right_side(right))?;
         }
         Ok(value)
     }

@@ -17,7 +17,7 @@ impl<'a, T: Tree, O: Outputs, L: Ledger> Evaluator<'a, T, O, L> {
     ghost use Rattle.expressions.specs.Contexts.{Answers};
 
     /// What the left side of `and` or `or` decides.
-    pub fn decided(&self, line: usize, connective: Connective, left: Value) -> Result<Left, Stop>
+    pub fn decide(&self, line: usize, connective: Connective, left: Value) -> Result<Left, Stop>
         ensures gives { Answers T.seen O.seen left_view (answered line (left_answer connective (data_of left)))
             self.now.context result self.now.context }
         ensures quiet { (n : ℕ) → failures_after n result ≡ n }
@@ -29,7 +29,7 @@ impl<'a, T: Tree, O: Outputs, L: Ledger> Evaluator<'a, T, O, L> {
     }
 
     /// An operator between two values.
-    pub fn combined(
+    pub fn combine(
         &self,
         line: usize,
         operator: Binary,
@@ -41,6 +41,6 @@ impl<'a, T: Tree, O: Outputs, L: Ledger> Evaluator<'a, T, O, L> {
         ensures quiet { (n : ℕ) → failures_after n result ≡ n }
     {
         let answer = binary(self.context.alloc, operator, left, right)?;
-        self.context.answered(line, answer)
+        self.context.answer(line, answer)
     }
 }

@@ -15,7 +15,7 @@ use data::Value;
 use expressions::{Round, round_at};
 use ports::{Outputs, Tree};
 use std::sync::ledger::Ledger;
-use world::{Stop, ended};
+use world::{Stop, end_rule};
 
 /// How far the rounds of a loop were done.
 #[derive(Drop)]
@@ -59,7 +59,7 @@ impl<'a, T: Tree, O: Outputs, L: Ledger> Evaluator<'a, T, O, L> {
                     }
                 }
                 Ok(walk) => return Ok(Tour::Stands { walk, at: at + 1 }),
-                Err(stop) => return ended(Err(stop), self.context.steps),
+                Err(stop) => return end_rule(Err(stop), self.context.steps),
             }
         }
         Ok(Tour::Ends(Flow::Next))

@@ -20,13 +20,13 @@ ghost use Rattle.interp.specs.declared.flow.Flow.TheVariants.{Next};
 use crate::block::{Block, are_simple, statements_of};
 use crate::evaluator::Evaluator;
 use crate::flow::Flow;
-use crate::halt::{Halt, Inside, ended_inside};
+use crate::halt::{Halt, Inside, end_rule_inside};
 use code::Code;
 use code::node::{BranchNode, IfNode, Node, StatementNode};
 use data::Value;
 use ports::{Outputs, Tree};
 use std::sync::ledger::Ledger;
-use world::{Stop, ended};
+use world::{Stop, end_rule};
 
 /// How far the statements of a block were done.
 #[derive(Drop)]
@@ -67,7 +67,7 @@ impl<'a, T: Tree, O: Outputs, L: Ledger> Evaluator<'a, T, O, L> {
                     number,
                     at: place + 1,
                 }),
-                Err(Halt::Stops(stop)) => return ended(Err(stop), self.context.steps),
+                Err(Halt::Stops(stop)) => return end_rule(Err(stop), self.context.steps),
                 Err(Halt::Enters(entry)) => return Ok(Walk::Enters {
                     entry,
                     at: place + 1,
@@ -183,7 +183,7 @@ impl<'a, T: Tree, O: Outputs, L: Ledger> Evaluator<'a, T, O, L> {
         let numbers = statements_of(code, block);
         for place in 0..numbers.len() {
             let mut answer = self.simple(code, numbers[place]);
-            ended_inside(&mut answer, self.context.steps);
+            end_rule_inside(&mut answer, self.context.steps);
             let flow = answer?;
             if !flow.is_next() {
                 return Ok(flow);
@@ -247,13 +247,13 @@ impl<'a, T: Tree, O: Outputs, L: Ledger> Evaluator<'a, T, O, L> {
         ensures gives { Evaluates T.seen O.seen (option_map data_of) (λ into ts. ruled (given_by into (tree_at ts value))) code.now
             self.old.context result self.new.context }
     {
-        let mut answer = self.given(code, value);
-        ended_inside(&mut answer, self.context.steps);
+        let mut answer = self.give(code, value);
+        end_rule_inside(&mut answer, self.context.steps);
         answer
     }
 
     // The same, before its rule has ended.
-    fn given(&mut self, code: &Code, value: usize) -> Result<Option<Value>, Halt>
+    fn give(&mut self, code: &Code, value: usize) -> Result<Option<Value>, Halt>
         requires here { value < length code.now.nodes.items }
         requires room { HasRoom T.seen O.seen self.old.context }
         ensures same { Same self.old.context self.new.context }
@@ -262,7 +262,7 @@ impl<'a, T: Tree, O: Outputs, L: Ledger> Evaluator<'a, T, O, L> {
             self.old.context result self.new.context }
     {
         if let Node::Postfix { first, links, line } = &code.nodes[value] {
-            self.asked(code, *first as usize, links, *line)
+            self.ask_links(code, *first as usize, links, *line)
         } else {
             Ok(Some(self.form(code, value)?))
         }

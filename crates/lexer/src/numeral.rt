@@ -17,7 +17,7 @@ fn digit(byte: u8) -> u8
 }
 
 // The number that digits of a base spell, if 128 bits hold it.
-fn spelled(base: u128, digits: &[u8]) -> Option<u128>
+fn read_digits(base: u128, digits: &[u8]) -> Option<u128>
     requires { 1 ≤ base }
     ensures { SomeIff result (spelled base 0 digits.now < 2 ^ 128) (spelled base 0 digits.now) }
 {
@@ -49,12 +49,12 @@ fn magnitude_of(text: &[u8]) -> Option<u128>
         return Some(0);
     }
     if text[0] != b'0' {
-        return spelled(10, text);
+        return read_digits(10, text);
     }
     if text.len() == 1 {
         return Some(0);
     }
-    spelled(base_of(text[1]), &text[2..])
+    read_digits(base_of(text[1]), &text[2..])
 }
 
 /// The number that the text of a number token spells, if 128 bits hold it: by decimal digits, or by those of the base that a first

@@ -11,7 +11,7 @@ use std::alloc::{AllocError, Global};
 
 // The character that a backslash stands for, of which these come behind it, and how many of these belong to it.
 #[tactic(auto, using(crate::proofs::Texts::escaped_cases))]
-fn escaped_by(bytes: &[u8]) -> (char, usize)
+fn unescape_one(bytes: &[u8]) -> (char, usize)
     ensures { result ≡ escaped_by bytes.now }
 {
     let Some((code, size)) = escape_at(bytes) else {
@@ -36,7 +36,7 @@ fn plain_length(bytes: &[u8]) -> usize
 }
 
 // The text that characters between quotes stand for.
-fn unescaped(alloc: Global, text: &str) -> Result<String, AllocError>
+fn unescape(alloc: Global, text: &str) -> Result<String, AllocError>
     ensures { IfOk result (λ s. string_bytes s ≡ unescaped text.now) }
 {
     let mut whole = String::new(alloc);
@@ -48,7 +48,7 @@ fn unescaped(alloc: Global, text: &str) -> Result<String, AllocError>
             return Ok(whole);
         }
         let (_, behind) = marked.split_at(1);
-        let (character, size) = escaped_by(behind.as_bytes());
+        let (character, size) = unescape_one(behind.as_bytes());
         whole.push(character)?;
         let (_, after) = behind.split_at(size);
         rest = after;
@@ -90,8 +90,8 @@ fn stood_for(alloc: Global, kind: Kind, text: &str) -> Result<String, AllocError
     ensures { IfOk result (λ s. string_bytes s ≡ text_of kind text.now) }
 {
     match kind {
-        Kind::String => unescaped(alloc, between(text, 1, 1)),
-        Kind::FormatString => unescaped(alloc, between(text, 2, 1)),
+        Kind::String => unescape(alloc, between(text, 1, 1)),
+        Kind::FormatString => unescape(alloc, between(text, 2, 1)),
         Kind::RawString => String::from_str(alloc, between(text, 3, 3)),
         Kind::RawFormatString => String::from_str(alloc, between(text, 4, 3)),
         _ => String::from_str(alloc, text),

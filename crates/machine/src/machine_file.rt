@@ -32,5 +32,5 @@ mod value;
 pub use machine::{Entry, Machine, Section};
 pub use number::integer_of;
 pub use question::{Aside, Question, Topic};
-pub use text::{Blanks, cut_first, trimmed};
+pub use text::{Blanks, cut_first, trim};
 pub use value::{MachineValue, read_value};

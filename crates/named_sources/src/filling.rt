@@ -88,7 +88,7 @@ fn has_mark(text: &str) -> bool
 
 /// The text with the values of its placeholders, leftmost first and not scanned again; or none where one of them stands for nothing
 /// here (E9): `@INPUT@` inside a word and `@BASENAME@` without exactly one input, `@INPUT3@` past the last, `@DEPFILE@` without a depfile.
-pub fn filled(
+pub fn fill(
     alloc: Global,
     scope: Scope,
     place: &Place<'_>,

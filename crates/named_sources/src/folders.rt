@@ -6,7 +6,7 @@ ghost use Rattle.paths.specs.Folder.{strings_of};
 ghost use Rattle.paths.specs.Paths.{folder_path};
 ghost use Rattle.named_sources.specs.Folders.{folders_in, folders_of, of_object, one_path};
 
-use crate::unnamed::unnamed;
+use crate::unnamed::refuse_unnamed;
 use arguments::{Refused, Rule};
 use data::{Object, Text, Value};
 use paths::folder_path;
@@ -91,7 +91,7 @@ pub fn folders_of(
     for value in values {
         match folders_in(alloc, source_root, folder, value)? {
             Some(more) => push_each(&mut paths, more)?,
-            None => return Ok(Err(unnamed(alloc, Rule::NamesFolder, value)?)),
+            None => return Ok(Err(refuse_unnamed(alloc, Rule::NamesFolder, value)?)),
         }
     }
     Ok(Ok(paths))

@@ -100,7 +100,7 @@ fn path_at<'p>(paths: &'p [String], digits: &str) -> Option<&'p str>
     }
 }
 
-fn numbered<'p>(paths: &'p [String], digits: &str) -> Meaning<'p>
+fn take_numbered<'p>(paths: &'p [String], digits: &str) -> Meaning<'p>
     ensures { meaning_view result ≡ numbered (texts paths.now) digits.now }
 {
     if is_number(digits) {
@@ -121,7 +121,7 @@ fn numbered_output<'p>(place: &Place<'p>, name: &str) -> Meaning<'p>
     ensures { meaning_view result ≡ numbered_if (place_view place.now).outputs (rest_after (codes "OUTPUT") name.now) stays }
 {
     match rest_after("OUTPUT", name) {
-        Some(digits) => numbered(place.outputs, digits),
+        Some(digits) => take_numbered(place.outputs, digits),
         None => Meaning::Stays,
     }
 }
@@ -130,7 +130,7 @@ fn numbered_name<'p>(place: &Place<'p>, name: &str) -> Meaning<'p>
     ensures { meaning_view result ≡ numbered_name (place_view place.now) name.now }
 {
     match rest_after("INPUT", name) {
-        Some(digits) => numbered(place.inputs, digits),
+        Some(digits) => take_numbered(place.inputs, digits),
         None => numbered_output(place, name),
     }
 }

@@ -17,7 +17,7 @@ mod values;
 mod versions;
 mod words;
 
-pub use filling::filled;
+pub use filling::fill;
 pub use folders::{folders_of, strings};
 pub use holes::{Meaning, Place, Scope, meaning_of};
 pub use keywords::{folders_named, numbers_named, sources_named};

@@ -7,7 +7,7 @@ ghost use Rattle.named_sources.specs.Sources.{ends_in, ends_in_name, of_object, 
 ghost use Rattle.paths.specs.Paths.{tree_path};
 ghost use Rattle.named_sources.specs.SourcesView.{named_view, named_views};
 
-use crate::unnamed::unnamed;
+use crate::unnamed::refuse_unnamed;
 use arguments::{Refused, Rule};
 use data::{Object, Text, Value};
 use paths::tree_path;
@@ -118,7 +118,7 @@ pub fn sources_of(
     for value in values {
         match source_of(alloc, source_root, folder, value)? {
             Some(source) => sources.push(source)?,
-            None => return Ok(Err(unnamed(alloc, Rule::NamesFile, value)?)),
+            None => return Ok(Err(refuse_unnamed(alloc, Rule::NamesFile, value)?)),
         }
     }
     Ok(Ok(sources))

@@ -18,8 +18,12 @@ fn text_said(value: &Value) -> &str
 }
 
 /// The refusal of a value that breaks a rule, as a text; of another value the text is empty.
-pub(crate) fn unnamed(alloc: Global, rule: Rule, value: &Value) -> Result<Refused, AllocError>
+pub(crate) fn refuse_unnamed(
+    alloc: Global,
+    rule: Rule,
+    value: &Value,
+) -> Result<Refused, AllocError>
     ensures { IfOk result (λ refused. refused_data refused ≡ breaks rule (text_said (data_of value.now))) }
 {
-    rule.refused(alloc, text_said(value))
+    rule.refuse(alloc, text_said(value))
 }

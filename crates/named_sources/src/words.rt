@@ -4,7 +4,7 @@ ghost use Rattle.targets.specs.edge.Texts.{texts};
 ghost use Rattle.named_sources.specs.Holes.{some_of, one_word, words_of};
 ghost use Rattle.named_sources.specs.HolesView.{place_view};
 
-use crate::filling::filled;
+use crate::filling::fill;
 use crate::holes::{Place, Scope};
 use std::alloc::{AllocError, Global};
 use targets::edge::push_copies;
@@ -52,6 +52,6 @@ pub fn push_words(
     } else if text == "@OUTPUT@" {
         push_some(words, place.outputs)
     } else {
-        push_word(words, filled(alloc, Scope::Command, place, text)?)
+        push_word(words, fill(alloc, Scope::Command, place, text)?)
     }
 }

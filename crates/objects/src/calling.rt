@@ -40,7 +40,7 @@ pub fn has_object_method(object: &Object, name: &MethodName) -> bool
 }
 
 // What a method tells of its receiver and the facts of the run.
-fn told_of(
+fn tell_of(
     alloc: Global,
     store: &Store,
     object: &Object,
@@ -121,9 +121,9 @@ fn tell<T: Tree, O: Outputs>(
 {
     let row = row_of(object, name);
     caller.fit(&row, arguments)?;
-    let answer = told_of(caller.alloc, caller.store, object, name, arguments)?;
+    let answer = tell_of(caller.alloc, caller.store, object, name, arguments)?;
     let text = breaking(object, name, arguments);
-    let value = caller.answered_by(rule_of(object), text, answer)?;
+    let value = caller.answer_by(rule_of(object), text, answer)?;
     Ok(Some(value))
 }
 

@@ -8,7 +8,7 @@ use ports::{Outputs, Tree};
 use world::{Caller, Stop};
 
 /// The text that a section of the machine file has at a key, or else this one: E22 where it is too long.
-pub fn keyed<T: Tree, O: Outputs>(
+pub fn read_key<T: Tree, O: Outputs>(
     caller: &mut Caller<'_, T, O>,
     section: &str,
     key: &str,
@@ -19,6 +19,6 @@ pub fn keyed<T: Tree, O: Outputs>(
     caller.ask_key(section, key)?;
     let text = caller.store.machine().text_or(section, key, default);
     let answer = Value::of_str(caller.alloc, text)?;
-    let value = caller.answered(answer)?;
+    let value = caller.answer(answer)?;
     Ok(Some(value))
 }

@@ -4,7 +4,7 @@ ghost use Rattle.data.specs.language_names.ObjectMethods.{machine_method_named};
 ghost use Rattle.world.specs.Prelude.{Does, data_of};
 ghost use Rattle.objects.specs.Machines.{told, told_by};
 
-use crate::keys::keyed;
+use crate::keys::read_key;
 use basics::faults::Refusal;
 use data::Value;
 use data::language_names::{MachineMethod, MethodName};
@@ -12,17 +12,17 @@ use ports::{Outputs, Tree};
 use world::{Caller, Stop};
 
 // What a method gives.
-fn told<T: Tree, O: Outputs>(
+fn tell_machine<T: Tree, O: Outputs>(
     caller: &mut Caller<'_, T, O>,
     method: MachineMethod,
 ) -> Result<Option<Value>, Stop>
     ensures { Does T.seen O.seen (option_map data_of) (told method) caller.old result caller.new }
 {
     match method {
-        MachineMethod::Cpu => keyed(caller, "host_machine", "cpu", "x86_64"),
-        MachineMethod::CpuFamily => keyed(caller, "host_machine", "cpu_family", "x86_64"),
-        MachineMethod::Endian => keyed(caller, "host_machine", "endian", "little"),
-        MachineMethod::System => keyed(caller, "host_machine", "system", "linux"),
+        MachineMethod::Cpu => read_key(caller, "host_machine", "cpu", "x86_64"),
+        MachineMethod::CpuFamily => read_key(caller, "host_machine", "cpu_family", "x86_64"),
+        MachineMethod::Endian => read_key(caller, "host_machine", "endian", "little"),
+        MachineMethod::System => read_key(caller, "host_machine", "system", "linux"),
     }
 }
 
@@ -35,7 +35,7 @@ pub fn machine_answer<T: Tree, O: Outputs>(
     ensures { Does T.seen O.seen (option_map data_of) (told_by (machine_method_named name.now)) caller.old result caller.new }
 {
     match name.of_machine() {
-        Some(method) => told(caller, method),
+        Some(method) => tell_machine(caller, method),
         None => caller.refuse(Refusal::UnknownFunction, ""),
     }
 }

@@ -143,7 +143,7 @@ fn output_list(
 
 // ---- methods
 
-fn told_of(
+fn tell_of(
     alloc: Global,
     store: &Store,
     method: TargetMethod,
@@ -174,7 +174,7 @@ pub fn target_answer(
     ensures { IfOk result (λ r. Answers (answer_by method (world_of store.now).facts number outputs) r) }
 {
     match method {
-        Some(method) => told_of(alloc, store, method, number, outputs),
+        Some(method) => tell_of(alloc, store, method, number, outputs),
         None => Ok(Err(Refusal::UnknownMethod)),
     }
 }

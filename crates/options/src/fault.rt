@@ -33,7 +33,7 @@ pub struct OptionFault {
 
 impl OptionFault {
     /// The fault as a run tells it: the option file has this path, and the call of `project` is on this line of `meson.build`.
-    pub fn told_in(
+    pub fn tell_in(
         self,
         alloc: Global,
         option_file: &str,

@@ -17,7 +17,7 @@ use crate::known::{Known, Scope, scope_of};
 use crate::misfit::{Misfit, Written};
 use crate::option_file::{Declaration, Declared};
 use crate::state::State;
-use crate::verdict::{Verdict, of_named, refused};
+use crate::verdict::{Verdict, of_named, refuse};
 use machine::machine_file::{Entry, Machine, Section, cut_first};
 use machine::option_values::{OptionKind, Setting};
 use std::alloc::{AllocError, Global};
@@ -50,7 +50,7 @@ fn of_declaration<'a>(
         )),
         None => {
             let misfit = Misfit::NoDefault(name, &declaration.kind, &declaration.value);
-            let verdict = refused(alloc, Place::Declared(declaration.line), misfit)?;
+            let verdict = refuse(alloc, Place::Declared(declaration.line), misfit)?;
             Ok(verdict)
         }
     }
@@ -89,7 +89,7 @@ fn of_assignment<'a>(
     ensures { IfOk result (λ v. verdict_in v ≡ of_assignment (declared_of known.now) place text.now) }
 {
     let Some((name, value)) = cut_first(text, '=') else {
-        let verdict = refused(alloc, place, Misfit::NoSign(text))?;
+        let verdict = refuse(alloc, place, Misfit::NoSign(text))?;
         return Ok(verdict);
     };
     let kind = known.kind_named(state.number_of(name), name);

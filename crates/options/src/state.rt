@@ -90,7 +90,7 @@ impl State {
     }
 
     /// What is known in the end.
-    pub fn ended(self, alloc: Global) -> Result<Resolved, AllocError>
+    pub fn end(self, alloc: Global) -> Result<Resolved, AllocError>
         ensures { IfOk result (λ r. resolved_in r ≡ resolution_of (state_in self)) }
     {
         let State {

@@ -26,7 +26,7 @@ pub enum Verdict<'a> {
 }
 
 /// What is written at this place is refused.
-pub fn refused<'a>(
+pub fn refuse<'a>(
     alloc: Global,
     place: Place,
     misfit: Misfit<'_>,
@@ -43,13 +43,13 @@ pub fn refused<'a>(
 }
 
 /// A place gives a value to a name that no option has: `default_options` alone may do so.
-fn unknown<'a>(alloc: Global, place: Place, name: &'a str) -> Result<Verdict<'a>, AllocError>
+fn refuse_unknown<'a>(alloc: Global, place: Place, name: &'a str) -> Result<Verdict<'a>, AllocError>
     ensures { IfOk result (λ v. verdict_in v ≡ unknown_at place name.now) }
 {
     match place {
         Place::Project => Ok(Verdict::Warns(name)),
         Place::Declared(_) | Place::MachineFile(_) | Place::CommandLine(_) => {
-            refused(alloc, place, Misfit::NoOption(name))
+            refuse(alloc, place, Misfit::NoOption(name))
         }
     }
 }
@@ -109,7 +109,7 @@ fn of_value<'a>(
 {
     match value {
         Some(value) => Ok(Verdict::Sets(name, Setting { value, given: true })),
-        None => refused(alloc, place, otherwise),
+        None => refuse(alloc, place, otherwise),
     }
 }
 
@@ -126,7 +126,7 @@ pub fn of_named<'a>(
         ≡ of_named place name.now (written_in written.entry) (option_map (λ k. kind_in k.now) kind.entry)) }
 {
     let Some(kind) = kind else {
-        return unknown(alloc, place, name);
+        return refuse_unknown(alloc, place, name);
     };
     let value = written.value(alloc, kind)?;
     of_value(alloc, place, name, written.misfit(name, kind), value)

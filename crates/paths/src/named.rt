@@ -74,7 +74,7 @@ fn follow<'a>(folder: &mut Vec<&'a str>, part: &'a str) -> Result<bool, AllocErr
 }
 
 // The parts of the path from the root, none where one leads above it.
-fn followed(alloc: Global, text: &str) -> Result<Option<Vec<&str>>, AllocError>
+fn follow_parts(alloc: Global, text: &str) -> Result<Option<Vec<&str>>, AllocError>
     ensures { IfOk result (λ folder. option_map folder_of folder ≡ follow_parts [] (parts_of text.now)) }
 {
     let mut folder = Vec::new(alloc);
@@ -101,20 +101,20 @@ pub fn join_parts(alloc: Global, parts: &[&str]) -> Result<String, AllocError>
 }
 
 // The path of what a text names, the root's being empty, where the text is relative to the root.
-fn cleaned(alloc: Global, text: &str) -> Result<Option<String>, AllocError>
+fn clean(alloc: Global, text: &str) -> Result<Option<String>, AllocError>
     ensures { IfOk result (λ path. option_map string_bytes path ≡ folder_named (follow_parts [] (parts_of text.now))) }
 {
-    match followed(alloc, text)? {
+    match follow_parts(alloc, text)? {
         Some(parts) => Ok(Some(join_parts(alloc, &parts)?)),
         None => Ok(None),
     }
 }
 
 // The same of what is not the root.
-fn cleaned_name(alloc: Global, text: &str) -> Result<Option<String>, AllocError>
+fn clean_name(alloc: Global, text: &str) -> Result<Option<String>, AllocError>
     ensures { IfOk result (λ path. option_map string_bytes path ≡ named (follow_parts [] (parts_of text.now))) }
 {
-    match followed(alloc, text)? {
+    match follow_parts(alloc, text)? {
         Some(parts) if !parts.is_empty() => Ok(Some(join_parts(alloc, &parts)?)),
         _ => Ok(None),
     }
@@ -142,7 +142,7 @@ fn named_path(alloc: Global, text: String) -> Result<Option<String>, AllocError>
     if is_path(text.as_str()) {
         Ok(Some(text))
     } else {
-        cleaned_name(alloc, text.as_str())
+        clean_name(alloc, text.as_str())
     }
 }
 
@@ -157,7 +157,7 @@ pub fn folder_path(
     ensures { IfOk result (λ path. option_map string_bytes path ≡ folder_path source_root.now folder.now text.now) }
 {
     match from_root(alloc, source_root, folder, text)? {
-        Some(text) => cleaned(alloc, text.as_str()),
+        Some(text) => clean(alloc, text.as_str()),
         None => Ok(None),
     }
 }
@@ -182,7 +182,7 @@ pub fn folder_below(alloc: Global, folder: &str, text: &str) -> Result<Option<St
 {
     if is_below(text) {
         let path = path_in(alloc, folder, text)?;
-        cleaned(alloc, path.as_str())
+        clean(alloc, path.as_str())
     } else {
         Ok(None)
     }

@@ -1,6 +1,6 @@
 //! The folder of a disk that outputs go to.
 
-use crate::disk_tree::{is_absent, joined};
+use crate::disk_tree::{is_absent, join};
 use std::alloc::{AllocError, Global};
 use std::fs::{File, TryLockError};
 use std::io::{ErrorKind, Write};
@@ -83,13 +83,13 @@ impl<'a, R: Files<File = File>> DiskFolder<'a, R> {
 
     /// The whole path of what has this path below the folder.
     pub(crate) fn whole(&self, path: &str) -> Result<String, AllocError> {
-        let folder = joined(self.alloc, self.root.as_str(), self.folder.as_str())?;
-        joined(self.alloc, folder.as_str(), path)
+        let folder = join(self.alloc, self.root.as_str(), self.folder.as_str())?;
+        join(self.alloc, folder.as_str(), path)
     }
 
     /// Has the folder for this run alone from now on, where it is there.
     pub(crate) fn claim<F: Write>(&mut self, faults: &mut F) -> io::Result<()> {
-        let path = joined(self.alloc, self.root.as_str(), self.folder.as_str())?;
+        let path = join(self.alloc, self.root.as_str(), self.folder.as_str())?;
         match is_folder(self.files, path.as_str()) {
             Ok(true) => self.take(faults),
             Ok(false) => Ok(()),
@@ -109,7 +109,7 @@ impl<'a, R: Files<File = File>> DiskFolder<'a, R> {
             self.root.as_str(),
             self.folder.as_str(),
         )?;
-        let path = joined(self.alloc, self.root.as_str(), self.folder.as_str())?;
+        let path = join(self.alloc, self.root.as_str(), self.folder.as_str())?;
         self.lock = lock_folder(self.files, path.as_str())?;
         if self.lock.is_none() {
             tell_of_another_run(self.folder.as_str(), faults)?;
@@ -122,7 +122,7 @@ impl<'a, R: Files<File = File>> DiskFolder<'a, R> {
     pub(crate) fn make_folders_of(&self, name: &str) -> io::Result<()> {
         match name.rsplit_once('/') {
             Some((folders, _)) => {
-                let folder = joined(self.alloc, self.root.as_str(), self.folder.as_str())?;
+                let folder = join(self.alloc, self.root.as_str(), self.folder.as_str())?;
                 make_folders(self.files, self.alloc, folder.as_str(), folders)
             }
             None => Ok(()),

@@ -41,7 +41,7 @@ struct OpenFile<F: Drop> {
 }
 
 // A path below a folder.
-pub(crate) fn joined(alloc: Global, folder: &str, path: &str) -> Result<String, AllocError> {
+pub(crate) fn join(alloc: Global, folder: &str, path: &str) -> Result<String, AllocError> {
     let mut whole = String::with_capacity(alloc, folder.len() + 1 + path.len())?;
     whole.push_str(folder)?;
     whole.push_str("/")?;
@@ -106,7 +106,7 @@ fn open_file<R: Files>(
     path: &str,
     last: &Look,
 ) -> io::Result<Option<OpenFile<R::File>>> {
-    let whole = joined(alloc, folder, path)?;
+    let whole = join(alloc, folder, path)?;
     let is_found = last.size.is_some() && last.whole.as_str() == whole.as_str();
     if !is_found && file_size(files, whole.as_str())?.is_none() {
         return Ok(None);

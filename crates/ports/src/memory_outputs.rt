@@ -201,7 +201,7 @@ impl MemOutputs {
         ensures { option_map event_now result ≡ slice_get (mem_outputs_seen self.now).events i }
     {
         if i < self.slots.len() {
-            Some(shown(&self.names, self.slots[i]))
+            Some(show(&self.names, self.slots[i]))
         } else {
             None
         }
@@ -218,7 +218,7 @@ fn name_of(names: &[u8], span: Span) -> &[u8]
 
 // The event of a slot, with its name.
 #[tactic(auto, using(crate::proofs::Recorded::within_bounds), unfolding(crate::specs::Slots::is_within, crate::specs::Slots::event_at, crate::specs::Slots::event_now))]
-fn shown(names: &[u8], slot: Event<Span>) -> Event<&[u8]>
+fn show(names: &[u8], slot: Event<Span>) -> Event<&[u8]>
     requires { IsTrue (is_within (length names.now) slot) }
     ensures { event_now result ≡ event_at names.now slot }
 {

@@ -13,7 +13,7 @@ use ports::{Outputs, Tree};
 use world::{Caller, Stop};
 
 // The dependency with these lists, or the refusal of lists that are too long.
-fn joined_given<T: Tree, O: Outputs>(
+fn join_given<T: Tree, O: Outputs>(
     caller: &Caller<'_, T, O>,
     arguments: &Arguments,
     own: &Own,
@@ -23,7 +23,7 @@ fn joined_given<T: Tree, O: Outputs>(
     let here = caller.here();
     let version = caller.store.project().facts().version.as_str();
     let answer = joined_dependency(&here, version, arguments, own)?;
-    caller.answered(answer)
+    caller.answer(answer)
 }
 
 /// `declare_dependency()`: E9, E14, E22 in this order.
@@ -35,9 +35,9 @@ pub fn declare_dependency<T: Tree, O: Outputs>(
     ensures { Does T.seen O.seen (option_map data_of) (declare_dependency (arguments_data arguments.now)) caller.old result caller.new }
 {
     let said = own_lists(&caller.here(), arguments)?;
-    let own = caller.passed(said)?;
+    let own = caller.pass(said)?;
     require_files(caller, &own.sources)?;
-    let dependency = joined_given(caller, arguments, &own)?;
+    let dependency = join_given(caller, arguments, &own)?;
     let value = Value::of_object(caller.alloc, Object::Dependency(dependency))?;
     Ok(Some(value))
 }

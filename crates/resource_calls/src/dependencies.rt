@@ -8,7 +8,7 @@ ghost use Rattle.resource_calls.specs.Dependency.{answer_of, dependency, depende
 ghost use Rattle.resource_calls.specs.Dependency.{give_found, give_missing, none_fits};
 ghost use Rattle.resource_calls.specs.Required.{required_by};
 
-use crate::required::{missing_object, required_by};
+use crate::required::{missing_object, read_required};
 use arguments::{Arguments, Requirement};
 use basics::faults::Refusal;
 use data::{Dependency, Object, Value};
@@ -76,7 +76,7 @@ fn fitting_dependency<T: Tree, O: Outputs>(
     ensures { let a = arguments_data arguments.now in Does T.seen O.seen (λ d. d) (fitting_dependency (required_by a) a)
         caller.old result caller.new }
 {
-    match required_by(arguments) {
+    match read_required(arguments) {
         Requirement::Disabled => Ok(None),
         Requirement::Required | Requirement::Optional => first_given(caller, arguments),
     }
@@ -110,7 +110,7 @@ fn give_found<T: Tree, O: Outputs>(
 ) -> Result<Option<Value>, Stop>
     ensures { Does T.seen O.seen (option_map data_of) (give_found said) caller.old result caller.new }
 {
-    let dependency = caller.answered(said)?;
+    let dependency = caller.answer(said)?;
     note(caller, &dependency)?;
     let value = Value::of_object(caller.alloc, Object::Dependency(dependency))?;
     Ok(Some(value))
@@ -124,7 +124,7 @@ fn give_missing<T: Tree, O: Outputs>(
     ensures { Does T.seen O.seen (option_map data_of) (give_missing (arguments_data arguments.now)) caller.old result caller.new }
 {
     let missing = missing_dependency(caller.alloc, arguments.text_at(0))?;
-    let dependency = caller.answered(missing)?;
+    let dependency = caller.answer(missing)?;
     note(caller, &dependency)?;
     let object = missing_object(arguments, Object::Dependency(dependency));
     let value = Value::of_object(caller.alloc, object)?;
@@ -139,7 +139,7 @@ fn none_fits<T: Tree, O: Outputs>(
     ensures { Does T.seen O.seen (option_map data_of)
         (none_fits (required_by (arguments_data arguments.now)) (arguments_data arguments.now)) caller.old result caller.new }
 {
-    match required_by(arguments) {
+    match read_required(arguments) {
         Requirement::Required => caller.refuse(Refusal::NotFound, arguments.text_at(0)),
         Requirement::Optional | Requirement::Disabled => give_missing(caller, arguments),
     }

@@ -90,7 +90,7 @@ fn usual_folder(call: &Call<'_, '_>, name: &str) -> Result<Option<String>, Alloc
 }
 
 // The folder that the keyword `install_dir` says, else this one.
-fn given_or(alloc: Global, arguments: &Arguments, usual: String) -> Result<String, AllocError>
+fn take_or(alloc: Global, arguments: &Arguments, usual: String) -> Result<String, AllocError>
     ensures { IfOk result (λ f. string_bytes f
         ≡ given_or (text_given (codes "install_dir") (arguments_data arguments.now)) (string_bytes usual)) }
 {
@@ -105,7 +105,7 @@ fn install_folder(call: &Call<'_, '_>, name: &str) -> Result<Option<String>, All
         ≡ install_folder (folders_view call.now.folders) call.now.sort (arguments_data call.now.arguments.now) name.now) }
 {
     match usual_folder(call, name)? {
-        Some(usual) => Ok(Some(given_or(call.folders.here.alloc, call.arguments, usual)?)),
+        Some(usual) => Ok(Some(take_or(call.folders.here.alloc, call.arguments, usual)?)),
         None => Ok(None),
     }
 }
@@ -167,7 +167,7 @@ fn installs_of(
         match install_of(call, one)? {
             Some(install) => installs.push(install)?,
             None => {
-                let refused = Rule::IsManPage.refused(alloc, path_said(one))?;
+                let refused = Rule::IsManPage.refuse(alloc, path_said(one))?;
                 return Ok(Err(refused));
             }
         }

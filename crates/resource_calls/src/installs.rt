@@ -53,7 +53,7 @@ pub fn install<T: Tree, O: Outputs>(
         sort,
         arguments,
     })?;
-    let said = caller.passed(answer)?;
+    let said = caller.pass(answer)?;
     require_files(caller, &said.named)?;
     install_all(caller, &said.installs)?;
     Ok(None)

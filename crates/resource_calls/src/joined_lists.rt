@@ -11,7 +11,7 @@ ghost use Rattle.resource_calls.specs.OwnListsView.{own_view};
 use crate::own_lists::Own;
 use arguments::Arguments;
 use data::{Dependency, Refusal, Source, Sources, Text, Texts};
-use named_sources::resources::{dependencies_in, found_dependency, joined, within_texts};
+use named_sources::resources::{dependencies_in, found_dependency, join, within_texts};
 use named_sources::{NamedSource, outputs_at};
 use std::alloc::{AllocError, Global};
 use targets::Linked;
@@ -160,5 +160,5 @@ pub fn joined_dependency(
     };
     let whole = with_own(dependency, folders, &own.libraries, sources)?;
     let others = dependencies_given(here.alloc, arguments)?;
-    joined(whole, &others)
+    join(whole, &others)
 }

@@ -65,7 +65,7 @@ pub fn own_lists(here: &Here<'_>, arguments: &Arguments) -> Result<Result<Own, R
         Err(refused) => return Ok(Err(refused)),
     };
     let Some(libraries) = libraries_given(alloc, earlier, arguments)? else {
-        return Ok(Err(Rule::TakesLibraries.refused(alloc, "link_with")?));
+        return Ok(Err(Rule::TakesLibraries.refuse(alloc, "link_with")?));
     };
     match sources_named(alloc, source_root, folder, arguments, "sources")? {
         Ok(sources) => Ok(Ok(Own {

@@ -7,7 +7,7 @@ ghost use Rattle.resource_calls.specs.Programs.{give_program, missing_program, n
 ghost use Rattle.resource_calls.specs.Programs.{program_at, program_named, program_of_words, program_wanted};
 ghost use Rattle.resource_calls.specs.Required.{required_by};
 
-use crate::required::{missing_object, required_by};
+use crate::required::{missing_object, read_required};
 use arguments::{Arguments, Requirement, Rule};
 use basics::faults::Refusal;
 use data::{Object, Program, Text, Texts, Value};
@@ -25,7 +25,7 @@ fn program_of_words<T: Tree, O: Outputs>(
 ) -> Result<Option<Program>, Stop>
     ensures { Does T.seen O.seen (λ p. p) (program_of_words said) caller.now result caller.now }
 {
-    let words = caller.answered(said)?;
+    let words = caller.answer(said)?;
     Ok(Some(Program::Words(words)))
 }
 
@@ -36,7 +36,7 @@ fn file_program<T: Tree, O: Outputs>(
     ensures { Does T.seen O.seen (λ p. p) (file_program (string_bytes path)) caller.now result caller.now }
 {
     let answer = Text::new(caller.alloc, path)?;
-    let text = caller.answered(answer)?;
+    let text = caller.answer(answer)?;
     Ok(Some(Program::File(text)))
 }
 
@@ -136,7 +136,7 @@ fn program_wanted<T: Tree, O: Outputs>(
     ensures { let a = arguments_data arguments.now in Does T.seen O.seen (λ p. p) (program_wanted (required_by a) a)
         caller.old result caller.new }
 {
-    match required_by(arguments) {
+    match read_required(arguments) {
         Requirement::Disabled => Ok(None),
         Requirement::Required | Requirement::Optional => first_given(caller, arguments),
     }
@@ -163,7 +163,7 @@ fn no_program<T: Tree, O: Outputs>(
     ensures { let a = arguments_data arguments.now in Does T.seen O.seen (option_map data_of) (no_program (required_by a) a)
         caller.now result caller.now }
 {
-    match required_by(arguments) {
+    match read_required(arguments) {
         Requirement::Required => caller.refuse(Refusal::NotFound, arguments.text_at(0)),
         Requirement::Optional | Requirement::Disabled => missing_program(caller, arguments),
     }

@@ -7,7 +7,7 @@ use arguments::{Arguments, Requirement};
 use data::Object;
 
 /// What the keyword `required` says; where it is not given, the thing is required.
-pub fn required_by(arguments: &Arguments) -> Requirement
+pub fn read_required(arguments: &Arguments) -> Requirement
     ensures { result ≡ required_by (arguments_data arguments.now) }
 {
     arguments.requirement(Requirement::Required)

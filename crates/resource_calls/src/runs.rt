@@ -46,7 +46,7 @@ pub fn run_of(here: &Here<'_>, arguments: &Arguments) -> Result<Result<Run, Refu
 {
     let Some(command) = command_given(here, arguments)? else {
         let rule = program_rule(arguments.argument(1));
-        return Ok(Err(rule.refused(here.alloc, arguments.text_at(0))?));
+        return Ok(Err(rule.refuse(here.alloc, arguments.text_at(0))?));
     };
     match environment(here.alloc, arguments)? {
         Ok(environment) => Ok(Ok(Run {

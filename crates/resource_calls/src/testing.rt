@@ -55,9 +55,9 @@ pub fn test<T: Tree, O: Outputs>(
     ensures { Does T.seen O.seen (option_map data_of) (test (arguments_data arguments.now)) caller.old result caller.new }
 {
     let said = run_of(&caller.here(), arguments)?;
-    let run = caller.passed(said)?;
+    let run = caller.pass(said)?;
     let made = test_given(caller.alloc, arguments, run)?;
-    let planned = caller.answered(made)?;
+    let planned = caller.answer(made)?;
     caller.add_test(planned)?;
     Ok(None)
 }

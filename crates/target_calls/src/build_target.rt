@@ -115,7 +115,7 @@ fn own_lists(
         Err(refused) => return Ok(Err(refused)),
     };
     let Some(link_with) = numbers_named(alloc, arguments, "link_with")? else {
-        return Ok(Err(Rule::TakesLibraries.refused(alloc, "link_with")?));
+        return Ok(Err(Rule::TakesLibraries.refuse(alloc, "link_with")?));
     };
     Ok(Ok(Lists {
         sources,
@@ -152,7 +152,7 @@ fn build_target(
 }
 
 // What a call declares that names these sources.
-fn declared_from(
+fn declare_from(
     here: &Here<'_>,
     kind: Kind,
     arguments: &Arguments,
@@ -163,14 +163,14 @@ fn declared_from(
 {
     let files = files_among(here.alloc, &named)?;
     let Some(sources) = sources_in(here.alloc, here.earlier, named)? else {
-        return Ok(Err(Rule::NamesFile.refused(here.alloc, "")?));
+        return Ok(Err(Rule::NamesFile.refuse(here.alloc, "")?));
     };
     let own = match own_lists(here, arguments, sources)? {
         Ok(own) => own,
         Err(refused) => return Ok(Err(refused)),
     };
     let Some(dependencies) = dependencies_given(here, arguments)? else {
-        return Ok(Err(Rule::NamesFile.refused(here.alloc, "")?));
+        return Ok(Err(Rule::NamesFile.refuse(here.alloc, "")?));
     };
     let target = build_target(here, kind, arguments, own, dependencies)?;
     Ok(Ok(NamedTarget {
@@ -181,7 +181,7 @@ fn declared_from(
 
 /// What a call declares. A `version` that is none breaks a rule, and a path that leads out of the tree.
 #[tactic(auto, unfolding(crate::specs::BuildTargets::declared))]
-pub fn declared(
+pub fn declare_target(
     here: &Here<'_>,
     kind: Kind,
     arguments: &Arguments,
@@ -191,10 +191,10 @@ pub fn declared(
     let fits = version_fits(here.alloc, arguments)?;
     if !fits {
         let version = arguments.text("version");
-        return Ok(Err(Rule::IsLibraryVersion.refused(here.alloc, version)?));
+        return Ok(Err(Rule::IsLibraryVersion.refuse(here.alloc, version)?));
     }
     match named_sources(here, arguments)? {
-        Ok(named) => declared_from(here, kind, arguments, named),
+        Ok(named) => declare_from(here, kind, arguments, named),
         Err(refused) => Ok(Err(refused)),
     }
 }

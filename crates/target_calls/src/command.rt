@@ -9,7 +9,7 @@ ghost use Rattle.target_calls.specs.Commands.{called, command_of, joined, of_bui
 ghost use Rattle.target_calls.specs.Commands.{of_program, of_text, of_thing, one_path, part_of, words_alone};
 ghost use Rattle.target_calls.specs.CommandsView.{part_view};
 
-use crate::sources::{made_of, one_made_of};
+use crate::sources::{make_of, one_made_of};
 use data::{Object, Program, Value};
 use named_sources::{Place, Thing, push_words, strings, thing_of};
 use paths::has_slash;
@@ -75,7 +75,7 @@ fn push_program(
 }
 
 // A program of the build folder itself is called as `./prog`.
-fn called(alloc: Global, target: &BuildTarget) -> Result<String, AllocError>
+fn run_word(alloc: Global, target: &BuildTarget) -> Result<String, AllocError>
     ensures { IfOk result (λ s. string_bytes s ≡ called (build_view target.now)) }
 {
     let path = file_path(alloc, target)?;
@@ -93,7 +93,7 @@ fn push_build_target(
 ) -> Result<(), AllocError>
     ensures { IfOk result (λ _. part_view whole.new ≡ joined (part_view whole.old) (of_build_target (build_view target.now))) }
 {
-    let word = called(alloc, target)?;
+    let word = run_word(alloc, target)?;
     let path = file_path(alloc, target)?;
     let need = one_made_of(alloc, path)?;
     push_path(whole, word, need)
@@ -102,7 +102,7 @@ fn push_build_target(
 fn push_outputs(whole: &mut Part, alloc: Global, paths: &[String]) -> Result<(), AllocError>
     ensures { IfOk result (λ _. part_view whole.new ≡ joined (part_view whole.old) (of_outputs (texts paths.now))) }
 {
-    let need = made_of(alloc, paths)?;
+    let need = make_of(alloc, paths)?;
     whole.needs.push(need)?;
     push_copies(&mut whole.words, paths)
 }

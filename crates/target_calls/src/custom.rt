@@ -28,8 +28,8 @@ use crate::build_target::NamedTarget;
 use crate::command::{Part, command_of};
 use crate::sources::{files_among, sources_in};
 use arguments::{Arguments, Named, Refused, Rule};
-use data::{Value, flat, opened, opened_count};
-use named_sources::{NamedSource, Place, Scope, filled, sources_named, sources_of};
+use data::{Value, flat, open_up, opened_count};
+use named_sources::{NamedSource, Place, Scope, fill, sources_named, sources_of};
 use paths::path_in;
 use std::alloc::{AllocError, Global};
 use targets::{CustomTarget, Source, Target, paths_in, source_paths};
@@ -126,14 +126,14 @@ fn push_written<'v>(
         ≡ map (λ v. data_of v.now) values.old.items ++ written_in (named_data named.now)) }
 {
     if is_source_keyword(named.name.as_str()) {
-        let more = opened(alloc, &named.value)?;
+        let more = open_up(alloc, &named.value)?;
         push_values(values, more)?;
     }
     Ok(())
 }
 
 // What the call says of sources, in the order in which its keywords are written.
-fn written(alloc: Global, arguments: &Arguments) -> Result<Vec<&Value>, AllocError>
+fn list_written(alloc: Global, arguments: &Arguments) -> Result<Vec<&Value>, AllocError>
     ensures { IfOk result (λ vs. map (λ v. data_of v.now) vs.items ≡ written (arguments_data arguments.now)) }
 {
     let mut values = Vec::new(alloc);
@@ -189,7 +189,7 @@ fn written_sources(
     match only_written(arguments, input_alone) {
         Some(value) => sources_of(here.alloc, here.source_root, here.folder, &[value]),
         None => {
-            let values = written(here.alloc, arguments)?;
+            let values = list_written(here.alloc, arguments)?;
             sources_of(here.alloc, here.source_root, here.folder, &values)
         }
     }
@@ -206,7 +206,7 @@ fn sources_said(
 {
     match sources_in(here.alloc, here.earlier, named)? {
         Some(sources) => Ok(Ok(sources)),
-        None => Ok(Err(Rule::HasMeaning.refused(here.alloc, name)?)),
+        None => Ok(Err(Rule::HasMeaning.refuse(here.alloc, name)?)),
     }
 }
 
@@ -283,7 +283,7 @@ fn names_in(
 {
     let mut names = Vec::with_capacity(alloc, texts.len())?;
     for text in texts {
-        match filled(alloc, Scope::FileName, place, text)? {
+        match fill(alloc, Scope::FileName, place, text)? {
             Some(name) => names.push(name)?,
             None => return Ok(None),
         }
@@ -361,7 +361,7 @@ fn files_below(here: &Here<'_>, names: &Names) -> Result<Option<Names>, AllocErr
     Ok(Some(Names { outputs, depfile }))
 }
 
-fn lent(path: &Option<String>) -> Option<&str>
+fn lend(path: &Option<String>) -> Option<&str>
     ensures { option_map (λ p. p.now) result ≡ option_map string_bytes path.now }
 {
     match path {
@@ -411,7 +411,7 @@ fn part_by(
     let values = arguments.leaves(here.alloc, name)?;
     match command_of(here, place, &values)? {
         Some(part) => Ok(Ok(part)),
-        None => Ok(Err(Rule::HasMeaning.refused(here.alloc, name)?)),
+        None => Ok(Err(Rule::HasMeaning.refuse(here.alloc, name)?)),
     }
 }
 
@@ -455,7 +455,7 @@ fn names_from<'p>(
     let place = place_with(folder, here.depth, inputs, &[], None);
     match names_of(here.alloc, &place, arguments)? {
         Some(names) => Ok(Ok(names)),
-        None => Ok(Err(Rule::HasMeaning.refused(here.alloc, "output")?)),
+        None => Ok(Err(Rule::HasMeaning.refuse(here.alloc, "output")?)),
     }
 }
 
@@ -473,7 +473,7 @@ fn command_from<'p>(
 {
     let below = files_below(here, names)?;
     let files = below.as_ref().unwrap_or(names);
-    let depfile = lent(&files.depfile);
+    let depfile = lend(&files.depfile);
     let place = place_with(folder, here.depth, inputs, &files.outputs, depfile);
     whole_command(here, arguments, &place)
 }
@@ -500,7 +500,7 @@ fn custom_from(
     Ok(Ok(target))
 }
 
-fn declared_files(
+fn declare_files(
     here: &Here<'_>,
     arguments: &Arguments,
     inputs: Vec<Source>,
@@ -521,7 +521,7 @@ fn declared_files(
 /// What a call of `custom_target` declares. A list that is empty breaks a rule, several outputs of what is printed, no folder for what is
 /// installed, a path that leads out of the tree, a placeholder that stands for nothing, and a program that was not found.
 #[tactic(auto, unfolding(crate::specs::CustomTargets::declared_custom))]
-pub fn declared_custom(
+pub fn declare_custom(
     here: &Here<'_>,
     arguments: &Arguments,
 ) -> Result<Result<NamedTarget, Refused>, AllocError>
@@ -529,7 +529,7 @@ pub fn declared_custom(
         ≡ declared_custom (here_view here.now) (arguments_data arguments.now)) }
 {
     if let Some((rule, keyword)) = rule_broken(arguments) {
-        return Ok(Err(rule.refused(here.alloc, keyword)?));
+        return Ok(Err(rule.refuse(here.alloc, keyword)?));
     }
     let input_alone = says_input_alone(arguments);
     let named = match written_sources(here, arguments, input_alone)? {
@@ -538,7 +538,7 @@ pub fn declared_custom(
     };
     let files = files_among(here.alloc, &named)?;
     match inputs_among(here, arguments, named, input_alone)? {
-        Ok(inputs) => declared_files(here, arguments, inputs, files),
+        Ok(inputs) => declare_files(here, arguments, inputs, files),
         Err(refused) => Ok(Err(refused)),
     }
 }

@@ -3,7 +3,7 @@ ghost use Rattle.std.specs.Prelude.{option_map};
 ghost use Rattle.world.specs.Prelude.{Does, MayFail, arguments_data, data_of};
 ghost use Rattle.target_calls.specs.CustomCalls.{custom_target};
 
-use crate::custom::{count_named, declared_custom};
+use crate::custom::{count_named, declare_custom};
 use crate::custom_installs::add_custom;
 use crate::declaring::require_fit;
 use crate::tree::require_all;
@@ -21,8 +21,8 @@ pub fn custom_target<T: Tree, O: Outputs>(
     ensures { Does T.seen O.seen (option_map data_of) (custom_target (arguments_data arguments.now)) caller.old result caller.new }
 {
     let outputs = count_named(arguments, "output");
-    let said = declared_custom(&caller.here(), arguments)?;
-    let named = caller.passed(said)?;
+    let said = declare_custom(&caller.here(), arguments)?;
+    let named = caller.pass(said)?;
     require_fit(caller, &named.target)?;
     require_all(caller, named.files)?;
     let number = add_custom(caller, arguments, named.target)?;

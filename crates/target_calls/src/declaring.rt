@@ -5,7 +5,7 @@ ghost use Rattle.targets.specs.View.{target_view};
 ghost use Rattle.world.specs.Prelude.{Does, MayFail, arguments_data, data_of};
 ghost use Rattle.target_calls.specs.Targets.{add_installed, declare, library, library_kind, required_fit};
 
-use crate::build_target::declared;
+use crate::build_target::declare_target;
 use crate::fit_breaches::fit_breach;
 use crate::installs::{install_of, note};
 use crate::tree::require_all;
@@ -56,8 +56,8 @@ pub fn declare<T: Tree, O: Outputs>(
     requires { MayFail T.seen O.seen caller.old }
     ensures { Does T.seen O.seen (option_map data_of) (declare kind (arguments_data arguments.now)) caller.old result caller.new }
 {
-    let said = declared(&caller.here(), kind, arguments)?;
-    let named = caller.passed(said)?;
+    let said = declare_target(&caller.here(), kind, arguments)?;
+    let named = caller.pass(said)?;
     require_fit(caller, &named.target)?;
     require_all(caller, named.files)?;
     let number = add_installed(caller, arguments, named.target)?;

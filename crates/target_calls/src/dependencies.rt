@@ -16,7 +16,7 @@ use std::rc::Rc;
 use targets::{Linked, Lists};
 use world::Here;
 
-fn named_of(alloc: Global, source: &data::Source) -> Result<NamedSource, AllocError>
+fn to_named(alloc: Global, source: &data::Source) -> Result<NamedSource, AllocError>
     ensures { IfOk result (λ n. named_view n ≡ named_of source.now) }
 {
     match source {
@@ -40,7 +40,7 @@ fn all_named(alloc: Global, sources: &[data::Source]) -> Result<Vec<NamedSource>
 {
     let mut named = Vec::new(alloc);
     for source in sources {
-        named.push(named_of(alloc, source)?)?;
+        named.push(to_named(alloc, source)?)?;
     }
     Ok(named)
 }
@@ -68,7 +68,7 @@ fn lists_of(
     }))
 }
 
-fn found_in_object(object: &Object) -> Option<&Dependency>
+fn find_in_object(object: &Object) -> Option<&Dependency>
     ensures { option_map (λ d. d.now) result ≡ Rattle.target_calls.specs.Dependencies.found_in_object object.now }
 {
     match object {
@@ -84,11 +84,11 @@ fn found_in_object(object: &Object) -> Option<&Dependency>
 }
 
 // The dependency that a value is, where it was found.
-fn found_in(value: &Value) -> Option<&Dependency>
+fn find_in(value: &Value) -> Option<&Dependency>
     ensures { option_map (λ d. d.now) result ≡ found_in (data_of value.now) }
 {
     match value {
-        Value::Object(object) => found_in_object(object),
+        Value::Object(object) => find_in_object(object),
         _ => None,
     }
 }
@@ -104,7 +104,7 @@ fn dependencies_of(
 {
     let mut all = Vec::new(alloc);
     for value in values {
-        if let Some(dependency) = found_in(value) {
+        if let Some(dependency) = find_in(value) {
             match lists_of(alloc, earlier, dependency)? {
                 Some(lists) => all.push(Rc::new(alloc, lists)?)?,
                 None => return Ok(None),

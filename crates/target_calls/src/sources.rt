@@ -15,7 +15,7 @@ use targets::edge::push_copies;
 use targets::{Linked, Source};
 
 /// Outputs of one target.
-pub fn made_of(alloc: Global, paths: &[String]) -> Result<Source, AllocError>
+pub fn make_of(alloc: Global, paths: &[String]) -> Result<Source, AllocError>
     ensures { IfOk result (λ s. source_view s ≡ Made (texts paths.now)) }
 {
     let mut own = Vec::with_capacity(alloc, paths.len())?;
@@ -36,7 +36,7 @@ fn all_made(alloc: Global, earlier: &[Linked], number: usize) -> Result<Option<S
     ensures { IfOk result (λ s. option_map source_view s ≡ option_map Made (outputs_at (linked_views earlier.now) number)) }
 {
     match outputs_at(earlier, number) {
-        Some(outputs) => Ok(Some(made_of(alloc, outputs)?)),
+        Some(outputs) => Ok(Some(make_of(alloc, outputs)?)),
         None => Ok(None),
     }
 }

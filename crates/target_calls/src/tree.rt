@@ -55,7 +55,7 @@ fn paths_named(
     for text in texts {
         match wanted.path(here, text)? {
             Some(path) => paths.push(path)?,
-            None => return Ok(Err(wanted.rule().refused(here.alloc, text)?)),
+            None => return Ok(Err(wanted.rule().refuse(here.alloc, text)?)),
         }
     }
     Ok(Ok(paths))
@@ -71,7 +71,7 @@ fn named_paths<T: Tree, O: Outputs>(
 {
     let here = caller.here();
     let paths = paths_named(&here, wanted, texts)?;
-    caller.passed(paths)
+    caller.pass(paths)
 }
 
 // Refuses the call unless each of the files is there.
@@ -100,7 +100,7 @@ pub fn files<T: Tree, O: Outputs>(
     let paths = named_paths(caller, Wanted::File, &texts)?;
     let listed = files_at(caller.alloc, &paths)?;
     require_all(caller, paths)?;
-    let list = caller.answered(listed)?;
+    let list = caller.answer(listed)?;
     Ok(Some(list))
 }
 
@@ -113,6 +113,6 @@ pub fn include_directories<T: Tree, O: Outputs>(
 {
     let texts = arguments.all_texts(caller.alloc)?;
     let paths = named_paths(caller, Wanted::Folder, &texts)?;
-    let directories = caller.answered(directories_at(caller.alloc, &paths)?)?;
+    let directories = caller.answer(directories_at(caller.alloc, &paths)?)?;
     Ok(Some(directories))
 }

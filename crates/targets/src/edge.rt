@@ -17,4 +17,4 @@ pub use holding::{
 pub use parts::{LentEdge, OwnParts};
 pub use rule::Rule;
 pub use seen_paths::{is_upward, object_path, source_path, source_root};
-pub use texts::{first_kept, holds, lent_text, push_all, push_copies, push_text};
+pub use texts::{first_kept, holds, lend_text, push_all, push_copies, push_text};

@@ -8,7 +8,7 @@ ghost use Rattle.targets.specs.Files.{numbered_names, link_names, link_paths, ou
 ghost use Rattle.targets.specs.Inputs.{input_view};
 ghost use Rattle.targets.specs.View.{build_view, custom_view};
 
-use crate::edge::{lent_text, object_path};
+use crate::edge::{lend_text, object_path};
 use crate::sources::Input;
 use crate::target::{BuildTarget, CustomTarget, Kind};
 use paths::path_in;
@@ -54,12 +54,12 @@ fn file_number(target: &BuildTarget) -> Option<&str>
 {
     match &target.version {
         Some(version) => Some(version.as_str()),
-        None => lent_text(&target.soversion),
+        None => lend_text(&target.soversion),
     }
 }
 
 // `libNAME.so`, and the number behind it.
-fn numbered(alloc: Global, name: &str, number: Option<&str>) -> Result<String, AllocError>
+fn with_number(alloc: Global, name: &str, number: Option<&str>) -> Result<String, AllocError>
     ensures { IfOk result (λ s. string_bytes s ≡ numbered_so name.now (option_map (λ n. n.now) number.entry)) }
 {
     match number {
@@ -72,7 +72,7 @@ fn numbered(alloc: Global, name: &str, number: Option<&str>) -> Result<String, A
 pub fn so_name(alloc: Global, target: &BuildTarget) -> Result<String, AllocError>
     ensures { IfOk result (λ s. string_bytes s ≡ so_name (build_view target.now)) }
 {
-    numbered(alloc, &target.name, so_number(target))
+    with_number(alloc, &target.name, so_number(target))
 }
 
 /// The name of the target's file.
@@ -83,7 +83,7 @@ pub fn file_name(alloc: Global, target: &BuildTarget) -> Result<String, AllocErr
     match target.kind {
         Kind::Executable => String::from_str(alloc, name),
         Kind::StaticLibrary => between(alloc, "lib", name, ".a"),
-        Kind::SharedLibrary => numbered(alloc, name, file_number(target)),
+        Kind::SharedLibrary => with_number(alloc, name, file_number(target)),
     }
 }
 
@@ -119,7 +119,7 @@ fn numbered_names(alloc: Global, target: &BuildTarget) -> Result<Vec<String>, Al
         if by_number != file {
             names.push(by_number)?;
         }
-        names.push(numbered(alloc, &target.name, None)?)?;
+        names.push(with_number(alloc, &target.name, None)?)?;
     }
     Ok(names)
 }

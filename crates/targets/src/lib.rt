@@ -20,6 +20,8 @@ pub use linked_target::Linked;
 pub use linking::{
     are_libraries, build_target_at, file_at, is_library_at, links_libraries, target_at,
 };
-pub use sources::{Input, compiled, generated, has_foreign_source, is_c, source_paths};
+pub use sources::{
+    Input, compiled_sources, generated_outputs, has_foreign_source, is_c, source_paths,
+};
 pub use target::{BuildTarget, CustomTarget, Kind, Lists, Source, Target};
 pub use walk::linked_libraries;

@@ -119,7 +119,11 @@ fn all_inputs(alloc: Global, depth: usize, target: &BuildTarget) -> Result<Vec<I
 }
 
 /// The sources that are compiled, in the order of first mention.
-pub fn compiled(alloc: Global, depth: usize, target: &BuildTarget) -> Result<Vec<Input>, AllocError>
+pub fn compiled_sources(
+    alloc: Global,
+    depth: usize,
+    target: &BuildTarget,
+) -> Result<Vec<Input>, AllocError>
     ensures { IfOk result (λ v. map input_view v.items ≡ compiled depth (build_view target.now)) }
 {
     first_inputs(alloc, all_inputs(alloc, depth, target)?)
@@ -178,7 +182,7 @@ fn all_generated(alloc: Global, target: &BuildTarget) -> Result<Vec<String>, All
 }
 
 /// The outputs of custom targets among the sources that are not compiled, each once.
-pub fn generated(alloc: Global, target: &BuildTarget) -> Result<Vec<String>, AllocError>
+pub fn generated_outputs(alloc: Global, target: &BuildTarget) -> Result<Vec<String>, AllocError>
     ensures { IfOk result (λ v. texts v.items ≡ generated (build_view target.now)) }
 {
     let paths = all_generated(alloc, target)?;

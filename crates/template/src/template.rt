@@ -27,7 +27,7 @@ fn keep_rest(line: &mut [u8], start: usize, end: usize) -> usize
 }
 
 /// How many bytes to ask for, where so many are left and there is so much room.
-fn wanted(left: u64, room: usize) -> usize
+fn ask_for(left: u64, room: usize) -> usize
     ensures left { result ≤ left }
     ensures room { result ≤ room }
     ensures some { 0 < left → 0 < room → 0 < result }
@@ -63,7 +63,7 @@ fn fill<T: Tree>(
     ensures asks { Asks (T.seen tree.old) (ended result) (T.seen tree.new) }
 {
     let left = size - at;
-    let want = wanted(left, line.len() - filled);
+    let want = ask_for(left, line.len() - filled);
     if want == 0 {
         return Ok(0);
     }

@@ -43,7 +43,7 @@ impl<'a, T: Tree, O: Outputs> Caller<'a, T, O> {
     }
 
     /// What an operation on values answered, or the stop of its refusal.
-    pub fn answered<A>(&self, answer: Result<A, data::Refusal>) -> Result<A, Stop>
+    pub fn answer<A>(&self, answer: Result<A, data::Refusal>) -> Result<A, Stop>
         ensures { IsAnswered (world_of self.now.store.now) answer result }
     {
         match answer {

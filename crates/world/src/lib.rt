@@ -31,6 +31,6 @@ pub use asked::Asked;
 pub use caller::{Caller, Here};
 pub use operation::of_operation;
 pub use settings::Settings;
-pub use steps::{Steps, ended, ends_keep_up, new_steps};
+pub use steps::{Steps, end_rule, ends_keep_up, new_steps};
 pub use stop::Stop;
 pub use store::{Place, Store};

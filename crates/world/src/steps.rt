@@ -42,7 +42,7 @@ pub fn new_steps<L: Ledger>(blank: Blank) -> Steps<L>
 }
 
 /// Ticks where the rule of a node has ended, by a value or by a fault.
-pub fn ended<T, L: Ledger>(answer: Result<T, Stop>, steps: &mut Steps<L>) -> Result<T, Stop>
+pub fn end_rule<T, L: Ledger>(answer: Result<T, Stop>, steps: &mut Steps<L>) -> Result<T, Stop>
     ensures same { result ≡ answer }
     ensures ticks { steps.new ≡ steps.old + is_ended answer }
 {

@@ -145,7 +145,7 @@ fn slot(slots: &[Option<Value>], number: usize) -> Result<Option<Value>, AllocEr
 }
 
 // Takes the value out of a slot, where there is one.
-fn taken(slots: &mut Vec<Option<Value>>, number: usize) -> Option<Value>
+fn take_value(slots: &mut Vec<Option<Value>>, number: usize) -> Option<Value>
     ensures value { option_map data_of result ≡ slot_value slots.old.items number }
     ensures same { (i : ℕ) → i ≢ number → slice_index_or slots.new.items i None ≡ slice_index_or slots.old.items i None }
     ensures none { slice_index_or slots.new.items number None ≡ None }
@@ -159,7 +159,7 @@ fn taken(slots: &mut Vec<Option<Value>>, number: usize) -> Option<Value>
 }
 
 // What is known of a project before `project` is called.
-fn unnamed(alloc: Global, settings: &Settings) -> Result<Facts, AllocError>
+fn unnamed_facts(alloc: Global, settings: &Settings) -> Result<Facts, AllocError>
     ensures { IfOk result (λ f. facts_view f ≡ unnamed (settings_view settings.now)) }
 {
     Ok(Facts {
@@ -196,7 +196,7 @@ impl Store {
         ensures world { IfOk result (λ s. world_of s ≡ first_world (settings_view settings) (machine_in machine.value)) }
         ensures names { IfOk result (λ s. s.names ≡ []) }
     {
-        let project = Project::new(alloc, unnamed(alloc, &settings)?)?;
+        let project = Project::new(alloc, unnamed_facts(alloc, &settings)?)?;
         Ok(Store {
             place: Place {
                 file: String::from_str(alloc, "meson.build")?,
@@ -380,7 +380,7 @@ impl Store {
         ensures names { self.new.names ≡ self.old.names }
     {
         let _distinct = self.names.len();
-        taken(&mut self.slots, number)
+        take_value(&mut self.slots, number)
     }
 
     /// The variable of a name has no value any more.
@@ -419,7 +419,7 @@ impl Store {
     }
 
     /// The questions that were asked of the machine file, in order.
-    pub fn asked(&self) -> &[Asked]
+    pub fn questions(&self) -> &[Asked]
         ensures { all_asked_in result.now ≡ self.now.asked }
     {
         &self.asked
@@ -463,7 +463,7 @@ impl Store {
     }
 
     /// How many folders were entered.
-    pub fn entered(&self) -> usize
+    pub fn folders_entered(&self) -> usize
         ensures { result ≡ length self.now.entered }
     {
         self.entered.len()

@@ -56,7 +56,7 @@ pub enum Refusal {
 
 impl Refusal {
     // The number behind the `E`, and the words behind that and a space.
-    fn told(self) -> (u8, &'static str)
+    fn tell(self) -> (u8, &'static str)
         ensures { (result.0, result.1.now) ≡ told_of self }
     {
         match self {
@@ -91,14 +91,14 @@ impl Refusal {
     pub fn number(self) -> u8
         ensures { result ≡ number_of self }
     {
-        self.told().0
+        self.tell().0
     }
 
     /// The words behind the number and a space.
     pub fn words(self) -> &'static str
         ensures { result.now ≡ words_of self }
     {
-        self.told().1
+        self.tell().1
     }
 
     /// What stands between the words and the detail, or none where no detail is told.

@@ -119,7 +119,7 @@ fn say_line<T: Tree, O: Outputs>(
 }
 
 // A line of the log, which begins so.
-fn logged<T: Tree, O: Outputs>(
+fn log_line<T: Tree, O: Outputs>(
     caller: &mut Caller<'_, T, O>,
     start: &str,
     arguments: &Arguments,
@@ -184,7 +184,7 @@ pub fn message<T: Tree, O: Outputs>(
     requires { MayFail T.seen O.seen caller.old }
     ensures { Does T.seen O.seen (option_map data_of) (message (arguments_data arguments.now)) caller.old result caller.new }
 {
-    logged(caller, "Message: ", arguments)
+    log_line(caller, "Message: ", arguments)
 }
 
 /// `warning(values..)`
@@ -195,7 +195,7 @@ pub fn warning<T: Tree, O: Outputs>(
     requires { MayFail T.seen O.seen caller.old }
     ensures { Does T.seen O.seen (option_map data_of) (warning (arguments_data arguments.now)) caller.old result caller.new }
 {
-    logged(caller, "WARNING: ", arguments)
+    log_line(caller, "WARNING: ", arguments)
 }
 
 /// `error(values..)` ends the run with E18 and what is printed.

@@ -14,7 +14,7 @@ use std::alloc::{AllocError, Global};
 use world::{Caller, Stop};
 
 // A path and a piece behind it, within the limit of a text.
-fn lengthened(mut path: String, piece: &str) -> Result<Result<String, Refusal>, AllocError>
+fn lengthen(mut path: String, piece: &str) -> Result<Result<String, Refusal>, AllocError>
     ensures { IfOk result (λ r. string_in r ≡ within_bytes (string_bytes path ++ piece.now)) }
 {
     if path.len() + piece.len() > TEXT_BYTES {
@@ -31,14 +31,14 @@ fn below(mut path: String, text: &str) -> Result<Result<String, Refusal>, AllocE
     ensures { IfOk result (λ r. string_in r ≡ within_bytes (path_below (string_bytes path) text.now)) }
 {
     if ends_with_slash(path.as_str()) {
-        return lengthened(path, text);
+        return lengthen(path, text);
     }
     path.push_str("/")?;
-    lengthened(path, text)
+    lengthen(path, text)
 }
 
 // A path, or none that is within the limit, and one below it.
-fn joined(
+fn join(
     alloc: Global,
     path: Result<String, Refusal>,
     text: &str,
@@ -47,12 +47,12 @@ fn joined(
         → IfOk result (λ r. string_in r ≡ within_bytes (path_below before text.now)) }
 {
     if is_absolute(text) {
-        return lengthened(String::new(alloc), text);
+        return lengthen(String::new(alloc), text);
     }
     match path {
         Ok(path) => {
             if path.is_empty() {
-                lengthened(path, text)
+                lengthen(path, text)
             } else {
                 below(path, text)
             }
@@ -67,7 +67,7 @@ fn path_of(alloc: Global, texts: &[&str]) -> Result<Result<String, Refusal>, All
 {
     let mut path = Ok(String::new(alloc));
     for text in texts {
-        path = joined(alloc, path, text)?;
+        path = join(alloc, path, text)?;
     }
     Ok(path)
 }
@@ -90,6 +90,6 @@ pub fn join_paths<T: Tree, O: Outputs>(
     ensures { Does T.seen O.seen (option_map data_of) (join_paths (arguments_data arguments.now)) caller.now result caller.now }
 {
     let texts = arguments.all_texts(caller.alloc)?;
-    let value = caller.answered(path_value(caller.alloc, &texts)?)?;
+    let value = caller.answer(path_value(caller.alloc, &texts)?)?;
     Ok(Some(value))
 }

@@ -50,7 +50,7 @@ fn integers(alloc: Global, start: u128, stop: u128, step: u128) -> Result<Vec<Va
 }
 
 // The list of them, where that is within the limits.
-fn stepped(
+fn step_through(
     alloc: Global,
     start: u128,
     stop: u128,
@@ -83,7 +83,7 @@ fn range_answer(
     if start < 0 || stop < start || step < 1 {
         return Ok(Err(Refusal::Arguments));
     }
-    stepped(
+    step_through(
         alloc,
         start.unsigned_abs(),
         stop.unsigned_abs(),
@@ -123,6 +123,6 @@ pub fn range<T: Tree, O: Outputs>(
     ensures { Does T.seen O.seen (option_map data_of) (range (arguments_data arguments.now)) caller.now result caller.now }
 {
     let answer = range_of(caller.alloc, arguments)?;
-    let value = caller.answered_by(Rule::GoesUp, "range", answer)?;
+    let value = caller.answer_by(Rule::GoesUp, "range", answer)?;
     Ok(Some(value))
 }

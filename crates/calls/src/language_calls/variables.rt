@@ -9,7 +9,7 @@ ghost use Rattle.calls.specs.language_calls.Variables.{thing, value_or, variable
 use arguments::{Arguments, Rule};
 use basics::faults::Refusal;
 use data::Value;
-use data::language_names::{is_name, is_predefined, predefined};
+use data::language_names::{is_name, is_predefined, predefined_value};
 use ports::{Outputs, Tree};
 use world::{Caller, Stop};
 
@@ -101,7 +101,7 @@ fn set_or<T: Tree, O: Outputs>(
 fn thing<T: Tree, O: Outputs>(caller: &Caller<'_, T, O>, name: &str) -> Result<Option<Value>, Stop>
     ensures { Does T.seen O.seen (option_map data_of) (thing name.now) caller.now result caller.now }
 {
-    let value = predefined(caller.alloc, name)?;
+    let value = predefined_value(caller.alloc, name)?;
     Ok(Some(value))
 }
 

@@ -27,7 +27,7 @@ pub struct OptionFile {
 }
 
 // The options that the statements of the present file declare.
-fn declared_in_file<T: Tree, O: Outputs>(
+fn collect_in_file<T: Tree, O: Outputs>(
     caller: &mut Caller<'_, T, O>,
     file: &File<'_>,
 ) -> Result<Declared, Stop>
@@ -43,14 +43,14 @@ fn declared_in_file<T: Tree, O: Outputs>(
 }
 
 // The options that a text of the present file declares.
-fn declared_in_text<T: Tree, O: Outputs>(
+fn collect_in_text<T: Tree, O: Outputs>(
     caller: &mut Caller<'_, T, O>,
     text: &str,
 ) -> Result<Declared, Stop>
     ensures { Does T.seen O.seen options_in (text_declares text.now) caller.old result caller.new }
 {
     match parse(caller.alloc, text) {
-        Ok(file) => declared_in_file(caller, &file),
+        Ok(file) => collect_in_file(caller, &file),
         Err(SyntaxError::Memory) => Err(Stop::Memory),
         Err(SyntaxError::Fault(fault)) => {
             caller.store.at(fault.line);
@@ -60,14 +60,14 @@ fn declared_in_text<T: Tree, O: Outputs>(
 }
 
 // The options that bytes of the present file declare.
-fn declared_in_bytes<T: Tree, O: Outputs>(
+fn collect_in_bytes<T: Tree, O: Outputs>(
     caller: &mut Caller<'_, T, O>,
     bytes: &[u8],
 ) -> Result<Declared, Stop>
     ensures { Does T.seen O.seen options_in (bytes_declare bytes.now) caller.old result caller.new }
 {
     match str::from_utf8(bytes) {
-        Ok(text) => declared_in_text(caller, text),
+        Ok(text) => collect_in_text(caller, text),
         Err(error) => {
             caller.store.at(line_at(bytes, error.valid_up_to()));
             caller.refuse(Refusal::NotUtf8, "")
@@ -76,7 +76,7 @@ fn declared_in_bytes<T: Tree, O: Outputs>(
 }
 
 // The options that the present file declares, which was found so.
-fn declared_in<T: Tree, O: Outputs>(
+fn collect_found<T: Tree, O: Outputs>(
     caller: &mut Caller<'_, T, O>,
     found: &Found,
 ) -> Result<Declared, Stop>
@@ -85,12 +85,12 @@ fn declared_in<T: Tree, O: Outputs>(
     match found {
         Found::Nothing => Ok(Declared::empty(caller.alloc)),
         Found::TooLong => caller.refuse(Refusal::Limit, ""),
-        Found::Bytes(bytes) => declared_in_bytes(caller, bytes),
+        Found::Bytes(bytes) => collect_in_bytes(caller, bytes),
     }
 }
 
 // The options that the file at a path declares, which was found so.
-fn declared_at<T: Tree, O: Outputs>(
+fn collect_at<T: Tree, O: Outputs>(
     caller: &mut Caller<'_, T, O>,
     path: &'static str,
     found: &Found,
@@ -103,7 +103,7 @@ fn declared_at<T: Tree, O: Outputs>(
         line: 1,
     };
     let outer = caller.store.go(place);
-    let declared = declared_in(caller, found)?;
+    let declared = collect_found(caller, found)?;
     let _inner = caller.store.go(outer);
     Ok(OptionFile { path, declared })
 }
@@ -119,10 +119,10 @@ fn option_file_by<T: Tree, O: Outputs>(
     match found {
         Found::Nothing => {
             let old = find(caller, "meson_options.txt")?;
-            declared_at(caller, "meson_options.txt", &old)
+            collect_at(caller, "meson_options.txt", &old)
         }
-        Found::TooLong => declared_at(caller, "meson.options", found),
-        Found::Bytes(_) => declared_at(caller, "meson.options", found),
+        Found::TooLong => collect_at(caller, "meson.options", found),
+        Found::Bytes(_) => collect_at(caller, "meson.options", found),
     }
 }
 

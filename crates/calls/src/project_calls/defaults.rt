@@ -10,7 +10,7 @@ ghost use Rattle.calls.specs.project_calls.Defaults.{printed_all};
 ghost use Rattle.calls.specs.project_calls.DefaultsView.{answer_in};
 
 use arguments::Arguments;
-use data::printing::printed;
+use data::printing::print;
 use data::{Dictionary, Refusal, Text, Value};
 use options::ProjectDefault;
 use std::alloc::{AllocError, Global};
@@ -47,7 +47,7 @@ pub fn keys_given(arguments: &Arguments) -> &[Text]
 
 /// The texts that values are printed as. `Refusal::Arguments` where one is an object or holds one, `Refusal::Limit` where one is too
 /// long.
-pub fn printed_all(
+pub fn print_all(
     alloc: Global,
     values: &[Value],
 ) -> Result<Result<Vec<String>, Refusal>, AllocError>
@@ -55,7 +55,7 @@ pub fn printed_all(
 {
     let mut texts = Vec::new(alloc);
     for value in values {
-        match printed(alloc, value)? {
+        match print(alloc, value)? {
             Ok(text) => texts.push(String::from_str(alloc, text.as_str())?)?,
             Err(refusal) => return Ok(Err(refusal)),
         }
@@ -76,7 +76,7 @@ pub fn first_unprinted<'n>(
         let Some(name) = names.get(i) else {
             return Ok("");
         };
-        match printed(alloc, value)? {
+        match print(alloc, value)? {
             Ok(_) => {}
             Err(_) => return Ok(name.as_str()),
         }

@@ -21,7 +21,7 @@ pub fn get_option<T: Tree, O: Outputs>(
     match caller.store.option(name) {
         Some(option) => {
             let answer = as_data(caller.alloc, option)?;
-            let value = caller.answered(answer)?;
+            let value = caller.answer(answer)?;
             Ok(Some(value))
         }
         None => caller.refuse_for(Refusal::OptionValue, Rule::IsOption, name),

@@ -12,7 +12,7 @@ ghost use Rattle.calls.specs.project_calls.Project.{project, settled, texts_behi
 ghost use Rattle.calls.specs.project_calls.ProgramsView.{programs_in};
 
 use crate::project_calls::declaring::option_file;
-use crate::project_calls::defaults::{first_unprinted, keys_given, printed_all, values_given};
+use crate::project_calls::defaults::{first_unprinted, keys_given, print_all, values_given};
 use crate::project_calls::flags::flags_of;
 use crate::project_calls::programs::{Programs, ask_programs};
 use crate::project_calls::resolution::resolution;
@@ -85,7 +85,7 @@ fn settle<T: Tree, O: Outputs>(
         Ok(options) => Ok(options),
         Err(fault) => {
             let line = caller.store.line();
-            Err(Stop::Refused(fault.told_in(caller.alloc, path, line)?))
+            Err(Stop::Refused(fault.tell_in(caller.alloc, path, line)?))
         }
     }
 }
@@ -156,14 +156,14 @@ fn begin<T: Tree, O: Outputs>(
 }
 
 // The values of a dictionary of defaults, as they are printed, or a refusal by the name of the first that can't be.
-fn printed_defaults<T: Tree, O: Outputs>(
+fn print_defaults<T: Tree, O: Outputs>(
     caller: &Caller<'_, T, O>,
     arguments: &Arguments,
 ) -> Result<Vec<String>, Stop>
     ensures { Does T.seen O.seen strings_of (defaults_printed (arguments_data arguments.now)) caller.now result caller.now }
 {
     let (keys, values) = (keys_given(arguments), values_given(arguments));
-    let answer = printed_all(caller.alloc, values)?;
+    let answer = print_all(caller.alloc, values)?;
     match answer {
         Ok(texts) => Ok(texts),
         Err(refusal) => {
@@ -210,7 +210,7 @@ pub fn project<T: Tree, O: Outputs>(
         Refusal::ProjectCall,
         "'project': was called before",
     )?;
-    let printed = printed_defaults(caller, arguments)?;
+    let printed = print_defaults(caller, arguments)?;
     require_c(caller, arguments)?;
     let file = option_file(caller)?;
     let resolved = resolution(caller, arguments, &printed, &file.declared)?;

@@ -73,7 +73,7 @@ fn ask_options<T: Tree, O: Outputs>(
 }
 
 // What the options come to by what the machine file says, which was asked.
-fn resolved_by(
+fn resolve_by(
     alloc: Global,
     arguments: &Arguments,
     printed: &[String],
@@ -102,6 +102,6 @@ pub fn resolution<T: Tree, O: Outputs>(
         (resolution (arguments_data arguments.now) (strings_in printed.now) (declared_in declared.now)) caller.old result caller.new }
 {
     ask_options(caller, declared)?;
-    let resolved = resolved_by(caller.alloc, arguments, printed, declared, caller.store)?;
+    let resolved = resolve_by(caller.alloc, arguments, printed, declared, caller.store)?;
     Ok(resolved)
 }

@@ -33,7 +33,7 @@ fn word_of(state: FeatureState) -> &'static str
     }
 }
 
-fn shown(alloc: Global, value: &OptionValue) -> Result<targets::OptionValue, AllocError>
+fn show(alloc: Global, value: &OptionValue) -> Result<targets::OptionValue, AllocError>
     ensures { IfOk result (λ v. option_view v ≡ shown (value_in value.now)) }
 {
     match value {
@@ -55,7 +55,7 @@ fn entry_of(alloc: Global, name: &str, value: &OptionValue) -> Result<OptionEntr
     Ok(OptionEntry {
         name: String::from_str(alloc, name)?,
         kind: type_of(value),
-        value: shown(alloc, value)?,
+        value: show(alloc, value)?,
     })
 }
 

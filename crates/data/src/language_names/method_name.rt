@@ -51,31 +51,31 @@ struct Methods {
 }
 
 impl ValueMethods {
-    fn named(name: &str) -> ValueMethods
+    fn from_name(name: &str) -> ValueMethods
         ensures { result ≡ value_methods_named name.now }
     {
         ValueMethods {
-            boolean: BooleanMethod::named(name),
-            integer: IntegerMethod::named(name),
-            text: TextMethod::named(name),
-            list: ListMethod::named(name),
-            dictionary: DictionaryMethod::named(name),
+            boolean: BooleanMethod::from_name(name),
+            integer: IntegerMethod::from_name(name),
+            text: TextMethod::from_name(name),
+            list: ListMethod::from_name(name),
+            dictionary: DictionaryMethod::from_name(name),
         }
     }
 }
 
 impl ObjectMethods {
-    fn named(name: &str) -> ObjectMethods
+    fn from_name(name: &str) -> ObjectMethods
         ensures { result ≡ object_methods_named name.now }
     {
         ObjectMethods {
-            compiler: CompilerMethod::named(name),
-            configuration: ConfigurationMethod::named(name),
-            dependency: DependencyMethod::named(name),
-            feature: FeatureMethod::named(name),
-            machine: MachineMethod::named(name),
-            meson: MesonMethod::named(name),
-            program: ProgramMethod::named(name),
+            compiler: CompilerMethod::from_name(name),
+            configuration: ConfigurationMethod::from_name(name),
+            dependency: DependencyMethod::from_name(name),
+            feature: FeatureMethod::from_name(name),
+            machine: MachineMethod::from_name(name),
+            meson: MesonMethod::from_name(name),
+            program: ProgramMethod::from_name(name),
             build_target: TargetMethod::build_named(name),
             custom_target: TargetMethod::custom_named(name),
             output: TargetMethod::output_named(name),
@@ -107,8 +107,8 @@ impl MethodName {
     pub fn new(text: Text) -> MethodName
         ensures { result ≡ text }
     {
-        let values = ValueMethods::named(text.as_str());
-        let objects = ObjectMethods::named(text.as_str());
+        let values = ValueMethods::from_name(text.as_str());
+        let objects = ObjectMethods::from_name(text.as_str());
         let methods = Methods { values, objects };
         MethodName { text, methods }
     }

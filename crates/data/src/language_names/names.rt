@@ -66,7 +66,7 @@ pub fn is_predefined(name: &str) -> bool
 
 /// What such a name stands for: the object `meson`, or the machine. What the machine file says of the machine is asked by the methods of
 /// that object, so nothing of it is looked at here.
-pub fn predefined(alloc: Global, name: &str) -> Result<Value, AllocError>
+pub fn predefined_value(alloc: Global, name: &str) -> Result<Value, AllocError>
     ensures { IfOk result (λ value. data_of value ≡ predefined name.now) }
 {
     if name == "meson" {

@@ -26,7 +26,7 @@ pub enum CompilerMethod {
 
 impl CompilerMethod {
     /// The method of a name.
-    pub(crate) fn named(name: &str) -> Option<CompilerMethod>
+    pub(crate) fn from_name(name: &str) -> Option<CompilerMethod>
         ensures { result ≡ compiler_method_named name.now }
     {
         match name {
@@ -64,7 +64,7 @@ pub enum ConfigurationMethod {
 
 impl ConfigurationMethod {
     /// The method of a name.
-    pub(crate) fn named(name: &str) -> Option<ConfigurationMethod>
+    pub(crate) fn from_name(name: &str) -> Option<ConfigurationMethod>
         ensures { result ≡ configuration_method_named name.now }
     {
         match name {
@@ -91,7 +91,7 @@ pub enum DependencyMethod {
 
 impl DependencyMethod {
     /// The method of a name.
-    pub(crate) fn named(name: &str) -> Option<DependencyMethod>
+    pub(crate) fn from_name(name: &str) -> Option<DependencyMethod>
         ensures { result ≡ dependency_method_named name.now }
     {
         match name {
@@ -114,7 +114,7 @@ pub enum FeatureMethod {
 
 impl FeatureMethod {
     /// The method of a name.
-    pub(crate) fn named(name: &str) -> Option<FeatureMethod>
+    pub(crate) fn from_name(name: &str) -> Option<FeatureMethod>
         ensures { result ≡ feature_method_named name.now }
     {
         match name {
@@ -138,7 +138,7 @@ pub enum MachineMethod {
 
 impl MachineMethod {
     /// The method of a name.
-    pub(crate) fn named(name: &str) -> Option<MachineMethod>
+    pub(crate) fn from_name(name: &str) -> Option<MachineMethod>
         ensures { result ≡ machine_method_named name.now }
     {
         match name {
@@ -171,7 +171,7 @@ pub enum MesonMethod {
 
 impl MesonMethod {
     /// The method of a name.
-    pub(crate) fn named(name: &str) -> Option<MesonMethod>
+    pub(crate) fn from_name(name: &str) -> Option<MesonMethod>
         ensures { result ≡ meson_method_named name.now }
     {
         match name {
@@ -203,7 +203,7 @@ pub enum ProgramMethod {
 
 impl ProgramMethod {
     /// The method of a name.
-    pub(crate) fn named(name: &str) -> Option<ProgramMethod>
+    pub(crate) fn from_name(name: &str) -> Option<ProgramMethod>
         ensures { result ≡ program_method_named name.now }
     {
         match name {

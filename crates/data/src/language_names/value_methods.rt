@@ -12,7 +12,7 @@ pub enum BooleanMethod {
 
 impl BooleanMethod {
     /// The method of a name.
-    pub(crate) fn named(name: &str) -> Option<BooleanMethod>
+    pub(crate) fn from_name(name: &str) -> Option<BooleanMethod>
         ensures { result ≡ boolean_method_named name.now }
     {
         match name {
@@ -33,7 +33,7 @@ pub enum IntegerMethod {
 
 impl IntegerMethod {
     /// The method of a name.
-    pub(crate) fn named(name: &str) -> Option<IntegerMethod>
+    pub(crate) fn from_name(name: &str) -> Option<IntegerMethod>
         ensures { result ≡ integer_method_named name.now }
     {
         match name {
@@ -67,7 +67,7 @@ pub enum TextMethod {
 
 impl TextMethod {
     /// The method of a name.
-    pub(crate) fn named(name: &str) -> Option<TextMethod>
+    pub(crate) fn from_name(name: &str) -> Option<TextMethod>
         ensures { result ≡ text_method_named name.now }
     {
         // a name is compared with those of about its length alone
@@ -113,7 +113,7 @@ pub enum ListMethod {
 
 impl ListMethod {
     /// The method of a name.
-    pub(crate) fn named(name: &str) -> Option<ListMethod>
+    pub(crate) fn from_name(name: &str) -> Option<ListMethod>
         ensures { result ≡ list_method_named name.now }
     {
         match name {
@@ -135,7 +135,7 @@ pub enum DictionaryMethod {
 
 impl DictionaryMethod {
     /// The method of a name.
-    pub(crate) fn named(name: &str) -> Option<DictionaryMethod>
+    pub(crate) fn from_name(name: &str) -> Option<DictionaryMethod>
         ensures { result ≡ dictionary_method_named name.now }
     {
         match name {

@@ -21,7 +21,7 @@ pub enum Piece<'v> {
 
 /// What is left of a value to be printed.
 ///
-/// Its pieces, one after another, are the text that the value is printed as: [`crate::printing::printed`] says which. That text may be
+/// Its pieces, one after another, are the text that the value is printed as: [`crate::printing::print`] says which. That text may be
 /// longer than any value can be, and is never held as a whole. The work is linear in the value.
 #[derive(Drop)]
 pub struct Printer<'v> {

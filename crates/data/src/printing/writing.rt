@@ -18,7 +18,7 @@ use std::alloc::{AllocError, Global};
 ///
 /// `Refusal::Arguments` where the value is an object or holds one, else `Refusal::Limit` where the text is longer
 /// than 16,777,216 bytes. No text is made that is longer.
-pub fn printed(alloc: Global, value: &Value) -> Result<Result<Text, Refusal>, AllocError>
+pub fn print(alloc: Global, value: &Value) -> Result<Result<Text, Refusal>, AllocError>
     ensures { IfOk result (λ r. r ≡ printed (data_of value.now)) }
 {
     if !is_printable(value) {

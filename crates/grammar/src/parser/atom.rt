@@ -9,7 +9,7 @@ ghost use Rattle.grammar.specs.Reading.{Gives, head_is, more_at};
 ghost use Rattle.grammar.specs.ReadingExpressions.{base_at, dictionary_at, ends_expression, entered_at, inner_at, list_at, single_at};
 ghost use Rattle.grammar.specs.ReadingExpressions.{single_of, ternary_at, unary_at};
 
-use super::{Parser, Read, fitted, put};
+use super::{Parser, Read, fit, put};
 use crate::tree::{Entry, Expression, Literal};
 use lexer::token::{Kind, Token};
 
@@ -129,9 +129,9 @@ impl<'a> Parser<'_, 'a> {
             put(&mut items, item)?;
             more = self.more(Kind::CloseBracket);
         }
-        let items = self.closed(Kind::CloseBracket, items)?;
+        let items = self.close(Kind::CloseBracket, items)?;
         Ok(Expression::List {
-            items: fitted(items),
+            items: fit(items),
             line: open.line as usize,
         })
     }
@@ -149,14 +149,14 @@ impl<'a> Parser<'_, 'a> {
         let mut more = !self.begins(Kind::CloseBrace);
         while more {
             let key = self.ternary(inside, ternaries)?;
-            let key = self.closed(Kind::Colon, key)?;
+            let key = self.close(Kind::Colon, key)?;
             let value = self.ternary(inside, ternaries)?;
             put(&mut entries, Entry { key, value })?;
             more = self.more(Kind::CloseBrace);
         }
-        let entries = self.closed(Kind::CloseBrace, entries)?;
+        let entries = self.close(Kind::CloseBrace, entries)?;
         Ok(Expression::Dictionary {
-            entries: fitted(entries),
+            entries: fit(entries),
             line: open.line as usize,
         })
     }
@@ -180,7 +180,7 @@ impl<'a> Parser<'_, 'a> {
         } else if self.begins(Kind::OpenParenthesis) {
             let (_, levels) = self.enter(Kind::OpenParenthesis, levels)?;
             let inner = self.ternary(levels, ternaries)?;
-            Ok(self.closed(Kind::CloseParenthesis, inner)?)
+            Ok(self.close(Kind::CloseParenthesis, inner)?)
         } else if self.begins(Kind::OpenBracket) {
             self.list(levels, ternaries)
         } else if self.begins(Kind::OpenBrace) {

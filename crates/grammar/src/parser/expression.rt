@@ -10,7 +10,7 @@ ghost use Rattle.grammar.specs.Reading.{Gives, begins, head_is, two_begin};
 ghost use Rattle.grammar.specs.ReadingExpressions.{chain_at, ternary_at, comparison_at, comparison_operator_at, compares, enter_at};
 ghost use Rattle.grammar.specs.ReadingExpressions.{expr_at, not_in_at, operator_of, part_at, unary_at};
 
-use super::{Parser, Read, fitted, put};
+use super::{Parser, Read, fit, put};
 use crate::stop::{ReadError, Stop};
 use crate::tree::{Expression, Operand, Operator};
 use lexer::token::{Kind, Token};
@@ -71,7 +71,7 @@ fn comparative(kind: Kind) -> Option<Operator>
 }
 
 // A value on the heap.
-pub(super) fn boxed<T: Drop>(alloc: Global, value: T) -> Result<Box<T>, AllocError>
+pub(super) fn allocate<T: Drop>(alloc: Global, value: T) -> Result<Box<T>, AllocError>
     ensures { IfOk result (λ b. b.value ≡ value) }
 {
     Ok(Box::new(alloc, value)?)
@@ -228,7 +228,7 @@ impl<'a> Parser<'_, 'a> {
         if !self.operates(rank) {
             return Ok(first);
         }
-        let first = boxed(self.alloc, first)?;
+        let first = allocate(self.alloc, first)?;
         let mut others = Vec::new(self.alloc);
         while let Some(operator) = self.operator(rank) {
             let value = self.part(levels, ternaries, rank)?;
@@ -236,7 +236,7 @@ impl<'a> Parser<'_, 'a> {
         }
         Ok(Expression::Chain {
             first,
-            others: fitted(others),
+            others: fit(others),
             line,
         })
     }
@@ -254,7 +254,7 @@ impl<'a> Parser<'_, 'a> {
         if !self.compares() {
             return Ok(first);
         }
-        let first = boxed(self.alloc, first)?;
+        let first = allocate(self.alloc, first)?;
         let operator = self.comparison_operator()?;
         let value = self.chain(levels, ternaries, Rank::Sum)?;
         let mut others = Vec::with_capacity(self.alloc, 1)?;
@@ -282,13 +282,13 @@ impl<'a> Parser<'_, 'a> {
         if !self.asks(ternaries) {
             return Ok(test);
         }
-        let test = boxed(self.alloc, test)?;
+        let test = allocate(self.alloc, test)?;
         self.take(Kind::Question)?;
         let yes = self.chain(levels, false, Rank::Or)?;
-        let yes = self.closed(Kind::Colon, yes)?;
-        let yes = boxed(self.alloc, yes)?;
+        let yes = self.close(Kind::Colon, yes)?;
+        let yes = allocate(self.alloc, yes)?;
         let no = self.chain(levels, false, Rank::Or)?;
-        let no = boxed(self.alloc, no)?;
+        let no = allocate(self.alloc, no)?;
         Ok(Expression::Ternary {
             test,
             yes,

@@ -8,8 +8,8 @@ ghost use Rattle.grammar.specs.Reading.{Gives, head_is, two_begin};
 ghost use Rattle.grammar.specs.ReadingExpressions.{entered_at, inner_at, items_at, label_at, link_at, links_on, name_colon_at, prefix_of};
 ghost use Rattle.grammar.specs.ReadingExpressions.{unary_at, word_of};
 
-use super::expression::boxed;
-use super::{Parser, Read, fitted, put};
+use super::expression::allocate;
+use super::{Parser, Read, fit, put};
 use crate::tree::{Argument, Expression, Link, Prefix};
 use lexer::token::Kind;
 
@@ -85,8 +85,8 @@ impl<'a> Parser<'_, 'a> {
             put(&mut items, Argument { name, value })?;
             more = self.more(Kind::CloseParenthesis);
         }
-        let items = self.closed(Kind::CloseParenthesis, items)?;
-        Ok(fitted(items))
+        let items = self.close(Kind::CloseParenthesis, items)?;
+        Ok(fit(items))
     }
 
     // What is asked of a value: a method or an index.
@@ -108,7 +108,7 @@ impl<'a> Parser<'_, 'a> {
         }
         let (_, levels) = self.enter(Kind::OpenBracket, levels)?;
         let index = self.ternary(levels, ternaries)?;
-        let index = self.closed(Kind::CloseBracket, index)?;
+        let index = self.close(Kind::CloseBracket, index)?;
         Ok(Link::Index { index })
     }
 
@@ -134,7 +134,7 @@ impl<'a> Parser<'_, 'a> {
         if let Some(prefix) = self.prefix() {
             let (word, levels) = self.enter(word_of(prefix), levels)?;
             let value = self.unary(levels, ternaries)?;
-            let value = boxed(self.alloc, value)?;
+            let value = allocate(self.alloc, value)?;
             let line = word.line as usize;
             return Ok(Expression::Prefix {
                 prefix,
@@ -147,13 +147,13 @@ impl<'a> Parser<'_, 'a> {
         if !self.links_on() {
             return Ok(first);
         }
-        let first = boxed(self.alloc, first)?;
+        let first = allocate(self.alloc, first)?;
         let mut links = Vec::new(self.alloc);
         while self.links_on() {
             let link = self.link(levels, ternaries)?;
             put(&mut links, link)?;
         }
-        let links = fitted(links);
+        let links = fit(links);
         Ok(Expression::Postfix { first, links, line })
     }
 }

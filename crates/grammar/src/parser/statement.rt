@@ -11,8 +11,8 @@ ghost use Rattle.grammar.specs.ReadingStatements.{in_body, leave_at, leave_tree,
 ghost use Rattle.grammar.specs.ReadingStatements.{plain_at, second_at, set_at, set_tree, sign_of, simple_at, stmt_at};
 ghost use Rattle.grammar.specs.Tree.{branch_of, statement_of};
 
-use super::expression::boxed;
-use super::{Parser, Read, fitted, put};
+use super::expression::allocate;
+use super::{Parser, Read, fit, put};
 use crate::stop::{ReadError, Stop};
 use crate::tree::{Branch, Expression, Statement};
 use lexer::token::{Kind, Token};
@@ -93,7 +93,7 @@ impl<'a> Parser<'_, 'a> {
         let name = self.take(Kind::Name)?;
         self.take(if adds { Kind::PlusAssign } else { Kind::Assign })?;
         let value = self.expression(levels)?;
-        let value = boxed(self.alloc, value)?;
+        let value = allocate(self.alloc, value)?;
         Ok(set(name, adds, value))
     }
 
@@ -210,8 +210,8 @@ impl<'a> Parser<'_, 'a> {
         let word = self.take(Kind::Foreach)?;
         let (first, second) = self.names()?;
         let round = self.branch(true, levels)?;
-        let round = self.closed(Kind::EndForeach, round)?;
-        let round = boxed(self.alloc, round)?;
+        let round = self.close(Kind::EndForeach, round)?;
+        let round = allocate(self.alloc, round)?;
         Ok(Statement::Foreach {
             line: word.line as usize,
             first,
@@ -231,7 +231,7 @@ impl<'a> Parser<'_, 'a> {
         let word = self.take(Kind::If)?;
         let branches = self.parts(inside, levels)?;
         let otherwise = self.otherwise(inside, levels)?;
-        let (branches, otherwise) = self.closed(Kind::EndIf, (branches, otherwise))?;
+        let (branches, otherwise) = self.close(Kind::EndIf, (branches, otherwise))?;
         Ok(Statement::If {
             line: word.line as usize,
             branches,
@@ -249,7 +249,7 @@ impl<'a> Parser<'_, 'a> {
     {
         let line = self.first_line();
         let condition = self.expression(levels)?;
-        let condition = self.closed(Kind::Newline, condition)?;
+        let condition = self.close(Kind::Newline, condition)?;
         let body = self.body(inside, levels)?;
         Ok(Branch {
             condition,
@@ -273,7 +273,7 @@ impl<'a> Parser<'_, 'a> {
             let other = self.branch(inside, levels)?;
             put(&mut parts, other)?;
         }
-        Ok(fitted(parts))
+        Ok(fit(parts))
     }
 
     // What stands behind `else`, or nothing.
@@ -304,7 +304,7 @@ impl<'a> Parser<'_, 'a> {
             self.line(inside, levels, &mut statements)?;
             self.take(Kind::Newline)?;
         }
-        Ok(fitted(statements))
+        Ok(fit(statements))
     }
 
     // Puts the statement of a line behind the others, if there is one.

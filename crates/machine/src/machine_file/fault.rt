@@ -20,7 +20,7 @@ pub struct MachineFault {
 
 impl MachineFault {
     /// The fault as a run tells it: its file is `<machine file>`.
-    pub fn told(&self, alloc: Global) -> Result<Fault, AllocError>
+    pub fn tell(&self, alloc: Global) -> Result<Fault, AllocError>
         ensures { IfOk result (λ fault. fault_view fault ≡ told (fault_in self.now)) }
     {
         Fault::new(

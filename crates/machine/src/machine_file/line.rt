@@ -7,7 +7,7 @@ ghost use Rattle.machine.specs.machine_file.Lines.{form_of};
 ghost use Rattle.machine.specs.machine_file.View.{form_in};
 
 use crate::machine_file::section::SectionKind;
-use crate::machine_file::text::{Blanks, before_last_byte, cut_first, cut_last, trimmed};
+use crate::machine_file::text::{Blanks, before_last_byte, cut_first, cut_last, trim};
 
 /// What a line is, without blanks at its ends.
 #[derive(Clone, Copy)]
@@ -47,5 +47,5 @@ pub fn cut_pair(kind: SectionKind, text: &str) -> Option<(&str, &str)>
         cut_first(text, '=')
     };
     let (key, value) = parts?;
-    Some((trimmed(Blanks::All, key), trimmed(Blanks::All, value)))
+    Some((trim(Blanks::All, key), trim(Blanks::All, value)))
 }

@@ -99,7 +99,7 @@ impl<'m> Misfit<'m> {
     ) -> Misfit<'m>
         ensures { misfit_in result ≡ misfit_of section.now kind key.now (value_in value.now) }
     {
-        match kind.expected(key) {
+        match kind.expects(key) {
             None => Misfit::NoKey(section, key),
             Some(expected) => {
                 if expected.fits(value) {

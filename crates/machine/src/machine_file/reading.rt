@@ -17,7 +17,7 @@ use crate::machine_file::machine::{Entry, Machine, Section};
 use crate::machine_file::misfit::Misfit;
 use crate::machine_file::section::SectionKind;
 use crate::machine_file::state::{Heading, OpenSection, Reading};
-use crate::machine_file::text::{Blanks, trimmed};
+use crate::machine_file::text::{Blanks, trim};
 use crate::machine_file::value::{MachineValue, read_value};
 use basics::faults::Refusal;
 use basics::tables::{SipMap, new_map};
@@ -138,7 +138,7 @@ fn all_sections(alloc: Global, reading: Reading) -> Result<SipMap<String, Sectio
 }
 
 // A line may not stand where it does, for this reason.
-fn refused(alloc: Global, misfit: Misfit<'_>) -> Result<Result<Reading, String>, AllocError>
+fn refuse(alloc: Global, misfit: Misfit<'_>) -> Result<Result<Reading, String>, AllocError>
     ensures { IfOk result (λ more. more_in more ≡ refused (misfit_in misfit.entry)) }
 {
     Ok(Err(misfit.words(alloc)?))
@@ -154,11 +154,11 @@ fn with_section(
     ensures { IfOk result (λ more. more_in more ≡ with_section (said_in reading) line name.now (kind_of name.now)) }
 {
     let Some(kind) = SectionKind::of(name) else {
-        return refused(alloc, Misfit::NoSection(name));
+        return refuse(alloc, Misfit::NoSection(name));
     };
     let ended = all_sections(alloc, reading)?;
     if has_name(&ended, name) {
-        return refused(alloc, Misfit::SectionTwice(name));
+        return refuse(alloc, Misfit::SectionTwice(name));
     }
     let current = OpenSection {
         name: String::from_str(alloc, name)?,
@@ -200,7 +200,7 @@ fn in_section(
     ensures { IfOk result (λ more. more_in more ≡ in_section (said_in reading) line text.now (said_in reading).open_section) }
 {
     let Some(section) = &mut reading.current else {
-        return refused(alloc, Misfit::Outside);
+        return refuse(alloc, Misfit::Outside);
     };
     match add_line(alloc, section, line, text)? {
         Ok(()) => Ok(Ok(reading)),
@@ -236,7 +236,7 @@ pub fn read_lines(alloc: Global, text: &str) -> Result<Result<Machine, MachineFa
     let mut number = 0;
     for line in text.lines() {
         number += 1;
-        match after(alloc, reading, number, trimmed(Blanks::All, line))? {
+        match after(alloc, reading, number, trim(Blanks::All, line))? {
             Ok(more) => reading = more,
             Err(detail) => {
                 return Ok(Err(MachineFault {

@@ -74,7 +74,7 @@ impl SectionKind {
     }
 
     // What a key of this section takes, if the section knows it.
-    pub(crate) fn expected(self, key: &str) -> Option<Expected>
+    pub(crate) fn expects(self, key: &str) -> Option<Expected>
         ensures { result ≡ expected self key.now }
     {
         match self {
@@ -92,7 +92,7 @@ impl SectionKind {
     pub(crate) fn knows(self, key: &str, value: &MachineValue) -> bool
         ensures { result ≡ knows self key.now (value_in value.now) }
     {
-        match self.expected(key) {
+        match self.expects(key) {
             Some(expected) => expected.fits(value),
             None => false,
         }

@@ -48,7 +48,7 @@ fn to_word(blanks: Blanks, text: &str) -> &str
 }
 
 /// A text without blanks at its ends.
-pub fn trimmed(blanks: Blanks, text: &str) -> &str
+pub fn trim(blanks: Blanks, text: &str) -> &str
     ensures { result.now ≡ trimmed blanks text.now }
 {
     to_word(blanks, from_word(blanks, text))

@@ -93,7 +93,7 @@ fn texts(alloc: Global, texts: &[&str]) -> Result<Vec<String>, AllocError>
     Ok(owned)
 }
 
-fn listed(alloc: Global, choices: ChoiceList) -> Result<Vec<String>, AllocError>
+fn to_list(alloc: Global, choices: ChoiceList) -> Result<Vec<String>, AllocError>
     ensures { IfOk result (λ v. strings_in v.items ≡ list_in choices) }
 {
     match choices {
@@ -121,7 +121,7 @@ fn kind_of(alloc: Global, form: Form) -> Result<OptionKind, AllocError>
         Form::Text(_) => Ok(OptionKind::Text),
         Form::Boolean(_) => Ok(OptionKind::Boolean),
         Form::Combo(choices, _) => {
-            let choices = Choices::new(alloc, listed(alloc, choices)?)?;
+            let choices = Choices::new(alloc, to_list(alloc, choices)?)?;
             Ok(OptionKind::Combo(choices))
         }
         Form::Words => Ok(OptionKind::Words),

@@ -22,7 +22,7 @@ impl Drop for Choices {
 }
 
 // Each of the texts, once.
-fn known_of(alloc: Global, texts: &[String]) -> Result<SipSet<String>, AllocError>
+fn set_of(alloc: Global, texts: &[String]) -> Result<SipSet<String>, AllocError>
     ensures { (text : List ℕ) → IfOk result (λ known. is_among (strings_in known.keys) text ≡ is_among (strings_in texts.now) text) }
 {
     let mut known = new_set(alloc);
@@ -40,7 +40,7 @@ impl Choices {
     pub fn new(alloc: Global, texts: Vec<String>) -> Result<Choices, AllocError>
         ensures { IfOk result (λ choices. texts_of choices ≡ strings_in texts.items) }
     {
-        let known = known_of(alloc, &texts)?;
+        let known = set_of(alloc, &texts)?;
         Ok(Choices { texts, known })
     }
 

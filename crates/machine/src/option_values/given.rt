@@ -30,7 +30,7 @@ pub fn push_quoted(text: &mut String, items: &[String]) -> Result<(), AllocError
 }
 
 // A list as it is printed.
-fn printed(alloc: Global, items: &[String]) -> Result<String, AllocError>
+fn print(alloc: Global, items: &[String]) -> Result<String, AllocError>
     ensures { IfOk result (λ text. string_bytes text ≡ printed (strings_in items.now)) }
 {
     let mut text = String::from_str(alloc, "[")?;
@@ -47,7 +47,7 @@ fn value_of_printed(
 ) -> Result<Option<OptionValue>, AllocError>
     ensures { IfOk result (λ v. option_map value_in v ≡ value_of (kind_in kind.now) (printed (strings_in items.now))) }
 {
-    let text = printed(alloc, items)?;
+    let text = print(alloc, items)?;
     value_of_text(alloc, kind, text.as_str())
 }
 

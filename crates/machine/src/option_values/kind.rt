@@ -71,7 +71,7 @@ pub enum OptionType {
 impl OptionType {
     /// The type of this name, if there is one: `string`, `boolean`, `combo`, `integer`, `array` or `feature`.
     #[tactic(auto, unfolding(crate::specs::option_values::Types::type_named))]
-    pub fn named(name: &str) -> Option<OptionType>
+    pub fn from_name(name: &str) -> Option<OptionType>
         ensures { result ≡ type_named name.now }
     {
         match name {

@@ -5,7 +5,7 @@ ghost use Rattle.std.specs.Option.{option_map};
 ghost use Rattle.machine.specs.option_values.Lists.{are_among, begins_list, items_of, listed, parts_of, word_items_of};
 ghost use Rattle.machine.specs.option_values.View.{choices_in, strings_in, texts_of};
 
-use crate::machine_file::{Blanks, MachineValue, read_value, trimmed};
+use crate::machine_file::{Blanks, MachineValue, read_value, trim};
 use crate::option_values::choices::Choices;
 use crate::option_values::words::words_of;
 use std::alloc::{AllocError, Global};
@@ -36,7 +36,7 @@ fn parts_of(alloc: Global, text: &str) -> Result<Vec<String>, AllocError>
         return Ok(parts);
     }
     for part in text.split(',') {
-        parts.push(String::from_str(alloc, trimmed(Blanks::Spaces, part))?)?;
+        parts.push(String::from_str(alloc, trim(Blanks::Spaces, part))?)?;
     }
     Ok(parts)
 }
@@ -49,7 +49,7 @@ fn begins_list(text: &str) -> bool
 }
 
 // The items of a list literal of plain strings.
-fn listed(alloc: Global, text: &str) -> Result<Option<Vec<String>>, AllocError>
+fn to_list(alloc: Global, text: &str) -> Result<Option<Vec<String>>, AllocError>
     ensures { IfOk result (λ items. option_map (λ i. strings_in i.items) items ≡ listed text.now) }
 {
     match read_value(alloc, text)? {
@@ -63,7 +63,7 @@ pub fn items_of(alloc: Global, text: &str) -> Result<Option<Vec<String>>, AllocE
     ensures { IfOk result (λ items. option_map (λ i. strings_in i.items) items ≡ items_of text.now) }
 {
     if begins_list(text) {
-        return listed(alloc, text);
+        return to_list(alloc, text);
     }
     Ok(Some(parts_of(alloc, text)?))
 }
@@ -73,7 +73,7 @@ pub fn word_items_of(alloc: Global, text: &str) -> Result<Option<Vec<String>>, A
     ensures { IfOk result (λ items. option_map (λ i. strings_in i.items) items ≡ word_items_of text.now) }
 {
     if begins_list(text) {
-        return listed(alloc, text);
+        return to_list(alloc, text);
     }
     words_of(alloc, text)
 }

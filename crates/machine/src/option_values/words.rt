@@ -60,7 +60,7 @@ fn begun(alloc: Global) -> Cutting
     }
 }
 
-fn moved(cutting: Cutting, place: Place) -> Cutting
+fn move_on(cutting: Cutting, place: Place) -> Cutting
     ensures { cut_in result ≡ moved (cut_in cutting) place }
 {
     let Cutting {
@@ -72,7 +72,7 @@ fn moved(cutting: Cutting, place: Place) -> Cutting
 }
 
 // The character belongs to the word.
-fn grown(cutting: Cutting, place: Place, character: char) -> Result<Cutting, AllocError>
+fn grow(cutting: Cutting, place: Place, character: char) -> Result<Cutting, AllocError>
     ensures { IfOk result (λ more. cut_in more ≡ grown (cut_in cutting) place character) }
 {
     let Cutting {
@@ -85,7 +85,7 @@ fn grown(cutting: Cutting, place: Place, character: char) -> Result<Cutting, All
 }
 
 // The word has ended.
-fn parted(alloc: Global, cutting: Cutting) -> Result<Cutting, AllocError>
+fn part(alloc: Global, cutting: Cutting) -> Result<Cutting, AllocError>
     ensures { IfOk result (λ more. cut_in more ≡ parted (cut_in cutting)) }
 {
     let Cutting {
@@ -106,10 +106,10 @@ fn bare(cutting: Cutting, character: char) -> Result<Cutting, AllocError>
     ensures { IfOk result (λ more. cut_in more ≡ bare (cut_in cutting) character) }
 {
     match character {
-        '\\' => Ok(moved(cutting, Place::Escaped)),
-        '\'' => Ok(moved(cutting, Place::Single)),
-        '"' => Ok(moved(cutting, Place::Double)),
-        _ => grown(cutting, Place::Bare, character),
+        '\\' => Ok(move_on(cutting, Place::Escaped)),
+        '\'' => Ok(move_on(cutting, Place::Single)),
+        '"' => Ok(move_on(cutting, Place::Double)),
+        _ => grow(cutting, Place::Bare, character),
     }
 }
 
@@ -118,9 +118,9 @@ fn double(cutting: Cutting, character: char) -> Result<Cutting, AllocError>
     ensures { IfOk result (λ more. cut_in more ≡ after_at Place.Double (cut_in cutting) character) }
 {
     match character {
-        '"' => Ok(moved(cutting, Place::Bare)),
-        '\\' => Ok(moved(cutting, Place::DoubleEscaped)),
-        _ => grown(cutting, Place::Double, character),
+        '"' => Ok(move_on(cutting, Place::Bare)),
+        '\\' => Ok(move_on(cutting, Place::DoubleEscaped)),
+        _ => grow(cutting, Place::Double, character),
     }
 }
 
@@ -129,10 +129,10 @@ fn double_escaped(cutting: Cutting, character: char) -> Result<Cutting, AllocErr
     ensures { IfOk result (λ more. cut_in more ≡ after_at Place.DoubleEscaped (cut_in cutting) character) }
 {
     if is_escapable(character) {
-        return grown(cutting, Place::Double, character);
+        return grow(cutting, Place::Double, character);
     }
-    let cutting = grown(cutting, Place::Double, '\\')?;
-    grown(cutting, Place::Double, character)
+    let cutting = grow(cutting, Place::Double, '\\')?;
+    grow(cutting, Place::Double, character)
 }
 
 // After a character at this place.
@@ -146,11 +146,11 @@ fn after_at(
 {
     match place {
         Place::Between if parts_words(character) => Ok(cutting),
-        Place::Bare if parts_words(character) => parted(alloc, cutting),
+        Place::Bare if parts_words(character) => part(alloc, cutting),
         Place::Between | Place::Bare => bare(cutting, character),
-        Place::Escaped => grown(cutting, Place::Bare, character),
-        Place::Single if character == '\'' => Ok(moved(cutting, Place::Bare)),
-        Place::Single => grown(cutting, Place::Single, character),
+        Place::Escaped => grow(cutting, Place::Bare, character),
+        Place::Single if character == '\'' => Ok(move_on(cutting, Place::Bare)),
+        Place::Single => grow(cutting, Place::Single, character),
         Place::Double => double(cutting, character),
         Place::DoubleEscaped => double_escaped(cutting, character),
     }
@@ -165,7 +165,7 @@ fn after(alloc: Global, cutting: Cutting, character: char) -> Result<Cutting, Al
 }
 
 // The words at the end of the text, unless a quote is open or a backslash has nothing behind it.
-fn ended(cutting: Cutting) -> Result<Option<Vec<String>>, AllocError>
+fn end(cutting: Cutting) -> Result<Option<Vec<String>>, AllocError>
     ensures { IfOk result (λ words. option_map (λ w. strings_in w.items) words ≡ ended (cut_in cutting)) }
 {
     let Cutting {
@@ -199,5 +199,5 @@ pub fn words_of(alloc: Global, text: &str) -> Result<Option<Vec<String>>, AllocE
     for character in text.chars() {
         cutting = after(alloc, cutting, character)?;
     }
-    ended(cutting)
+    end(cutting)
 }

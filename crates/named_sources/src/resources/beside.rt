@@ -10,7 +10,7 @@ ghost use Rattle.machine.specs.machine_file.View.{strings_in};
 ghost use Rattle.named_sources.specs.resources.Beside.{aside_of, asides_named, call_question, state_word, words_in, words_of};
 
 use arguments::Arguments;
-use data::{Feature, Object, Text, Value, opened};
+use data::{Feature, Object, Text, Value, open_up};
 use machine::machine_file::{Aside, Question, Topic};
 use std::alloc::{AllocError, Global};
 
@@ -101,7 +101,7 @@ fn put_aside(
     let Some(value) = arguments.keyword(name) else {
         return Ok(());
     };
-    let texts = words_in(alloc, &opened(alloc, value)?)?;
+    let texts = words_in(alloc, &open_up(alloc, value)?)?;
     let name = String::from_str(alloc, name)?;
     asides.push(Aside { name, texts })?;
     Ok(())

@@ -79,7 +79,7 @@ fn with_lists(dependency: Dependency, other: &Dependency) -> Result<Dependency, 
 
 /// A dependency with the lists of others behind its own, in order, those that aren't found left out; or `Refusal::Limit` where one of
 /// the lists has more than 65,536 items then.
-pub fn joined(
+pub fn join(
     dependency: Dependency,
     others: &[&Dependency],
 ) -> Result<Result<Dependency, Refusal>, AllocError>

@@ -33,7 +33,7 @@ fn assignment(alloc: Global, name: &str, value: &str) -> Result<String, AllocErr
 
 // The variables that have these names and values, in order.
 #[tactic(auto, using(crate::proofs::Assigned::assigned_cases))]
-fn assigned(
+fn assign(
     alloc: Global,
     names: &[Text],
     values: &[Value],
@@ -46,7 +46,7 @@ fn assigned(
             return Ok(Ok(texts));
         };
         let Some(text) = value.as_text() else {
-            return Ok(Err(Rule::TakesText.refused(alloc, name.as_str())?));
+            return Ok(Err(Rule::TakesText.refuse(alloc, name.as_str())?));
         };
         texts.push(assignment(alloc, name.as_str(), text.as_str())?)?;
     }
@@ -65,7 +65,7 @@ fn are_assignments(alloc: Global, texts: &[String]) -> Result<Result<(), Refused
 {
     for text in texts {
         if !is_assignment(text.as_str()) {
-            return Ok(Err(Rule::IsAssignment.refused(alloc, text.as_str())?));
+            return Ok(Err(Rule::IsAssignment.refuse(alloc, text.as_str())?));
         }
     }
     Ok(Ok(()))
@@ -81,7 +81,7 @@ pub fn environment(
 {
     match arguments.keyword("env") {
         Some(Value::Dictionary(dictionary)) => {
-            assigned(alloc, dictionary.keys(), dictionary.values())
+            assign(alloc, dictionary.keys(), dictionary.values())
         }
         _ => {
             let texts = arguments.texts(alloc, "env")?;

@@ -12,7 +12,7 @@ ghost use Rattle.objects.specs.CompilerSaid.{argument_topic, is_true, number_of}
 use crate::compiler::checks::{ask_check, check, find_library};
 use crate::compiler::rows::row;
 use crate::compiler::said::{is_true, number_of};
-use crate::keys::keyed;
+use crate::keys::read_key;
 use arguments::Arguments;
 use data::language_names::{CompilerMethod, MethodName};
 use data::{List, Refusal, Value};
@@ -103,7 +103,7 @@ fn keep(
 }
 
 // Those of the values that the compiler takes.
-fn supported<T: Tree, O: Outputs>(
+fn keep_supported<T: Tree, O: Outputs>(
     caller: &mut Caller<'_, T, O>,
     values: &[&Value],
 ) -> Result<Vec<Value>, Stop>
@@ -137,9 +137,9 @@ fn get_supported_arguments<T: Tree, O: Outputs>(
         caller.old result caller.new }
 {
     let values = arguments.leaves_behind(caller.alloc, 0)?;
-    let taken = supported(caller, &values)?;
+    let taken = keep_supported(caller, &values)?;
     let answer = list_of(caller.alloc, taken)?;
-    let value = caller.answered(answer)?;
+    let value = caller.answer(answer)?;
     Ok(Some(value))
 }
 
@@ -158,10 +158,10 @@ fn act<T: Tree, O: Outputs>(
         CompilerMethod::Check => check(caller, name, arguments),
         CompilerMethod::CheckInside => check(caller, name, arguments),
         CompilerMethod::FindLibrary => find_library(caller, arguments),
-        CompilerMethod::Id => keyed(caller, "compiler", "id", "gcc"),
+        CompilerMethod::Id => read_key(caller, "compiler", "id", "gcc"),
         CompilerMethod::Number => number(caller, name, arguments),
         CompilerMethod::SupportedArguments => get_supported_arguments(caller, arguments),
-        CompilerMethod::Version => keyed(caller, "compiler", "version", "unknown"),
+        CompilerMethod::Version => read_key(caller, "compiler", "version", "unknown"),
     }
 }
 

@@ -19,7 +19,7 @@ use std::alloc::{AllocError, Global};
 use world::{Caller, Stop};
 
 // Whether it is so. What is required and is not so is refused with a name, and what is not looked up is false.
-fn required_as<T: Tree, O: Outputs>(
+fn require_as<T: Tree, O: Outputs>(
     caller: &Caller<'_, T, O>,
     requirement: Requirement,
     is_so: bool,
@@ -69,7 +69,7 @@ fn is_checked<T: Tree, O: Outputs>(
 }
 
 // The answer of a check to its texts, or E17 where it has to be true and is not.
-fn checked_for<T: Tree, O: Outputs>(
+fn check_for<T: Tree, O: Outputs>(
     caller: &mut Caller<'_, T, O>,
     default: Requirement,
     method: &str,
@@ -79,7 +79,7 @@ fn checked_for<T: Tree, O: Outputs>(
 {
     let is_so = is_checked(caller, method, arguments)?;
     let requirement = arguments.requirement(default);
-    required_as(caller, requirement, is_so, arguments.text_at(0))
+    require_as(caller, requirement, is_so, arguments.text_at(0))
 }
 
 /// A check, as `has_function(name)`: false where it is not required and the machine file says nothing.
@@ -90,7 +90,7 @@ pub fn check<T: Tree, O: Outputs>(
 ) -> Result<Option<Value>, Stop>
     ensures { Does T.seen O.seen (option_map data_of) (check method.now (arguments_data arguments.now)) caller.old result caller.new }
 {
-    let is_so = checked_for(caller, Requirement::Optional, method, arguments)?;
+    let is_so = check_for(caller, Requirement::Optional, method, arguments)?;
     Ok(Some(Value::Boolean(is_so)))
 }
 
@@ -163,8 +163,8 @@ pub fn find_library<T: Tree, O: Outputs>(
 ) -> Result<Option<Value>, Stop>
     ensures { Does T.seen O.seen (option_map data_of) (find_library (arguments_data arguments.now)) caller.old result caller.new }
 {
-    let is_so = checked_for(caller, Requirement::Required, "find_library", arguments)?;
+    let is_so = check_for(caller, Requirement::Required, "find_library", arguments)?;
     let answer = library_named(caller.alloc, is_so, first_text(arguments))?;
-    let value = caller.answered(answer)?;
+    let value = caller.answer(answer)?;
     Ok(Some(value))
 }

@@ -59,11 +59,11 @@ fn content_at(
     ensures { IfOk result (λ c. said_data content_of c ≡ content_at name.now (data_of value.now)) }
 {
     if !is_name(name) {
-        return Ok(Err(Rule::IsValueName.refused(alloc, name)?));
+        return Ok(Err(Rule::IsValueName.refuse(alloc, name)?));
     }
     match content_in(alloc, value)? {
         Some(content) => Ok(Ok(content)),
-        None => Ok(Err(Rule::IsSetting.refused(alloc, name)?)),
+        None => Ok(Err(Rule::IsSetting.refuse(alloc, name)?)),
     }
 }
 
@@ -138,7 +138,7 @@ fn given_text(quotes: Quotes, text: &str) -> &str
 }
 
 // The value, or `Refusal::Limit` for a text past the limit.
-fn given(
+fn give(
     alloc: Global,
     quotes: Quotes,
     content: &ConfigValue,
@@ -169,7 +169,7 @@ fn fallback_given(
 }
 
 /// What a name stands for, else the fallback, or `Refusal::Absent` where there is neither.
-pub fn found_or(
+pub fn take_or(
     alloc: Global,
     quotes: Quotes,
     content: Option<&ConfigValue>,
@@ -179,7 +179,7 @@ pub fn found_or(
         (option_map (λ v. data_of v.now) fallback.entry)) r) }
 {
     match content {
-        Some(content) => given(alloc, quotes, content),
+        Some(content) => give(alloc, quotes, content),
         None => fallback_given(alloc, quotes, fallback),
     }
 }

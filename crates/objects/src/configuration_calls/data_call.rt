@@ -18,7 +18,7 @@ fn data_in(alloc: Global, value: &Value) -> Result<Result<ConfigData, Refused>, 
 {
     match value {
         Value::Dictionary(dictionary) => entries_in(alloc, dictionary),
-        _ => Ok(Err(Rule::IsValueName.refused(alloc, "")?)),
+        _ => Ok(Err(Rule::IsValueName.refuse(alloc, "")?)),
     }
 }
 
@@ -42,7 +42,7 @@ fn said_data<T: Tree, O: Outputs>(
     ensures { Does T.seen O.seen (λ c. c) (said_data (arguments_data arguments.now)) caller.now result caller.now }
 {
     let values = data_given(caller.alloc, arguments.argument(0))?;
-    caller.passed(values)
+    caller.pass(values)
 }
 
 /// `configuration_data(dictionary)`: E9 where a key is no name, or a value no text, integer or truth value.

@@ -70,7 +70,7 @@ fn freeze<T: Tree, O: Outputs>(
 }
 
 // What is done once the path of an output is taken: gives it as a text, and freezes the data.
-fn prepared<T: Tree, O: Outputs>(
+fn prepare<T: Tree, O: Outputs>(
     caller: &mut Caller<'_, T, O>,
     folder: &str,
     name: &str,
@@ -81,7 +81,7 @@ fn prepared<T: Tree, O: Outputs>(
 {
     let path = path_in(caller.alloc, folder, name)?;
     let answer = Text::new(caller.alloc, path)?;
-    let text = caller.answered(answer)?;
+    let text = caller.answer(answer)?;
     freeze(caller, number)?;
     Ok(text)
 }
@@ -101,7 +101,7 @@ fn output_made<T: Tree, O: Outputs>(
     let name = arguments.text("output");
     let folder = String::from_str(caller.alloc, caller.store.folder())?;
     caller.take_output(folder.as_str(), name)?;
-    let path = prepared(caller, folder.as_str(), name, given.number)?;
+    let path = prepare(caller, folder.as_str(), name, given.number)?;
     write_output(caller, path.as_str(), &given.values, template)?;
     Ok(path)
 }

@@ -10,7 +10,7 @@ ghost use Rattle.objects.specs.configuration_calls.Methods.{configuration_method
 ghost use Rattle.objects.specs.configuration_calls.Methods.{has_method, keys, merge_from, name_given, one_or_zero, other_given};
 ghost use Rattle.objects.specs.configuration_calls.Methods.{set, set10, set_text_quoted};
 
-use crate::configuration_calls::contents::{Quotes, content_in, found_or, is_name};
+use crate::configuration_calls::contents::{Quotes, content_in, is_name, take_or};
 use crate::configuration_calls::rows::row_of;
 use arguments::{Arguments, Rule};
 use basics::faults::Refusal;
@@ -71,8 +71,8 @@ fn get<T: Tree, O: Outputs>(
 {
     let name = name_given(caller, arguments)?;
     let content = content_at(caller.store, number, name);
-    let answer = found_or(caller.alloc, quotes, content, arguments.argument(1))?;
-    let value = caller.answered(answer)?;
+    let answer = take_or(caller.alloc, quotes, content, arguments.argument(1))?;
+    let value = caller.answer(answer)?;
     Ok(Some(value))
 }
 
@@ -96,7 +96,7 @@ fn keys<T: Tree, O: Outputs>(
 {
     let names = names_at(caller.alloc, caller.store, number)?;
     let answer = text_list(caller.alloc, &names)?;
-    let value = caller.answered(answer)?;
+    let value = caller.answer(answer)?;
     Ok(Some(value))
 }
 

@@ -62,7 +62,7 @@ fn text_named(here: &Here<'_>, text: &str) -> Result<Result<String, Refused>, Al
 {
     match tree_path(here.alloc, here.source_root, here.folder, text)? {
         Some(path) => Ok(Ok(path)),
-        None => Ok(Err(Rule::NamesFile.refused(here.alloc, text)?)),
+        None => Ok(Err(Rule::NamesFile.refuse(here.alloc, text)?)),
     }
 }
 
@@ -72,7 +72,7 @@ fn object_named(alloc: Global, object: &Object) -> Result<Result<String, Refused
 {
     match tree_file(alloc, object)? {
         Some(path) => Ok(Ok(path)),
-        None => Ok(Err(Rule::TakesTreeFile.refused(alloc, "input")?)),
+        None => Ok(Err(Rule::TakesTreeFile.refuse(alloc, "input")?)),
     }
 }
 
@@ -84,7 +84,7 @@ fn file_named(here: &Here<'_>, value: &Value) -> Result<Result<String, Refused>,
     match value {
         Value::Text(text) => text_named(here, text.as_str()),
         Value::Object(object) => object_named(here.alloc, object),
-        _ => Ok(Err(Rule::TakesTreeFile.refused(here.alloc, "input")?)),
+        _ => Ok(Err(Rule::TakesTreeFile.refuse(here.alloc, "input")?)),
     }
 }
 
@@ -95,7 +95,7 @@ fn one_file(here: &Here<'_>, values: &[&Value]) -> Result<Result<String, Refused
 {
     match values {
         [value] => file_named(here, value),
-        _ => Ok(Err(Rule::TakesOneFile.refused(here.alloc, "input")?)),
+        _ => Ok(Err(Rule::TakesOneFile.refuse(here.alloc, "input")?)),
     }
 }
 
@@ -125,7 +125,7 @@ pub fn input_given<T: Tree, O: Outputs>(
     ensures { Does T.seen O.seen (option_map string_bytes) (input_given (arguments_data arguments.now)) caller.now result caller.now }
 {
     let input = input_named(&caller.here(), arguments)?;
-    caller.passed(input)
+    caller.pass(input)
 }
 
 // The values of a dictionary.
@@ -140,12 +140,12 @@ fn dictionary_given(alloc: Global, value: &Value) -> Result<Result<Given, Refuse
             })),
             Err(refused) => Ok(Err(refused)),
         },
-        _ => Ok(Err(Rule::IsValueName.refused(alloc, "")?)),
+        _ => Ok(Err(Rule::IsValueName.refuse(alloc, "")?)),
     }
 }
 
 // The values of configuration data or of a dictionary.
-fn given_by(
+fn read_given(
     alloc: Global,
     store: &Store,
     value: &Value,
@@ -171,8 +171,8 @@ fn configuration_given(
         ≡ configuration_given (world_of store.now).facts (arguments_data arguments.now)) }
 {
     match arguments.keyword("configuration") {
-        Some(value) => given_by(alloc, store, value),
-        None => Ok(Err(Rule::IsValueName.refused(alloc, "")?)),
+        Some(value) => read_given(alloc, store, value),
+        None => Ok(Err(Rule::IsValueName.refuse(alloc, "")?)),
     }
 }
 
@@ -184,5 +184,5 @@ pub fn values_given<T: Tree, O: Outputs>(
     ensures { Does T.seen O.seen given_view (values_given (arguments_data arguments.now)) caller.now result caller.now }
 {
     let given = configuration_given(caller.alloc, caller.store, arguments)?;
-    caller.passed(given)
+    caller.pass(given)
 }

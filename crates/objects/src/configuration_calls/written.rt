@@ -61,7 +61,7 @@ fn refuse_line(alloc: Global, path: &str, line: u64, refusal: Refusal) -> Stop
 }
 
 // Why a call stops whose template was given up.
-fn stopped(alloc: Global, path: &str, stop: PassStop) -> Stop
+fn stop_for(alloc: Global, path: &str, stop: PassStop) -> Stop
     ensures { StopsSo path.now stop result }
 {
     match stop {
@@ -87,7 +87,7 @@ fn fill_template<T: Tree, O: Outputs>(
 {
     match pass(caller.tree, template, values, line, caller.out) {
         Ok(()) => Ok(()),
-        Err(stop) => Err(stopped(caller.alloc, template, stop)),
+        Err(stop) => Err(stop_for(caller.alloc, template, stop)),
     }
 }
 

@@ -7,7 +7,7 @@ ghost use Rattle.operations.specs.methods.Steps.{Gives};
 ghost use Rattle.operations.specs.methods.TextLists.{texts};
 ghost use Rattle.operations.specs.methods.Dictionaries.{get, has_key, keys, sorted_with, answer};
 
-use crate::methods::lists::found_or;
+use crate::methods::lists::take_or;
 use crate::methods::readers::{key_and_fallback, none, one, text};
 use crate::methods::stop::Stop;
 use crate::operators::list;
@@ -38,7 +38,7 @@ fn get(dictionary: &Dictionary, arguments: &[Value]) -> Result<Value, Stop>
 {
     let (key, fallback) = key_and_fallback(arguments)?;
     let key = text(key)?;
-    found_or(dictionary.get(key), fallback)
+    take_or(dictionary.get(key), fallback)
 }
 
 fn has_key(dictionary: &Dictionary, arguments: &[Value]) -> Result<Value, Stop>

@@ -8,7 +8,7 @@ ghost use Rattle.operations.specs.methods.Integers.{is_even, is_odd, to_string, 
 use crate::methods::readers::none;
 use crate::methods::stop::Stop;
 use data::language_names::{IntegerMethod, MethodName};
-use data::printing::printed;
+use data::printing::print;
 use data::{Refusal, Value};
 use std::alloc::Global;
 
@@ -47,7 +47,7 @@ fn to_string(alloc: Global, integer: i128, arguments: &[Value]) -> Result<Value,
     ensures { Gives (to_string integer (map data_of arguments.now)) result }
 {
     none(arguments)?;
-    let text = printed(alloc, &Value::Integer(integer))??;
+    let text = print(alloc, &Value::Integer(integer))??;
     let _within = text.as_str();
     Ok(Value::Text(text))
 }

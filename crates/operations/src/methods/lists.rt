@@ -58,11 +58,11 @@ fn get(list: &List, arguments: &[Value]) -> Result<Value, Stop>
 {
     let (index, fallback) = key_and_fallback(arguments)?;
     let index = integer(index)?;
-    found_or(indexed_item(list, index), fallback)
+    take_or(indexed_item(list, index), fallback)
 }
 
 /// What was found, or else the value in its place.
-pub fn found_or(found: Option<&Value>, fallback: Option<&Value>) -> Result<Value, Stop>
+pub fn take_or(found: Option<&Value>, fallback: Option<&Value>) -> Result<Value, Stop>
     ensures { Gives (found_or (option_map (λ v. data_of v.now) found.entry) (option_map (λ v. data_of v.now) fallback.entry)) result }
 {
     if let Some(value) = found {

@@ -68,12 +68,12 @@ fn of_others(
     }
     match operator {
         Binary::Add => sum(alloc, left, right),
-        _ => examined(alloc, operator, &left, &right),
+        _ => examine(alloc, operator, &left, &right),
     }
 }
 
 // What an operator other than `+` gives for two operands that are no disablers.
-fn examined(
+fn examine(
     alloc: Global,
     operator: Binary,
     left: &Value,

@@ -13,7 +13,7 @@ ghost use Rattle.options.specs.option_file.KeywordsView.{keywords_in};
 ghost use Rattle.options.specs.option_file.View.{given_in, entry_in, call_in};
 
 use crate::option_file::declaration::{Declaration, Given};
-use crate::option_file::given::given;
+use crate::option_file::given::read_given;
 use crate::option_file::keyword::{Keyword, Keywords, is_left_out};
 use crate::option_file::misfit::{Misfit, Refused};
 use crate::option_file::names::is_name;
@@ -145,13 +145,13 @@ fn with_argument(
     let Some(key) = argument.name else {
         return Ok(None);
     };
-    let Some(keyword) = Keyword::named(key) else {
+    let Some(keyword) = Keyword::from_name(key) else {
         return Ok(None);
     };
-    let Some(given) = given(alloc, &argument.value)? else {
+    let Some(given) = read_given(alloc, &argument.value)? else {
         return Ok(None);
     };
-    keywords.noted(alloc, keyword, given)
+    keywords.note(alloc, keyword, given)
 }
 
 /// What these arguments give, where keywords give them all.
@@ -185,13 +185,13 @@ fn option_of(
     if first.is_named() {
         return Ok(None);
     }
-    let Some(name) = name_in(given(alloc, first.value())?) else {
+    let Some(name) = name_in(read_given(alloc, first.value())?) else {
         return Ok(None);
     };
     let Some(keywords) = keywords_from(alloc, others)? else {
         return Ok(None);
     };
-    let Some((kind, value)) = keywords.finished() else {
+    let Some((kind, value)) = keywords.finish() else {
         return Ok(None);
     };
     Ok(Some((name, Declaration { kind, value, line })))
@@ -208,12 +208,12 @@ pub fn call_declares(
 {
     if gives_twice(alloc, arguments)? {
         let key = first_twice(alloc, arguments)?;
-        let refused = Misfit::Twice(key).refused(alloc)?;
+        let refused = Misfit::Twice(key).refuse(alloc)?;
         return Ok(Err(refused));
     }
     if gives_left_out(arguments) {
         let key = first_left_out(arguments);
-        let refused = Misfit::LeftOut(key).refused(alloc)?;
+        let refused = Misfit::LeftOut(key).refuse(alloc)?;
         return Ok(Err(refused));
     }
     match option_of(alloc, line, arguments)? {

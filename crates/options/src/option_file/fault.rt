@@ -20,7 +20,7 @@ pub struct DeclareFault {
 
 impl DeclareFault {
     /// The fault as a run tells it, in the option file with this path.
-    pub fn told_in(self, alloc: Global, path: &str) -> Result<Fault, AllocError>
+    pub fn tell_in(self, alloc: Global, path: &str) -> Result<Fault, AllocError>
         ensures { IfOk result (λ fault. fault_view fault ≡ told_in path.now (fault_in self)) }
     {
         Fault::new(alloc, path, self.line, self.refusal, &self.detail)

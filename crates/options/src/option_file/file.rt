@@ -40,7 +40,7 @@ fn function_declares(
     if name == "option" {
         call_declares(alloc, line, arguments)
     } else {
-        Ok(Err(Misfit::NoCall.refused(alloc)?))
+        Ok(Err(Misfit::NoCall.refuse(alloc)?))
     }
 }
 
@@ -57,7 +57,7 @@ fn expression_declares(
             arguments,
             ..
         } => function_declares(alloc, line, name, arguments),
-        _ => Ok(Err(Misfit::NoCall.refused(alloc)?)),
+        _ => Ok(Err(Misfit::NoCall.refuse(alloc)?)),
     }
 }
 
@@ -70,7 +70,7 @@ fn statement_declares(
 {
     match statement {
         Statement::Expression { value, line } => expression_declares(alloc, *line, value),
-        _ => Ok(Err(Misfit::NoCall.refused(alloc)?)),
+        _ => Ok(Err(Misfit::NoCall.refuse(alloc)?)),
     }
 }
 
@@ -88,7 +88,7 @@ fn after(
         Err(refused) => return Ok(Err(refused)),
     };
     if declared.has(name.as_str()) {
-        let refused = Misfit::Again(name.as_str()).refused(alloc)?;
+        let refused = Misfit::Again(name.as_str()).refuse(alloc)?;
         return Ok(Err(refused));
     }
     let more = declared.with(name, declaration)?;

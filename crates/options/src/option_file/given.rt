@@ -121,7 +121,7 @@ fn list(alloc: Global, items: &[Expression<'_>]) -> Result<Option<Given>, AllocE
 }
 
 /// What an argument gives: a string, a boolean, a number, or a list of these. Nothing where it is written as anything else.
-pub fn given(alloc: Global, value: &Expression<'_>) -> Result<Option<Given>, AllocError>
+pub fn read_given(alloc: Global, value: &Expression<'_>) -> Result<Option<Given>, AllocError>
     ensures { IfOk result (λ g. option_map given_in g ≡ given (expression_of value.now)) }
 {
     match value {

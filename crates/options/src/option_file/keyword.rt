@@ -40,7 +40,7 @@ pub struct Keywords {
 impl Keyword {
     /// The keyword of this name, if there is one.
     #[tactic(auto, unfolding(crate::specs::option_file::Keywords::keyword_named))]
-    pub fn named(name: &str) -> Option<Keyword>
+    pub fn from_name(name: &str) -> Option<Keyword>
         ensures { result ≡ keyword_named name.now }
     {
         match name {
@@ -67,7 +67,7 @@ pub(crate) fn type_in(given: &Given) -> Option<OptionType>
     ensures { result ≡ type_in (given_in given.now) }
 {
     match given {
-        Given::Text(name) => OptionType::named(name.as_str()),
+        Given::Text(name) => OptionType::from_name(name.as_str()),
         _ => None,
     }
 }
@@ -83,7 +83,7 @@ fn choices_in(alloc: Global, given: Given) -> Result<Option<Choices>, AllocError
 }
 
 /// A bound is an integer of 64 bits.
-pub(crate) fn bound_in(given: &Given) -> Option<i64>
+pub(crate) fn read_bound(given: &Given) -> Option<i64>
     ensures { result ≡ bound_in (given_in given.now) }
 {
     match given {
@@ -149,7 +149,7 @@ impl Keywords {
     fn with_min(mut self, given: &Given) -> Option<Keywords>
         ensures { option_map keywords_in result ≡ noted (keywords_in self) Keyword.Min (given_in given.now) }
     {
-        self.min = Some(bound_in(given)?);
+        self.min = Some(read_bound(given)?);
         Some(self)
     }
 
@@ -157,12 +157,12 @@ impl Keywords {
     fn with_max(mut self, given: &Given) -> Option<Keywords>
         ensures { option_map keywords_in result ≡ noted (keywords_in self) Keyword.Max (given_in given.now) }
     {
-        self.max = Some(bound_in(given)?);
+        self.max = Some(read_bound(given)?);
         Some(self)
     }
 
     /// One more keyword, and what it gives; nothing where it may not give this.
-    pub fn noted(
+    pub fn note(
         self,
         alloc: Global,
         keyword: Keyword,
@@ -210,7 +210,7 @@ impl Keywords {
 
     /// What an option with these keywords takes, and the default that it is given; nothing where a keyword is missing that it
     /// needs.
-    pub fn finished(mut self) -> Option<(OptionKind, Option<Given>)>
+    pub fn finish(mut self) -> Option<(OptionKind, Option<Given>)>
         ensures { option_map asked_in result ≡ asked_by (keywords_in self) }
     {
         let named = self.kind?;

@@ -94,7 +94,7 @@ impl<'m> Misfit<'m> {
     }
 
     /// What the statement is refused as: E15, or E23 for what is left out.
-    pub fn refused(self, alloc: Global) -> Result<Refused, AllocError>
+    pub fn refuse(self, alloc: Global) -> Result<Refused, AllocError>
         ensures { IfOk result (λ r. refused_in r ≡ refused_as (misfit_in self.entry)) }
     {
         let refusal = self.refusal();

@@ -12,8 +12,8 @@ ghost use Rattle.options.specs.option_file.View.{given_in};
 
 use crate::option_file::call::keywords_from;
 use crate::option_file::declaration::Given;
-use crate::option_file::given::given;
-use crate::option_file::keyword::{Keyword, Keywords, bound_in, type_in};
+use crate::option_file::given::read_given;
+use crate::option_file::keyword::{Keyword, Keywords, read_bound, type_in};
 use crate::option_file::misfit::{Misfit, Refused};
 use crate::option_file::names::is_name;
 use grammar::tree::Argument;
@@ -26,7 +26,7 @@ fn unless(alloc: Global, is_so: bool, misfit: Misfit<'_>) -> Result<Option<Refus
     if is_so {
         return Ok(None);
     }
-    let refused = misfit.refused(alloc)?;
+    let refused = misfit.refuse(alloc)?;
     Ok(Some(refused))
 }
 
@@ -42,7 +42,7 @@ fn name_refused(alloc: Global, name: &str) -> Result<Option<Refused>, AllocError
     }
 }
 
-fn given_refused(alloc: Global, given: &Option<Given>) -> Result<Option<Refused>, AllocError>
+fn refuse_given(alloc: Global, given: &Option<Given>) -> Result<Option<Refused>, AllocError>
     ensures { IfOk result (λ r. option_map refused_in r ≡ given_refused (option_map given_in given.now)) }
 {
     match given {
@@ -53,7 +53,7 @@ fn given_refused(alloc: Global, given: &Option<Given>) -> Result<Option<Refused>
 
 // ---- the others, each by its keyword
 
-fn noted_refused(
+fn refuse_noted(
     alloc: Global,
     key: &str,
     keyword: Keyword,
@@ -67,8 +67,8 @@ fn noted_refused(
             let fits = matches!(given, Given::Texts(_));
             unless(alloc, fits, Misfit::NoChoices(key))
         }
-        Keyword::Min => unless(alloc, bound_in(given).is_some(), Misfit::NoBound(key)),
-        Keyword::Max => unless(alloc, bound_in(given).is_some(), Misfit::NoBound(key)),
+        Keyword::Min => unless(alloc, read_bound(given).is_some(), Misfit::NoBound(key)),
+        Keyword::Max => unless(alloc, read_bound(given).is_some(), Misfit::NoBound(key)),
         Keyword::Value => Ok(None),
         Keyword::NoEffect => Ok(None),
     }
@@ -83,7 +83,7 @@ fn plain_refused(
     ensures { IfOk result (λ r. option_map refused_in r ≡ plain_refused key.now keyword (option_map given_in given.now)) }
 {
     match given {
-        Some(given) => noted_refused(alloc, key, keyword, given),
+        Some(given) => refuse_noted(alloc, key, keyword, given),
         None => unless(alloc, false, Misfit::NoPlain(key)),
     }
 }
@@ -93,10 +93,10 @@ fn argument_refused(alloc: Global, argument: &Argument<'_>) -> Result<Option<Ref
 {
     match argument.name {
         None => unless(alloc, false, Misfit::TooMany),
-        Some(key) => match Keyword::named(key) {
+        Some(key) => match Keyword::from_name(key) {
             None => unless(alloc, false, Misfit::Unknown(key)),
             Some(keyword) => {
-                let given = given(alloc, &argument.value)?;
+                let given = read_given(alloc, &argument.value)?;
                 plain_refused(alloc, key, keyword, &given)
             }
         },
@@ -117,7 +117,7 @@ fn first_refused(alloc: Global, arguments: &[Argument<'_>]) -> Result<Option<Ref
 
 // ---- a keyword that is needed
 
-fn needed_by(kind: Option<OptionType>) -> Misfit<'static>
+fn need_for(kind: Option<OptionType>) -> Misfit<'static>
     ensures { misfit_in result ≡ needed_by kind }
 {
     match kind {
@@ -131,8 +131,8 @@ fn lacking(alloc: Global, keywords: &Option<Keywords>) -> Result<Refused, AllocE
     ensures { IfOk result (λ r. refused_in r ≡ lacking (option_map keywords_in keywords.now)) }
 {
     match keywords {
-        Some(keywords) => needed_by(keywords.kind).refused(alloc),
-        None => Misfit::Nameless.refused(alloc),
+        Some(keywords) => need_for(keywords.kind).refuse(alloc),
+        None => Misfit::Nameless.refuse(alloc),
     }
 }
 
@@ -153,13 +153,13 @@ pub fn unfit(alloc: Global, arguments: &[Argument<'_>]) -> Result<Refused, Alloc
     ensures { IfOk result (λ r. refused_in r ≡ unfit (map argument_of arguments.now)) }
 {
     let Some((first, others)) = arguments.split_first() else {
-        return Misfit::Nameless.refused(alloc);
+        return Misfit::Nameless.refuse(alloc);
     };
     if first.is_named() {
-        return Misfit::Nameless.refused(alloc);
+        return Misfit::Nameless.refuse(alloc);
     }
-    let given = given(alloc, first.value())?;
-    match given_refused(alloc, &given)? {
+    let given = read_given(alloc, first.value())?;
+    match refuse_given(alloc, &given)? {
         Some(refused) => Ok(refused),
         None => others_unfit(alloc, others),
     }

@@ -35,7 +35,7 @@ struct Compiling<'a> {
     shared: &'a [u8],
 }
 
-fn shared_of(alloc: Global, parts: &BuildParts) -> Result<Vec<u8>, AllocError>
+fn write_shared(alloc: Global, parts: &BuildParts) -> Result<Vec<u8>, AllocError>
     ensures { IfOk result (λ v. v.items ≡ shared_text (texts parts.now.generated.items) (texts parts.now.words.items)) }
 {
     let mut text = Vec::new(alloc);
@@ -109,7 +109,7 @@ fn write_made<O: Outputs>(text: &mut Vec<u8>, edge: &Edge, out: &mut O) -> Resul
     requires { IsOpen (O.seen out.old) }
     ensures { Writes (O.seen out.old) (puts (edge_text (edge_view edge.now))) (ending_of result) (O.seen out.new) }
 {
-    write_edge(text, &edge.lent(), out)
+    write_edge(text, &edge.lend(), out)
 }
 
 #[tactic(auto, using(ports::proofs::Sending::sending))]
@@ -134,7 +134,7 @@ fn write_build<O: Outputs>(
     requires { IsOpen (O.seen out.old) }
     ensures { Writes (O.seen out.old) (puts (edges_text (build_parts_edges parts.now))) (ending_of result) (O.seen out.new) }
 {
-    let shared = shared_of(alloc, parts)?;
+    let shared = write_shared(alloc, parts)?;
     let from = Compiling {
         alloc,
         parts,

@@ -2,7 +2,7 @@ ghost use Rattle.std.specs.Prelude.{◌≡◌};
 
 use crate::edge::parts::LentEdge;
 use crate::edge::rule::Rule;
-use crate::edge::texts::lent_text;
+use crate::edge::texts::lend_text;
 
 /// A build edge (the Ninja manual's "build statement"): outputs, and the command that makes them.
 ///
@@ -47,7 +47,7 @@ impl Edge {
     ghost use Rattle.targets.specs.edge.Own.{lent_view};
 
     /// The same edge, lent.
-    pub fn lent(&self) -> LentEdge<'_>
+    pub fn lend(&self) -> LentEdge<'_>
         ensures { lent_view result ≡ edge_view self.now }
     {
         LentEdge {
@@ -57,9 +57,9 @@ impl Edge {
             implicit: &self.implicit,
             order_only: &self.order_only,
             words: &self.words,
-            redirect: lent_text(&self.redirect),
+            redirect: lend_text(&self.redirect),
             description: &self.description,
-            depfile: lent_text(&self.depfile),
+            depfile: lend_text(&self.depfile),
         }
     }
 }

@@ -8,7 +8,7 @@ use basics::text_lists::copies;
 use std::alloc::{AllocError, Global};
 
 /// The text that there is, lent.
-pub fn lent_text(text: &Option<String>) -> Option<&str>
+pub fn lend_text(text: &Option<String>) -> Option<&str>
     ensures { option_map (λ s. s.now) result ≡ option_map string_bytes text.now }
 {
     match text {

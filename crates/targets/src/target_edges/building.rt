@@ -15,8 +15,8 @@ use crate::target_edges::custom::custom_parts;
 use crate::target_edges::linking::{Context, file_edge, link_edges};
 use crate::target_edges::parts::{BuildParts, TargetParts};
 use crate::{
-    BuildTarget, Input, Linked, Target, compiled, file_name, file_path, generated, link_paths,
-    objects,
+    BuildTarget, Input, Linked, Target, compiled_sources, file_name, file_path, generated_outputs,
+    link_paths, objects,
 };
 use std::alloc::{AllocError, Global};
 
@@ -60,11 +60,11 @@ fn build_parts(context: &Context, target: &BuildTarget) -> Result<BuildParts, Al
         (linked_views context.now.earlier.now) context.now.libraries.now (build_view target.now)) }
 {
     let alloc = context.alloc;
-    let inputs = compiled(alloc, context.surroundings.facts.depth, target)?;
+    let inputs = compiled_sources(alloc, context.surroundings.facts.depth, target)?;
     let file = file_path(alloc, target)?;
     let rest = file_edges(context, target, &file, &inputs)?;
     let words = front_words(alloc, context.surroundings, target)?;
-    let generated = generated(alloc, target)?;
+    let generated = generated_outputs(alloc, target)?;
     Ok(BuildParts {
         words,
         generated,

@@ -20,8 +20,8 @@ use crate::target_edges::asking::words_are_held;
 use crate::target_edges::building::names;
 use crate::target_edges::linking::{Context, file_is_held};
 use crate::{
-    BuildTarget, CustomTarget, Input, Source, Target, compiled, file_path, generated, objects,
-    output_paths,
+    BuildTarget, CustomTarget, Input, Source, Target, compiled_sources, file_path,
+    generated_outputs, objects, output_paths,
 };
 use std::alloc::{AllocError, Global};
 
@@ -53,7 +53,7 @@ fn shared_is_held(context: &Context, target: &BuildTarget) -> Result<bool, Alloc
     ensures { IfOk result (λ held. held
         ≡ compiles_held (surroundings_view context.now.surroundings.now) (build_view target.now)) }
 {
-    let made = generated(context.alloc, target)?;
+    let made = generated_outputs(context.alloc, target)?;
     Ok(are_paths(&made) && words_are_held(context.surroundings, target))
 }
 
@@ -84,7 +84,7 @@ fn push_outputs(paths: &mut Vec<String>, edges: &[Edge]) -> Result<(), AllocErro
 }
 
 // A file, and what these edges make.
-fn asked_with(alloc: Global, file: String, names: &[Edge]) -> Result<Vec<String>, AllocError>
+fn list_asked(alloc: Global, file: String, names: &[Edge]) -> Result<Vec<String>, AllocError>
     ensures { IfOk result (λ v. texts v.items
         ≡ string_bytes file ∷ flat_map (λ e. e.outputs) (map edge_view names.now)) }
 {
@@ -105,14 +105,14 @@ fn build_claims(context: &Context, target: &BuildTarget) -> Result<Claims, Alloc
         (linked_views context.now.earlier.now) context.now.libraries.now (build_view target.now) in
         IfOk result (λ c. AreClaims c edges (default_paths (Build (build_view target.now)))) }
 {
-    let inputs = compiled(context.alloc, context.surroundings.facts.depth, target)?;
+    let inputs = compiled_sources(context.alloc, context.surroundings.facts.depth, target)?;
     let file = file_path(context.alloc, target)?;
     let names = names(context, target, &file)?;
     let objects = objects(context.alloc, &file, &inputs)?;
     let compiles = compiles_are_held(context, target, &inputs, &objects)?;
     let made = file_is_held(context, target, &file, &objects)?;
     let writable = all_are_held(compiles, made, &names);
-    let asked = asked_with(context.alloc, file, &names)?;
+    let asked = list_asked(context.alloc, file, &names)?;
     Ok(Claims {
         writable,
         objects,

@@ -8,7 +8,7 @@ ghost use Rattle.targets.specs.target_edges.Words.{option_words, argument_words,
 ghost use Rattle.targets.specs.target_edges.Parts.{front_words};
 
 use crate::edge::{build_folder, copies, first_kept, push_all, push_copies, source_folder};
-use crate::target_edges::words::{Brought, joined, push_brought, push_if};
+use crate::target_edges::words::{Brought, join, push_brought, push_if};
 use crate::{BuildTarget, Flags, Surroundings};
 use std::alloc::{AllocError, Global};
 
@@ -21,8 +21,8 @@ fn push_include(words: &mut Vec<String>, depth: usize, folder: &str) -> Result<(
     let alloc = *words.allocator();
     let built = build_folder(folder);
     let source = source_folder(alloc, depth, folder)?;
-    words.push(joined(alloc, "-I", built)?)?;
-    words.push(joined(alloc, "-I", &source)?)?;
+    words.push(join(alloc, "-I", built)?)?;
+    words.push(join(alloc, "-I", &source)?)?;
     Ok(())
 }
 
@@ -88,7 +88,7 @@ fn push_value(
     if value == none {
         return Ok(());
     }
-    let word = joined(*words.allocator(), front, value)?;
+    let word = join(*words.allocator(), front, value)?;
     words.push(word)?;
     Ok(())
 }

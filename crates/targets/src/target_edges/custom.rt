@@ -7,7 +7,7 @@ ghost use Rattle.targets.specs.View.{custom_view};
 ghost use Rattle.targets.specs.target_edges.Edges.{first_of, custom_rule, and_path, custom_edge};
 ghost use Rattle.targets.specs.target_edges.PartsView.{custom_parts_edge};
 
-use crate::edge::{LentEdge, Rule, lent_text};
+use crate::edge::{LentEdge, Rule, lend_text};
 use crate::target_edges::parts::CustomParts;
 use crate::{CustomTarget, depfile_path, source_paths};
 use std::alloc::{AllocError, Global};
@@ -66,7 +66,7 @@ impl<'a> CustomParts<'a> {
             words: self.words,
             redirect: self.redirect,
             description: &self.description,
-            depfile: lent_text(&self.depfile),
+            depfile: lend_text(&self.depfile),
         }
     }
 }

@@ -18,7 +18,7 @@ use crate::edge::{
     push_text, strings,
 };
 use crate::target_edges::way::push_way;
-use crate::target_edges::words::{Brought, joined, push_brought};
+use crate::target_edges::words::{Brought, join, push_brought};
 use crate::{BuildTarget, Kind, Linked, Surroundings, build_target_at, file_at, so_name};
 use std::alloc::{AllocError, Global};
 
@@ -205,7 +205,7 @@ fn name_word(alloc: Global, target: &BuildTarget) -> Result<String, AllocError>
     ensures { IfOk result (λ s. string_bytes s ≡ codes "-Wl,-soname," ++ so_name_of (build_view target.now)) }
 {
     let name = so_name(alloc, target)?;
-    joined(alloc, "-Wl,-soname,", &name)
+    join(alloc, "-Wl,-soname,", &name)
 }
 
 fn push_if_linked_shared(words: &mut Vec<String>, target: &BuildTarget) -> Result<(), AllocError>
@@ -302,7 +302,7 @@ fn archive_edge(
         order_only: Vec::new(alloc),
         words,
         redirect: None,
-        description: joined(alloc, "Archiving ", file)?,
+        description: join(alloc, "Archiving ", file)?,
         depfile: None,
     })
 }
@@ -330,7 +330,7 @@ fn link_edge(
         order_only: Vec::new(alloc),
         words,
         redirect: None,
-        description: joined(alloc, "Linking target ", file)?,
+        description: join(alloc, "Linking target ", file)?,
         depfile: None,
     })
 }
@@ -432,7 +432,7 @@ fn naming_edge(alloc: Global, file: &str, name: &str, link: &str) -> Result<Edge
         order_only: Vec::new(alloc),
         words: strings(alloc, &["ln", "-f", "-s", name, link])?,
         redirect: None,
-        description: joined(alloc, "Linking name ", link)?,
+        description: join(alloc, "Linking name ", link)?,
         depfile: None,
     })
 }

@@ -6,7 +6,7 @@ ghost use Rattle.targets.specs.target_edges.Parts.{last_words};
 
 use crate::Input;
 use crate::edge::{OwnParts, object_path};
-use crate::target_edges::words::joined;
+use crate::target_edges::words::join;
 use std::alloc::{AllocError, Global};
 
 /// The texts of a source's compile edge that no other edge has.
@@ -25,8 +25,8 @@ pub fn source_texts(alloc: Global, file: &str, input: &Input) -> Result<SourceTe
         ≡ codes "Compiling C object " ++ object_path file.now (string_bytes input.now.name)) }
 {
     let object = object_path(alloc, file, &input.name)?;
-    let depfile = joined(alloc, &object, ".d")?;
-    let description = joined(alloc, "Compiling C object ", &object)?;
+    let depfile = join(alloc, &object, ".d")?;
+    let description = join(alloc, "Compiling C object ", &object)?;
     Ok(SourceTexts {
         object,
         depfile,

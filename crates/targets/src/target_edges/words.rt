@@ -10,7 +10,7 @@ use crate::{BuildTarget, Lists};
 use std::alloc::{AllocError, Global};
 
 /// One text behind another.
-pub fn joined(alloc: Global, front: &str, end: &str) -> Result<String, AllocError>
+pub fn join(alloc: Global, front: &str, end: &str) -> Result<String, AllocError>
     ensures { IfOk result (λ s. string_bytes s ≡ front.now ++ end.now) }
 {
     let mut whole = String::with_capacity(alloc, front.len().saturating_add(end.len()))?;
@@ -50,12 +50,6 @@ impl Brought {
     }
 }
 
-fn push_texts(words: &mut Vec<String>, lists: &Lists, what: Brought) -> Result<(), AllocError>
-    ensures { IfOk result (λ _. texts words.new.items ≡ texts words.old.items ++ texts_of what (lists_view lists.now)) }
-{
-    push_copies(words, what.of(lists))
-}
-
 /// Appends what the dependencies bring.
 pub fn push_brought(
     words: &mut Vec<String>,
@@ -65,7 +59,7 @@ pub fn push_brought(
     ensures { IfOk result (λ _. texts words.new.items ≡ texts words.old.items ++ brought (λ l. texts_of what l) (build_view target.now)) }
 {
     for lists in &target.dependencies {
-        push_texts(words, lists, what)?;
+        push_copies(words, what.of(lists))?;
     }
     Ok(())
 }

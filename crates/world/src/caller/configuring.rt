@@ -15,7 +15,7 @@ impl<'a, T: Tree, O: Outputs> Caller<'a, T, O> {
     ghost use Rattle.world.specs.Store.{world_of};
 
     // What a change of configuration data came to, or its stop.
-    fn configured(&self, answer: Result<(), SetStop>) -> Result<(), Stop>
+    fn configure(&self, answer: Result<(), SetStop>) -> Result<(), Stop>
         ensures { IsConfigured (world_of self.now.store.now) answer result }
     {
         match answer {
@@ -51,7 +51,7 @@ impl<'a, T: Tree, O: Outputs> Caller<'a, T, O> {
         ensures { Does T.seen O.seen (λ u. u) (set_configured number name.now (content_of value)) self.old result self.new }
     {
         let answer = self.store.set_configured(number, name, value);
-        self.configured(answer)
+        self.configure(answer)
     }
 
     /// Gives a name a text in quotes in the data with a number, or refuses the call where they are frozen.
@@ -59,7 +59,7 @@ impl<'a, T: Tree, O: Outputs> Caller<'a, T, O> {
         ensures { Does T.seen O.seen (λ u. u) (set_quoted number name.now text.now) self.old result self.new }
     {
         let answer = self.store.set_quoted(number, name, text);
-        self.configured(answer)
+        self.configure(answer)
     }
 
     /// Gives each name of other data the value that it has there, in the data with a number, or refuses the call where these are frozen.
@@ -67,7 +67,7 @@ impl<'a, T: Tree, O: Outputs> Caller<'a, T, O> {
         ensures { Does T.seen O.seen (λ u. u) (merge_configured number others.now) self.old result self.new }
     {
         let answer = self.store.merge_configured(number, others);
-        self.configured(answer)
+        self.configure(answer)
     }
 
     /// Lets no call change the data with a number from now on.

@@ -35,7 +35,7 @@ impl<'a, T: Tree, O: Outputs> Caller<'a, T, O> {
     ghost use Rattle.world.specs.Caller.{Does, state_of};
 
     /// What the project answered, or the stop of its refusal, with what that is about.
-    pub fn allowed<A>(&self, answer: Result<A, Refused>) -> Result<A, Stop>
+    pub fn allow<A>(&self, answer: Result<A, Refused>) -> Result<A, Stop>
         ensures { IsAllowed (world_of self.now.store.now) answer result }
     {
         match answer {
@@ -57,7 +57,7 @@ impl<'a, T: Tree, O: Outputs> Caller<'a, T, O> {
         ensures { Does T.seen O.seen (λ n. n) (add_target (target_view target)) self.old result self.new }
     {
         let answer = self.store.add_target(target)?;
-        self.allowed(answer)
+        self.allow(answer)
     }
 
     /// Takes the path of a file of a folder that `configure_file` makes, or refuses the call as the project does. So begins the deed
@@ -67,7 +67,7 @@ impl<'a, T: Tree, O: Outputs> Caller<'a, T, O> {
             (state_of T.seen O.seen self.old) result (state_of T.seen O.seen self.new) }
     {
         let answer = self.store.add_output(folder, name)?;
-        self.allowed(answer)
+        self.allow(answer)
     }
 
     /// Adds words to those of all compile commands, or refuses the call as the project does.
@@ -75,7 +75,7 @@ impl<'a, T: Tree, O: Outputs> Caller<'a, T, O> {
         ensures { Does T.seen O.seen (λ u. u) (add_arguments (texts words.now)) self.old result self.new }
     {
         let answer = self.store.add_arguments(words)?;
-        self.allowed(answer)
+        self.allow(answer)
     }
 
     /// Adds words to those of all link commands, or refuses the call as the project does.
@@ -83,7 +83,7 @@ impl<'a, T: Tree, O: Outputs> Caller<'a, T, O> {
         ensures { Does T.seen O.seen (λ u. u) (add_link_arguments (texts words.now)) self.old result self.new }
     {
         let answer = self.store.add_link_arguments(words)?;
-        self.allowed(answer)
+        self.allow(answer)
     }
 
     /// Notes what a call of `dependency` answered.

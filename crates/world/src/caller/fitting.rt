@@ -14,7 +14,7 @@ impl<'a, T: Tree, O: Outputs> Caller<'a, T, O> {
     ghost use Rattle.world.specs.Caller.{Does};
 
     /// What the arguments say, or the stop of their refusal, with what that is about.
-    pub fn passed<A>(&self, answer: Result<A, Refused>) -> Result<A, Stop>
+    pub fn pass<A>(&self, answer: Result<A, Refused>) -> Result<A, Stop>
         ensures { IsPassed (world_of self.now.store.now) answer result }
     {
         match answer {
@@ -28,6 +28,6 @@ impl<'a, T: Tree, O: Outputs> Caller<'a, T, O> {
         ensures { Does T.seen O.seen (λ u. u) (fit (row_data row.now) (arguments_data arguments.now)) self.now result self.now }
     {
         let answer = check(self.alloc, row, arguments)?;
-        self.passed(answer)
+        self.pass(answer)
     }
 }

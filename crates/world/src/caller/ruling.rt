@@ -20,7 +20,7 @@ impl<'a, T: Tree, O: Outputs> Caller<'a, T, O> {
     pub fn refuse_for<A>(&self, refusal: Refusal, rule: Rule, text: &str) -> Result<A, Stop>
         ensures { Refuses (fault_here (world_of self.now.store.now) refusal (broken rule text.now)) result }
     {
-        let detail = rule.broken(self.alloc, text)?;
+        let detail = rule.tell_breach(self.alloc, text)?;
         self.refuse(refusal, detail.as_str())
     }
 
@@ -32,7 +32,7 @@ impl<'a, T: Tree, O: Outputs> Caller<'a, T, O> {
     }
 
     /// What an operation on values answered, or the stop of its refusal; where that is of the arguments, this text breaks the rule.
-    pub fn answered_by<A>(
+    pub fn answer_by<A>(
         &self,
         rule: Rule,
         text: &str,

@@ -45,27 +45,27 @@ returns-in-Ok-clause-complete c = complete_all c.args.source.now (Ok c.in-Ok.fil
 pub returns-in-Ok-clause-only : goal.returns-in-Ok-clause-only
 returns-in-Ok-clause-only c = only_all c.args.source.now (Ok c.in-Ok.file) (read_here c)
 
-pub located-requires : goal.located-requires
-located-requires c =
+pub locate-requires : goal.locate-requires
+locate-requires c =
     let e = stop_is c.in-Err-Stop.field-0 c.in-Err-Stop.stop _ c.in-Err-Stop.field-0-is c.in-Err-Stop.ensures in
     let same = c.deref.ensures.value ∙ sym c.deref-in-Err-Stop.ensures.value in
     subst (λ (ts : List Token). tokens_left c.in-Err-Stop.stop ≤ length ts) same (stop_within c.args.source.now c.deref.result.now c.in-Err-Stop.stop e)
 
-stop_here : (c : After-drop-tokens-2) → parsed c.args.source.now ≡ Err c.located.result
+stop_here : (c : After-drop-tokens-2) → parsed c.args.source.now ≡ Err c.locate.result
 stop_here c =
     let e = stop_is c.in-Err-Stop.field-0 c.in-Err-Stop.stop _ c.in-Err-Stop.field-0-is c.in-Err-Stop.ensures in
     let same = sym c.deref.ensures.value in
     stopped c.args.source.now (lexemes c.in_ok-tokens.tokens.items) c.in-Err-Stop.stop c.in_ok-tokens.ensures.reads (ap (λ (ts : List Token). all_of (file_at most_levels) (lexemes ts)) same ∙ e)
-    ∙ ap (λ (ts : List Token). Err (located c.args.source.now (lexemes ts) c.in-Err-Stop.stop)) (sym c.deref-in-Err-Stop.ensures.value) ∙ ap (λ (f : SyntaxFault). Err f) (sym c.located.ensures)
+    ∙ ap (λ (ts : List Token). Err (located c.args.source.now (lexemes ts) c.in-Err-Stop.stop)) (sym c.deref-in-Err-Stop.ensures.value) ∙ ap (λ (f : SyntaxFault). Err f) (sym c.locate.ensures)
 
 pub returns-clause-reads : goal.returns-clause-reads
 returns-clause-reads c = stop_here c
 
 pub returns-clause-complete : goal.returns-clause-complete
-returns-clause-complete c = complete_all c.args.source.now (Err (errors.Fault c.located.result)) (stop_here c)
+returns-clause-complete c = complete_all c.args.source.now (Err (errors.Fault c.locate.result)) (stop_here c)
 
 pub returns-clause-refused : goal.returns-clause-refused
-returns-clause-refused c = refused_all c.args.source.now (Err (errors.Fault c.located.result)) (stop_here c)
+returns-clause-refused c = refused_all c.args.source.now (Err (errors.Fault c.locate.result)) (stop_here c)
 
 pub returns-in_err-tokens-clause-faulty : goal.returns-in_err-tokens-clause-faulty
 returns-in_err-tokens-clause-faulty c = faulty_all c.args.source.now c.from_residual.result (no_tokens_here c)
@@ -86,7 +86,7 @@ pub returns-in-Err-Memory-clause-fronts : goal.returns-in-Err-Memory-clause-fron
 returns-in-Err-Memory-clause-fronts c = fronts_shorter c.args.source.now
 
 pub returns-clause-faulty : goal.returns-clause-faulty
-returns-clause-faulty c = faulty_all c.args.source.now (Err (errors.Fault c.located.result)) (stop_here c)
+returns-clause-faulty c = faulty_all c.args.source.now (Err (errors.Fault c.locate.result)) (stop_here c)
 
 pub returns-clause-fronts : goal.returns-clause-fronts
 returns-clause-fronts c = fronts_shorter c.args.source.now

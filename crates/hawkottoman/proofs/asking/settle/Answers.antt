@@ -6,9 +6,9 @@ use Rattle.hawkottoman.proofs.asking.settle.Goals as goal
 pub returns-in-Ok : goal.returns-in-Ok
 returns-in-Ok g c = subst (λ a. Told a c.tell.result (g.O.Outputs.seen c.args.out.now) (g.O.Outputs.seen c.tell.new.out)) (sym c.in-Ok.is) c.tell.ensures
 
-pub stopped-requires : goal.stopped-requires
-stopped-requires g c = on_fault c.in-Err.stop c.requires
+pub tell_fault-requires : goal.tell_fault-requires
+tell_fault-requires g c = on_fault c.in-Err.stop c.requires
 
 pub returns-in-Err : goal.returns-in-Err
 returns-in-Err g c =
-    subst (λ a. Told a c.stopped.result (g.O.Outputs.seen c.args.out.now) (g.O.Outputs.seen c.stopped.new.out)) (sym c.in-Err.is) c.stopped.ensures
+    subst (λ a. Told a c.tell_fault.result (g.O.Outputs.seen c.args.out.now) (g.O.Outputs.seen c.tell_fault.new.out)) (sym c.in-Err.is) c.tell_fault.ensures

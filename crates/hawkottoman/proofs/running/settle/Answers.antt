@@ -8,8 +8,8 @@ use Rattle.hawkottoman.proofs.running.settle.Goals as goal
 pub conclude-status-requires : goal.conclude-status-requires
 conclude-status-requires g c = subst (λ a. OnEnd a (HasRoom (g.O.Outputs.seen c.args.out.now).failures)) c.in-Ok.is c.requires
 
-pub stopped-requires : goal.stopped-requires
-stopped-requires g c = subst (λ a. OnEnd a (HasRoom (g.O.Outputs.seen c.args.out.now).failures)) c.in-Err.is c.requires
+pub tell_fault-requires : goal.tell_fault-requires
+tell_fault-requires g c = subst (λ a. OnEnd a (HasRoom (g.O.Outputs.seen c.args.out.now).failures)) c.in-Err.is c.requires
 
 pub returns-in-Ok-clause-settles : goal.returns-in-Ok-clause-settles
 returns-in-Ok-clause-settles g c =
@@ -23,4 +23,4 @@ returns-in-Ok-clause-meaning g c = subst (λ a. OnProject a Means) (sym c.in-Ok.
 
 pub returns-in-Err-clause-settles : goal.returns-in-Err-clause-settles
 returns-in-Err-clause-settles g c =
-    subst (λ a. Settles a c.stopped.result (g.O.Outputs.seen c.args.out.now) (g.O.Outputs.seen c.stopped.new.out)) (sym c.in-Err.is) c.stopped.ensures
+    subst (λ a. Settles a c.tell_fault.result (g.O.Outputs.seen c.args.out.now) (g.O.Outputs.seen c.tell_fault.new.out)) (sym c.in-Err.is) c.tell_fault.ensures

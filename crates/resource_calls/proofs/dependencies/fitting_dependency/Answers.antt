@@ -9,12 +9,12 @@ use Rattle.resource_calls.proofs.dependencies.fitting_dependency.Goals as goal
 pub returns-in-Disabled : goal.returns-in-Disabled
 unfolding fitting_dependency
 returns-in-Disabled g c =
-    carries_as (ap (λ r. fitting_dependency r (arguments_data c.args.arguments.now)) (sym c.in-Disabled.is ∙ c.required_by.ensures)) (carries_give refl)
+    carries_as (ap (λ r. fitting_dependency r (arguments_data c.args.arguments.now)) (sym c.in-Disabled.is ∙ c.read_required.ensures)) (carries_give refl)
 
 pub returns-in-Required : goal.returns-in-Required
 unfolding fitting_dependency
 returns-in-Required g c =
     let a = arguments_data c.args.arguments.now in
-    carries_as (sym (ap (λ r. fitting_dependency r a) (sym c.required_by.ensures)
+    carries_as (sym (ap (λ r. fitting_dependency r a) (sym c.read_required.ensures)
     ∙ either_way (λ r. fitting_dependency r a) (first_said a (flat_all a.positional)) refl refl c.in-Required.is))
     c.first_given.ensures

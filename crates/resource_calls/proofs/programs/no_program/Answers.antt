@@ -10,12 +10,12 @@ use Rattle.resource_calls.proofs.programs.no_program.Goals as goal
 pub returns-in-Required : goal.returns-in-Required
 unfolding no_program
 returns-in-Required g c =
-    carries_as (ap (λ r. no_program r (arguments_data c.args.arguments.now)) (sym c.in-Required.is ∙ c.required_by.ensures))
+    carries_as (ap (λ r. no_program r (arguments_data c.args.arguments.now)) (sym c.in-Required.is ∙ c.read_required.ensures))
     (carries_as (ap (λ t. refuse refusals.NotFound t) c.text_at.ensures) (carries_refuse c.refuse.ensures))
 
 pub returns-in-Optional : goal.returns-in-Optional
 unfolding no_program
 returns-in-Optional g c =
     let a = arguments_data c.args.arguments.now in
-    carries_as (sym (ap (λ r. no_program r a) (sym c.required_by.ensures) ∙ either_way (λ r. no_program r a) (missing_program a) refl refl c.in-Optional.is))
+    carries_as (sym (ap (λ r. no_program r a) (sym c.read_required.ensures) ∙ either_way (λ r. no_program r a) (missing_program a) refl refl c.in-Optional.is))
     c.missing_program.ensures

@@ -13,4 +13,4 @@ pub returns : goal.returns
 unfolding named_paths
 returns g c =
     let said = c.in_ok-paths.ensures ∙ ap (λ (h : HereData). paths_named h c.args.wanted (map (λ t. t.now) c.args.texts.now)) c.here-here.ensures in
-    carries_read (carries_passed {view = strings_of} _ c.in_ok-paths.paths said c.passed.ensures)
+    carries_read (carries_passed {view = strings_of} _ c.in_ok-paths.paths said c.pass.ensures)

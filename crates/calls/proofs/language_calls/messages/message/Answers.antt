@@ -3,4 +3,4 @@ use Rattle.calls.proofs.language_calls.messages.message.Goals as goal
 
 pub returns : goal.returns
 unfolding message
-returns g c = c.logged.ensures
+returns g c = c.log_line.ensures

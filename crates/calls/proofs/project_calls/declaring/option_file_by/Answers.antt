@@ -10,12 +10,12 @@ returns-in_err-old-in-Nothing g c = carries_as (ap (λ f. option_file_by (found_
 
 pub returns-in_ok-old-in-Nothing : goal.returns-in_ok-old-in-Nothing
 unfolding option_file_by
-returns-in_ok-old-in-Nothing g c = carries_as (ap (λ f. option_file_by (found_in f)) (sym c.in-Nothing.is)) (carries_then c.in_ok-old-in-Nothing.ensures c.declared_at.ensures)
+returns-in_ok-old-in-Nothing g c = carries_as (ap (λ f. option_file_by (found_in f)) (sym c.in-Nothing.is)) (carries_then c.in_ok-old-in-Nothing.ensures c.collect_at.ensures)
 
 pub returns-in-TooLong : goal.returns-in-TooLong
 unfolding option_file_by
-returns-in-TooLong g c = carries_as (ap (λ f. declared_at (codes "meson.options") (found_in f)) c.in-TooLong.is ∙ ap (λ f. option_file_by (found_in f)) (sym c.in-TooLong.is)) c.declared_at-in-TooLong.ensures
+returns-in-TooLong g c = carries_as (ap (λ f. declared_at (codes "meson.options") (found_in f)) c.in-TooLong.is ∙ ap (λ f. option_file_by (found_in f)) (sym c.in-TooLong.is)) c.collect_at-in-TooLong.ensures
 
 pub returns-in-Bytes : goal.returns-in-Bytes
 unfolding option_file_by
-returns-in-Bytes g c = carries_as (ap (λ f. declared_at (codes "meson.options") (found_in f)) c.in-Bytes.is ∙ ap (λ f. option_file_by (found_in f)) (sym c.in-Bytes.is)) c.declared_at-in-Bytes.ensures
+returns-in-Bytes g c = carries_as (ap (λ f. declared_at (codes "meson.options") (found_in f)) c.in-Bytes.is ∙ ap (λ f. option_file_by (found_in f)) (sym c.in-Bytes.is)) c.collect_at-in-Bytes.ensures

@@ -10,15 +10,15 @@ pub returns-in-Ok : goal.returns-in-Ok
 unfolding settled
 returns-in-Ok g c = carries_as (ap (λ o. settled c.args.path.now (outcome_in o) c.args.caller.now.store.now.line) (sym c.in-Ok.is)) (carries_give refl)
 
-pub returns-in_err-told_in-in-Err : goal.returns-in_err-told_in-in-Err
-returns-in_err-told_in-in-Err g c = carries_none c.from_residual.ensures.1
+pub returns-in_err-tell_in-in-Err : goal.returns-in_err-tell_in-in-Err
+returns-in_err-tell_in-in-Err g c = carries_none c.from_residual.ensures.1
 
-pub returns-in_ok-told_in-in-Err : goal.returns-in_ok-told_in-in-Err
+pub returns-in_ok-tell_in-in-Err : goal.returns-in_ok-tell_in-in-Err
 unfolding settled
-returns-in_ok-told_in-in-Err g c =
+returns-in_ok-tell_in-in-Err g c =
     let fault = fault_in c.in-Err.fault in
     let line = c.args.caller.now.store.now.line in
     let path = c.args.path.now in
     carries_as (ap (λ o. settled path (outcome_in o) line) (sym c.in-Err.is))
-    (carries_refused_about (file_of path fault.place) (line_of line fault.place) fault.refusal fault.detail c.in_ok-told_in-in-Err.field-0
-    (c.in_ok-told_in-in-Err.ensures ∙ ap (λ n. told_in path n fault) c.line-line.ensures))
+    (carries_refused_about (file_of path fault.place) (line_of line fault.place) fault.refusal fault.detail c.in_ok-tell_in-in-Err.field-0
+    (c.in_ok-tell_in-in-Err.ensures ∙ ap (λ n. told_in path n fault) c.line-line.ensures))

@@ -120,10 +120,10 @@ ternary-push-requires t c =
 -- ---- one variant
 
 pub expression-returns-in-Name-clause-grows : goal.expression-returns-in-Name-clause-grows
-expression-returns-in-Name-clause-grows t c = c.named.ensures.grows
+expression-returns-in-Name-clause-grows t c = c.add_name.ensures.grows
 
 pub expression-returns-in-Name-clause-stands : goal.expression-returns-in-Name-clause-stands
-expression-returns-in-Name-clause-stands t c = stands_as c.named.result (trees_in c.named.new.self) _ (expression_of c.args.expression.now) c.named.ensures.stands
+expression-returns-in-Name-clause-stands t c = stands_as c.add_name.result (trees_in c.add_name.new.self) _ (expression_of c.args.expression.now) c.add_name.ensures.stands
     (name_made c.args.expression.now c.in-Name.line c.in-Name.name c.in-Name.is)
 
 pub expression-returns-in-Literal-clause-grows : goal.expression-returns-in-Literal-clause-grows

@@ -31,5 +31,5 @@ returns-in-None-clause-gives g c = λ within files h.
     let same = c.take-taken.ensures.names in
     let there = subst (λ (ns : List (List ℕ)). c.args.number < length ns) (sym same) within in
     given_as (ap (λ b. next (variable_by b c.args.line name) (λ d. added c.args.line name d (data_of c.args.right))) (sym c.if-is_thing.false ∙ c.is_predefined-is_thing.ensures ∙ ap is_predefined (c.name.ensures within)))
-    (given_untaken c.unknown.result h (sym (ap (option_map data_of) c.in-None.is) ∙ c.take-taken.ensures.value within) (c.take-taken.ensures.world within) same
-    (ap (λ (ns : List (List ℕ)). get_or ns c.args.number []) same) (c.unknown.ensures.refuses there))
+    (given_untaken c.refuse_unknown.result h (sym (ap (option_map data_of) c.in-None.is) ∙ c.take-taken.ensures.value within) (c.take-taken.ensures.world within) same
+    (ap (λ (ns : List (List ℕ)). get_or ns c.args.number []) same) (c.refuse_unknown.ensures.refuses there))

@@ -36,13 +36,13 @@ returns-in-Short-clause-gives g c = λ files h.
     ∙ of_text c.args.line (spelled n.source.value) n.literal c.in-Short.text (stands n (meanings.Short c.in-Short.text) c.in-Short.is))
     (given_give h refl)
 
-pub returns-in_err-shared-in-Text-clause-gives : goal.returns-in_err-shared-in-Text-clause-gives
-returns-in_err-shared-in-Text-clause-gives g c = λ files h. given_none h c.from_residual.ensures.1
+pub returns-in_err-share-in-Text-clause-gives : goal.returns-in_err-share-in-Text-clause-gives
+returns-in_err-share-in-Text-clause-gives g c = λ files h. given_none h c.from_residual.ensures.1
 
-pub returns-in_ok-shared-in-Text-clause-gives : goal.returns-in_ok-shared-in-Text-clause-gives
-returns-in_ok-shared-in-Text-clause-gives g c = λ files h.
+pub returns-in_ok-share-in-Text-clause-gives : goal.returns-in_ok-share-in-Text-clause-gives
+returns-in_ok-share-in-Text-clause-gives g c = λ files h.
     let n = c.args.node.now in
-    given_as (ap (answered c.args.line) (sym c.in_ok-shared-in-Text.ensures)
+    given_as (ap (answered c.args.line) (sym c.in_ok-share-in-Text.ensures)
     ∙ ap (λ t. answered c.args.line (within (text t))) c.deref-text.ensures
     ∙ of_text c.args.line (spelled n.source.value) n.literal c.in-Text.text.value (stands n (meanings.Text c.in-Text.text) c.in-Text.is))
     (given_give h refl)
@@ -55,17 +55,17 @@ of_parts line n f box h is =
     ap (filled line []) (f.split ∙ ap (λ (x : FormatString). segments places.Names (written x.parts.items)) is)
     ∙ of_format line (spelled n.source.value) n.literal (written box.value.parts.items) h
 
-pub returns-in_err-filled-in-Format-clause-gives : goal.returns-in_err-filled-in-Format-clause-gives
-returns-in_err-filled-in-Format-clause-gives g c = λ files h.
+pub returns-in_err-fill-in-Format-clause-gives : goal.returns-in_err-fill-in-Format-clause-gives
+returns-in_err-fill-in-Format-clause-gives g c = λ files h.
     let n = c.args.node.now in
     given_as (ap (λ ps. filled c.args.line [] (map part_data ps)) c.deref.ensures.value ∙ of_parts c.args.line n c.deref-format.result.now c.in-Format.format (stands n (meanings.Format c.in-Format.format) c.in-Format.is) c.deref-format.ensures)
-    (given_same (c.in_err-filled-in-Format.ensures.gives files h) c.from_residual-in_err-filled-in-Format.ensures.1)
+    (given_same (c.in_err-fill-in-Format.ensures.gives files h) c.from_residual-in_err-fill-in-Format.ensures.1)
 
-pub returns-in_ok-filled-in-Format-clause-gives : goal.returns-in_ok-filled-in-Format-clause-gives
-returns-in_ok-filled-in-Format-clause-gives g c = λ files h.
+pub returns-in_ok-fill-in-Format-clause-gives : goal.returns-in_ok-fill-in-Format-clause-gives
+returns-in_ok-fill-in-Format-clause-gives g c = λ files h.
     let n = c.args.node.now in
     given_as (ap (λ ps. filled c.args.line [] (map part_data ps)) c.deref.ensures.value ∙ of_parts c.args.line n c.deref-format.result.now c.in-Format.format (stands n (meanings.Format c.in-Format.format) c.in-Format.is) c.deref-format.ensures)
-    (c.in_ok-filled-in-Format.ensures.gives files h)
+    (c.in_ok-fill-in-Format.ensures.gives files h)
 
 pub returns-in_err-unread-in-Source-clause-gives : goal.returns-in_err-unread-in-Source-clause-gives
 returns-in_err-unread-in-Source-clause-gives g c = λ files h.

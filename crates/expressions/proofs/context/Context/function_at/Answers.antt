@@ -9,7 +9,7 @@ returns-in-Some-clause-gives g c = λ files h. given_as (ap (known_function c.ar
 
 pub returns-then-is_left_out-clause-gives : goal.returns-then-is_left_out-clause-gives
 returns-then-is_left_out-clause-gives g c = λ files h. given_as (ap (known_function c.args.line c.args.name.now) (sym c.in-None.is ∙ c.function.ensures)) (given_as (ap (λ n. refused_name c.args.line n (is_left_out n)) c.as_str-text.ensures)
-    (given_as (ap (refused_name c.args.line c.as_str-text.result.now) (sym c.if-is_left_out.true ∙ c.is_left_out.ensures)) (given_refuse h c.left_out.ensures)))
+    (given_as (ap (refused_name c.args.line c.as_str-text.result.now) (sym c.if-is_left_out.true ∙ c.is_left_out.ensures)) (given_refuse h c.refuse_left_out.ensures)))
 
 pub returns-else-is_left_out-clause-gives : goal.returns-else-is_left_out-clause-gives
 returns-else-is_left_out-clause-gives g c = λ files h. given_as (ap (known_function c.args.line c.args.name.now) (sym c.in-None.is ∙ c.function.ensures)) (given_as (ap (λ n. refused_name c.args.line n (is_left_out n)) c.as_str-text.ensures)

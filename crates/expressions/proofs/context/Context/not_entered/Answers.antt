@@ -14,13 +14,13 @@ returns-then-is_entered-clause-gives g c = λ files h.
     given_lack _ refusals.Subdir (broken rules.IsNew c.args.text.now) (ap not (ap (λ f. list_any (bytes_eq f) c.args.self.now.store.now.entered) (sym c.deref.ensures) ∙ sym c.is_entered.ensures ∙ c.if-is_entered.true)) h
     refl c.refuse_folder.ensures
 
-pub returns-then-entered-lt-FOLDERS-clause-gives : goal.returns-then-entered-lt-FOLDERS-clause-gives
-returns-then-entered-lt-FOLDERS-clause-gives g c = λ files h.
+pub returns-then-folders_entered-lt-FOLDERS-clause-gives : goal.returns-then-folders_entered-lt-FOLDERS-clause-gives
+returns-then-folders_entered-lt-FOLDERS-clause-gives g c = λ files h.
     given_need _ refusals.Subdir (broken rules.IsNew c.args.text.now) (ap not (ap (λ f. list_any (bytes_eq f) c.args.self.now.store.now.entered) (sym c.deref.ensures) ∙ sym c.is_entered.ensures ∙ c.if-is_entered.false))
-    (given_need _ refusals.Limit [] (ap (λ n. nat_lt n 4096) (sym c.entered.ensures) ∙ lt-ltb c.entered.result 4096 c.if-entered-lt-FOLDERS.true) (given_give h refl))
+    (given_need _ refusals.Limit [] (ap (λ n. nat_lt n 4096) (sym c.folders_entered.ensures) ∙ lt-ltb c.folders_entered.result 4096 c.if-folders_entered-lt-FOLDERS.true) (given_give h refl))
 
-pub returns-else-entered-lt-FOLDERS-clause-gives : goal.returns-else-entered-lt-FOLDERS-clause-gives
-returns-else-entered-lt-FOLDERS-clause-gives g c = λ files h.
+pub returns-else-folders_entered-lt-FOLDERS-clause-gives : goal.returns-else-folders_entered-lt-FOLDERS-clause-gives
+returns-else-folders_entered-lt-FOLDERS-clause-gives g c = λ files h.
     given_need _ refusals.Subdir (broken rules.IsNew c.args.text.now) (ap not (ap (λ f. list_any (bytes_eq f) c.args.self.now.store.now.entered) (sym c.deref.ensures) ∙ sym c.is_entered.ensures ∙ c.if-is_entered.false))
-    (given_lack _ refusals.Limit [] (ap (λ n. nat_lt n 4096) (sym c.entered.ensures) ∙ le-ltb c.entered.result 4096 c.if-entered-lt-FOLDERS.false) h
+    (given_lack _ refusals.Limit [] (ap (λ n. nat_lt n 4096) (sym c.folders_entered.ensures) ∙ le-ltb c.folders_entered.result 4096 c.if-folders_entered-lt-FOLDERS.false) h
     c.line.ensures c.refuse.ensures)

@@ -21,4 +21,4 @@ returns-in_err-fits-clause-gives g c = λ files h. given_none h c.from_residual.
 pub returns-clause-gives : goal.returns-clause-gives
 returns-clause-gives g c = λ files h.
     given_as (ap (fitted c.args.line) (c.in_ok-fits.ensures ∙ ap (λ r. checked r (arguments_data c.args.arguments.now)) c.any_values.ensures))
-    (c.fitted.ensures.gives files h)
+    (c.fit.ensures.gives files h)

@@ -84,8 +84,8 @@ chain-returns-clause-read t c =
     (chain_more f part (lexemes c.args.self.now.rest.now) (expression_of c.in_ok-first.first) (lexemes c.part.new.self.rest.now) (map operand_of c.loop-operator.others.items) ts
     c.in_ok-first.ensures.read (sym c.operates.ensures ∙ c.if-not-operates.false)
     (still_ends (stands_for f) (operand_at f part) (map operand_of c.loop-operator.others.items) ts _ c.loop-operator.invariant.read w.1))
-    (ap (λ (os : List OperandTree). ChainTree (expression_of c.in_ok-first.first) (operands os) (first_line (lexemes c.args.self.now.rest.now))) (ap (map operand_of) (sym c.fitted.ensures))
-    ∙ chain_seen c.in_ok-first-2.first c.fitted.result c.first_line-line.result _ _ (ap expression_of (sym c.in_ok-first-2.ensures)) (sym c.first_line-line.ensures)))
+    (ap (λ (os : List OperandTree). ChainTree (expression_of c.in_ok-first.first) (operands os) (first_line (lexemes c.args.self.now.rest.now))) (ap (map operand_of) (sym c.fit.ensures))
+    ∙ chain_seen c.in_ok-first-2.first c.fit.result c.first_line-line.result _ _ (ap expression_of (sym c.in_ok-first-2.ensures)) (sym c.first_line-line.ensures)))
 
 pub list-loop-more-init : goal.list-loop-more-init
 list-loop-more-init t c = record {
@@ -116,8 +116,8 @@ list-returns-in_err-items-clause-read t c =
 
 pub list-returns-clause-read : goal.list-returns-clause-read
 list-returns-clause-read t c = returned _ _ _ _
-    (list_reads c.args.levels c.args.ternaries (lexemes c.args.self.now.rest.now) (lexeme_of c.in_ok-open.open) c.in_ok-open.inside (lexemes c.enter.new.self.rest.now) c.in_ok-open.ensures.read _ (lexemes c.loop-more.self.rest.now) _ (lexemes c.closed.new.self.rest.now) (pending_done Kinds.CloseBracket (λ s. ternary_at (unary_at c.in_ok-open.inside) c.args.ternaries) same_state c.loop-more.more tt (map expression_of c.loop-more.items.items) (lexemes c.loop-more.self.rest.now) _ c.loop-more.invariant.read c.loop-more-test.false) c.in_ok-items.ensures.read)
-    (list_seen c.fitted.result c.in_ok-open.open.line _ (ap (λ v. map expression_of v.items) (sym c.in_ok-items.ensures.same) ∙ ap (map expression_of) (sym c.fitted.ensures)))
+    (list_reads c.args.levels c.args.ternaries (lexemes c.args.self.now.rest.now) (lexeme_of c.in_ok-open.open) c.in_ok-open.inside (lexemes c.enter.new.self.rest.now) c.in_ok-open.ensures.read _ (lexemes c.loop-more.self.rest.now) _ (lexemes c.close.new.self.rest.now) (pending_done Kinds.CloseBracket (λ s. ternary_at (unary_at c.in_ok-open.inside) c.args.ternaries) same_state c.loop-more.more tt (map expression_of c.loop-more.items.items) (lexemes c.loop-more.self.rest.now) _ c.loop-more.invariant.read c.loop-more-test.false) c.in_ok-items.ensures.read)
+    (list_seen c.fit.result c.in_ok-open.open.line _ (ap (λ v. map expression_of v.items) (sym c.in_ok-items.ensures.same) ∙ ap (map expression_of) (sym c.fit.ensures)))
 
 pub dictionary-loop-more-init : goal.dictionary-loop-more-init
 dictionary-loop-more-init t c = record {
@@ -150,7 +150,7 @@ dictionary-returns-in_err-value-clause-read t c =
     let d = c.in_err-value.field-0.0 in
     rw (p.1, p.2) (dictionary_stops c.args.levels c.args.ternaries (lexemes c.args.self.now.rest.now) (lexeme_of c.in_ok-open.open) c.in_ok-open.inside (lexemes c.enter.new.self.rest.now) c.in_ok-open.ensures.read d
     (pending_fails Kinds.CloseBrace (λ s. entry_at part) same_state c.loop-more.more tt (map entry_of c.loop-more.entries.items) (lexemes c.loop-more.self.rest.now) _ c.loop-more.invariant.read d c.loop-more-test.true
-    (entry_value_fails part (lexemes c.loop-more.self.rest.now) _ (lexemes c.ternary.new.self.rest.now) c.in_ok-key.ensures.read _ (lexemes c.closed.new.self.rest.now) c.in_ok-key-2.ensures.read
+    (entry_value_fails part (lexemes c.loop-more.self.rest.now) _ (lexemes c.ternary.new.self.rest.now) c.in_ok-key.ensures.read _ (lexemes c.close.new.self.rest.now) c.in_ok-key-2.ensures.read
     d c.in_err-value.ensures.read)))
 
 pub dictionary-loop-more-preserved : goal.dictionary-loop-more-preserved
@@ -162,7 +162,7 @@ dictionary-loop-more-preserved t c =
       within = omega (arith, c.in_ok-key.ensures.shorter, c.in_ok-key-2.ensures.shorter, c.in_ok-value.ensures.shorter, c.more-more.ensures.within, c.loop-more.invariant.within);
       read = rw e (pending_more Kinds.CloseBrace (λ s. entry_at part) same_state c.loop-more.more tt (map entry_of c.loop-more.entries.items) (lexemes c.loop-more.self.rest.now) _ c.loop-more.invariant.read
           a (lexemes c.ternary-in-loop-more.new.self.rest.now) c.more-more.result (lexemes c.more-more.new.self.rest.now) tt c.loop-more-test.true
-          (entry_reads part (lexemes c.loop-more.self.rest.now) _ (lexemes c.ternary.new.self.rest.now) c.in_ok-key.ensures.read _ (lexemes c.closed.new.self.rest.now) c.in_ok-key-2.ensures.read
+          (entry_reads part (lexemes c.loop-more.self.rest.now) _ (lexemes c.ternary.new.self.rest.now) c.in_ok-key.ensures.read _ (lexemes c.close.new.self.rest.now) c.in_ok-key-2.ensures.read
           _ (lexemes c.ternary-in-loop-more.new.self.rest.now) c.in_ok-value.ensures.read)
           (omega (arith, c.in_ok-key.ensures.shorter, c.in_ok-key-2.ensures.shorter, c.in_ok-value.ensures.shorter, length_lexemes c.ternary-in-loop-more.new.self.rest.now, length_lexemes c.loop-more.self.rest.now)) c.more-more.ensures.read refl);
     }
@@ -174,8 +174,8 @@ dictionary-returns-in_err-entries-clause-read t c =
 
 pub dictionary-returns-clause-read : goal.dictionary-returns-clause-read
 dictionary-returns-clause-read t c = returned _ _ _ _
-    (dictionary_reads c.args.levels c.args.ternaries (lexemes c.args.self.now.rest.now) (lexeme_of c.in_ok-open.open) c.in_ok-open.inside (lexemes c.enter.new.self.rest.now) c.in_ok-open.ensures.read _ (lexemes c.loop-more.self.rest.now) _ (lexemes c.closed-2.new.self.rest.now) (pending_done Kinds.CloseBrace (λ s. entry_at (ternary_at (unary_at c.in_ok-open.inside) c.args.ternaries)) same_state c.loop-more.more tt (map entry_of c.loop-more.entries.items) (lexemes c.loop-more.self.rest.now) _ c.loop-more.invariant.read c.loop-more-test.false) c.in_ok-entries.ensures.read)
-    (dictionary_seen c.fitted.result c.in_ok-open.open.line _ (ap (λ v. map entry_of v.items) (sym c.in_ok-entries.ensures.same) ∙ ap (map entry_of) (sym c.fitted.ensures)))
+    (dictionary_reads c.args.levels c.args.ternaries (lexemes c.args.self.now.rest.now) (lexeme_of c.in_ok-open.open) c.in_ok-open.inside (lexemes c.enter.new.self.rest.now) c.in_ok-open.ensures.read _ (lexemes c.loop-more.self.rest.now) _ (lexemes c.close-2.new.self.rest.now) (pending_done Kinds.CloseBrace (λ s. entry_at (ternary_at (unary_at c.in_ok-open.inside) c.args.ternaries)) same_state c.loop-more.more tt (map entry_of c.loop-more.entries.items) (lexemes c.loop-more.self.rest.now) _ c.loop-more.invariant.read c.loop-more-test.false) c.in_ok-entries.ensures.read)
+    (dictionary_seen c.fit.result c.in_ok-open.open.line _ (ap (λ v. map entry_of v.items) (sym c.in_ok-entries.ensures.same) ∙ ap (map entry_of) (sym c.fit.ensures)))
 
 pub arguments-loop-more-init : goal.arguments-loop-more-init
 arguments-loop-more-init t c = record {
@@ -221,8 +221,8 @@ arguments-returns-in_err-items-clause-read t c =
 
 pub arguments-returns-clause-read : goal.arguments-returns-clause-read
 arguments-returns-clause-read t c = returned _ _ _ _
-    (arguments_reads c.args.levels c.args.ternaries (lexemes c.args.self.now.rest.now) (lexeme_of c.in_ok-inside.field-0-0) c.in_ok-inside.inside (lexemes c.enter.new.self.rest.now) c.in_ok-inside.ensures.read _ (lexemes c.loop-more.self.rest.now) _ (lexemes c.closed.new.self.rest.now) (pending_done Kinds.CloseParenthesis (argument_at (ternary_at (unary_at c.in_ok-inside.inside) c.args.ternaries)) is_named c.loop-more.more c.loop-more.behind (map argument_of c.loop-more.items.items) (lexemes c.loop-more.self.rest.now) _ c.loop-more.invariant.read c.loop-more-test.false) c.in_ok-items.ensures.read)
-    (ap (λ v. map argument_of v.items) (sym c.in_ok-items.ensures.same) ∙ ap (map argument_of) (sym c.fitted.ensures))
+    (arguments_reads c.args.levels c.args.ternaries (lexemes c.args.self.now.rest.now) (lexeme_of c.in_ok-inside.field-0-0) c.in_ok-inside.inside (lexemes c.enter.new.self.rest.now) c.in_ok-inside.ensures.read _ (lexemes c.loop-more.self.rest.now) _ (lexemes c.close.new.self.rest.now) (pending_done Kinds.CloseParenthesis (argument_at (ternary_at (unary_at c.in_ok-inside.inside) c.args.ternaries)) is_named c.loop-more.more c.loop-more.behind (map argument_of c.loop-more.items.items) (lexemes c.loop-more.self.rest.now) _ c.loop-more.invariant.read c.loop-more-test.false) c.in_ok-items.ensures.read)
+    (ap (λ v. map argument_of v.items) (sym c.in_ok-items.ensures.same) ∙ ap (map argument_of) (sym c.fit.ensures))
 
 pub unary-returns-in_err-first-clause-read : goal.unary-returns-in_err-first-clause-read
 unary-returns-in_err-first-clause-read t c =
@@ -264,8 +264,8 @@ unary-returns-clause-read t c = returned _ _ _ _
     c.in_ok-first.ensures.read (map link_of c.loop-self.links.items) (lexemes c.loop-self.self.rest.now) (sym c.links_on.ensures ∙ c.if-not-links_on.false)
     (still_ends links_on (link_at (inner_at c.args.levels) c.args.ternaries) (map link_of c.loop-self.links.items) (lexemes c.loop-self.self.rest.now) _ c.loop-self.invariant.read
     (sym c.links_on-in-loop-self.ensures ∙ c.loop-self-test.false)))
-    (ap (λ (ls : List LinkTree). PostfixTree (expression_of c.in_ok-first.first) (links ls) (first_line (lexemes c.args.self.now.rest.now))) (ap (map link_of) (sym c.fitted-links.ensures))
-    ∙ postfix_seen c.in_ok-first-2.first c.fitted-links.result c.first_line-line.result _ _ (ap expression_of (sym c.in_ok-first-2.ensures)) (sym c.first_line-line.ensures))
+    (ap (λ (ls : List LinkTree). PostfixTree (expression_of c.in_ok-first.first) (links ls) (first_line (lexemes c.args.self.now.rest.now))) (ap (map link_of) (sym c.fit-links.ensures))
+    ∙ postfix_seen c.in_ok-first-2.first c.fit-links.result c.first_line-line.result _ _ (ap expression_of (sym c.in_ok-first-2.ensures)) (sym c.first_line-line.ensures))
 
 pub base-returns-in_ok-arguments-clause-read : goal.base-returns-in_ok-arguments-clause-read
 base-returns-in_ok-arguments-clause-read t c = returned _ _ _ _
@@ -315,7 +315,7 @@ ternary-returns-in_err-no-clause-read t c =
     (rw c.in_default.ensures.same at c.in_ok-test.ensures.read) (sym c.asks.ensures ∙ c.if-not-asks.false)
     _ (lexemes c.take.new.self.rest.now) c.in_ok-take.ensures.read
     (expression_of c.in_ok-yes.yes) (lexemes c.chain-2.new.self.rest.now) c.in_ok-yes.ensures.read
-    _ (lexemes c.closed.new.self.rest.now) c.in_ok-yes-2.ensures.read
+    _ (lexemes c.close.new.self.rest.now) c.in_ok-yes-2.ensures.read
     c.in_err-no.field-0.0 c.in_err-no.ensures.read)
 
 pub ternary-returns-clause-read : goal.ternary-returns-clause-read
@@ -325,7 +325,7 @@ ternary-returns-clause-read t c = returned _ _ _ _
     (rw c.in_default.ensures.same at c.in_ok-test.ensures.read) (sym c.asks.ensures ∙ c.if-not-asks.false)
     _ (lexemes c.take.new.self.rest.now) c.in_ok-take.ensures.read
     (expression_of c.in_ok-yes.yes) (lexemes c.chain-2.new.self.rest.now) c.in_ok-yes.ensures.read
-    _ (lexemes c.closed.new.self.rest.now) c.in_ok-yes-2.ensures.read
+    _ (lexemes c.close.new.self.rest.now) c.in_ok-yes-2.ensures.read
     (expression_of c.in_ok-no.no) (lexemes c.chain-3.new.self.rest.now) c.in_ok-no.ensures.read)
     (ternary_seen c.in_ok-test-2.test c.in_ok-yes-3.yes c.in_ok-no-2.no c.first_line-line.result _ _ _ _ (ap expression_of (sym c.in_ok-test-2.ensures))
     (ap expression_of (sym (c.in_ok-yes-3.ensures ∙ c.in_ok-yes-2.ensures.same))) (ap expression_of (sym c.in_ok-no-2.ensures)) (sym (rw c.in_default.ensures.same at c.first_line-line.ensures)))
@@ -340,7 +340,7 @@ link-returns-then-begins-clause-read t c = returned _ _ _ _
 pub link-returns-clause-read : goal.link-returns-clause-read
 link-returns-clause-read t c = returned _ _ _ _
     (index_reads c.args.levels c.args.ternaries (lexemes c.args.self.now.rest.now) (lexeme_of c.in_ok-levels.field-0-0) c.in_ok-levels.levels (lexemes c.enter.new.self.rest.now)
-    (expression_of c.in_ok-index.index) (lexemes c.ternary.new.self.rest.now) _ (lexemes c.closed.new.self.rest.now)
+    (expression_of c.in_ok-index.index) (lexemes c.ternary.new.self.rest.now) _ (lexemes c.close.new.self.rest.now)
     (sym c.begins.ensures ∙ c.if-begins.false) c.in_ok-levels.ensures.read c.in_ok-index.ensures.read c.in_ok-index-2.ensures.read)
     (index_seen c.in_ok-index-2.index _ (ap expression_of (sym c.in_ok-index-2.ensures.same)))
 
@@ -381,8 +381,8 @@ comparison-returns-then-not-compares-clause-shorter t c = c.in_ok-first.ensures.
 pub chain-returns-then-not-operates-clause-shorter : goal.chain-returns-then-not-operates-clause-shorter
 chain-returns-then-not-operates-clause-shorter t c = c.in_ok-first.ensures.shorter
 
-pub base-returns-in_ok-closed-clause-shorter : goal.base-returns-in_ok-closed-clause-shorter
-base-returns-in_ok-closed-clause-shorter t c = lt_trans c.in_ok-closed.ensures.shorter (lt_trans c.in_ok-inner.ensures.shorter c.in_ok-levels.ensures.shorter)
+pub base-returns-in_ok-close-clause-shorter : goal.base-returns-in_ok-close-clause-shorter
+base-returns-in_ok-close-clause-shorter t c = lt_trans c.in_ok-close.ensures.shorter (lt_trans c.in_ok-inner.ensures.shorter c.in_ok-levels.ensures.shorter)
 
 pub base-returns-in_ok-arguments-clause-shorter : goal.base-returns-in_ok-arguments-clause-shorter
 base-returns-in_ok-arguments-clause-shorter t c = lt_trans c.in_ok-arguments.ensures.shorter c.in_ok-name.ensures.shorter
@@ -486,15 +486,15 @@ base-returns-in_err-inner-clause-read t c =
     let p = err_from_is_err_and c.from_residual-in_err-inner.result c.from_residual-in_err-inner.ensures.1 in
     rw (p.1, p.2) (group_inner_fails c.args.levels c.args.ternaries (lexemes c.args.self.now.rest.now) (sym c.two_begin.ensures ∙ c.if-two_begin.false) (sym c.begins.ensures ∙ c.if-begins.true) (lexeme_of c.in_ok-levels.field-0-0) c.in_ok-levels.levels (lexemes c.enter.new.self.rest.now) c.in_ok-levels.ensures.read c.in_err-inner.field-0.0 c.in_err-inner.ensures.read)
 
-pub base-returns-in_err-closed-clause-read : goal.base-returns-in_err-closed-clause-read
-base-returns-in_err-closed-clause-read t c =
-    let p = err_from_is_err_and c.from_residual-in_err-closed.result c.from_residual-in_err-closed.ensures.1 in
-    rw (p.1, p.2) (group_close_fails c.args.levels c.args.ternaries (lexemes c.args.self.now.rest.now) (sym c.two_begin.ensures ∙ c.if-two_begin.false) (sym c.begins.ensures ∙ c.if-begins.true) (lexeme_of c.in_ok-levels.field-0-0) c.in_ok-levels.levels (lexemes c.enter.new.self.rest.now) c.in_ok-levels.ensures.read (expression_of c.in_ok-inner.inner) (lexemes c.ternary.new.self.rest.now) c.in_ok-inner.ensures.read c.in_err-closed.field-0.0 c.in_err-closed.ensures.read)
+pub base-returns-in_err-close-clause-read : goal.base-returns-in_err-close-clause-read
+base-returns-in_err-close-clause-read t c =
+    let p = err_from_is_err_and c.from_residual-in_err-close.result c.from_residual-in_err-close.ensures.1 in
+    rw (p.1, p.2) (group_close_fails c.args.levels c.args.ternaries (lexemes c.args.self.now.rest.now) (sym c.two_begin.ensures ∙ c.if-two_begin.false) (sym c.begins.ensures ∙ c.if-begins.true) (lexeme_of c.in_ok-levels.field-0-0) c.in_ok-levels.levels (lexemes c.enter.new.self.rest.now) c.in_ok-levels.ensures.read (expression_of c.in_ok-inner.inner) (lexemes c.ternary.new.self.rest.now) c.in_ok-inner.ensures.read c.in_err-close.field-0.0 c.in_err-close.ensures.read)
 
-pub base-returns-in_ok-closed-clause-read : goal.base-returns-in_ok-closed-clause-read
-base-returns-in_ok-closed-clause-read t c = returned _ _ _ _
-    (group_reads c.args.levels c.args.ternaries (lexemes c.args.self.now.rest.now) (sym c.two_begin.ensures ∙ c.if-two_begin.false) (sym c.begins.ensures ∙ c.if-begins.true) (lexeme_of c.in_ok-levels.field-0-0) c.in_ok-levels.levels (lexemes c.enter.new.self.rest.now) c.in_ok-levels.ensures.read (expression_of c.in_ok-inner.inner) (lexemes c.ternary.new.self.rest.now) c.in_ok-inner.ensures.read _ (lexemes c.closed.new.self.rest.now) c.in_ok-closed.ensures.read)
-    (ap expression_of (sym c.in_ok-closed.ensures.same))
+pub base-returns-in_ok-close-clause-read : goal.base-returns-in_ok-close-clause-read
+base-returns-in_ok-close-clause-read t c = returned _ _ _ _
+    (group_reads c.args.levels c.args.ternaries (lexemes c.args.self.now.rest.now) (sym c.two_begin.ensures ∙ c.if-two_begin.false) (sym c.begins.ensures ∙ c.if-begins.true) (lexeme_of c.in_ok-levels.field-0-0) c.in_ok-levels.levels (lexemes c.enter.new.self.rest.now) c.in_ok-levels.ensures.read (expression_of c.in_ok-inner.inner) (lexemes c.ternary.new.self.rest.now) c.in_ok-inner.ensures.read _ (lexemes c.close.new.self.rest.now) c.in_ok-close.ensures.read)
+    (ap expression_of (sym c.in_ok-close.ensures.same))
 
 pub base-returns-then-begins-2-clause-read : goal.base-returns-then-begins-2-clause-read
 base-returns-then-begins-2-clause-read t c = rw (atom_list c.args.levels c.args.ternaries (lexemes c.args.self.now.rest.now) (sym c.two_begin.ensures ∙ c.if-two_begin.false) (sym c.begins.ensures ∙ c.if-begins.false) (sym c.begins-else-begins.ensures ∙ c.if-begins-2.true)) c.list.ensures.read

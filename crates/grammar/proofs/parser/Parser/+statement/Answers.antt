@@ -171,13 +171,13 @@ branch-returns-in_err-condition-2-clause-read t c =
 pub branch-returns-in_err-body-clause-read : goal.branch-returns-in_err-body-clause-read
 branch-returns-in_err-body-clause-read t c =
     let p = err_from_is_err_and c.from_residual-in_err-body.result c.from_residual-in_err-body.ensures.1 in
-    rw (p.1, p.2) (branch_body_fails (expr_at c.args.levels) (stmt_at c.args.inside c.args.levels) (lexemes c.args.self.now.rest.now) (expression_of c.in_ok-condition.condition) (lexemes c.expression.new.self.rest.now) c.in_ok-condition.ensures.read _ (lexemes c.closed.new.self.rest.now) c.in_ok-condition-2.ensures.read c.in_err-body.field-0.0 c.in_err-body.ensures.read)
+    rw (p.1, p.2) (branch_body_fails (expr_at c.args.levels) (stmt_at c.args.inside c.args.levels) (lexemes c.args.self.now.rest.now) (expression_of c.in_ok-condition.condition) (lexemes c.expression.new.self.rest.now) c.in_ok-condition.ensures.read _ (lexemes c.close.new.self.rest.now) c.in_ok-condition-2.ensures.read c.in_err-body.field-0.0 c.in_err-body.ensures.read)
 
 pub branch-returns-clause-read : goal.branch-returns-clause-read
 branch-returns-clause-read t c =
     let e : branch_of _ ≡ (expression_of c.in_ok-condition-2.condition, c.first_line-line.result, statements (map statement_of c.in_ok-body.body.items)) =
     branch_seen c.in_ok-condition-2.condition c.first_line-line.result c.in_ok-body.body in
-    rw (e, c.in_ok-condition-2.ensures.same, c.first_line-line.ensures) (branch_reads (expr_at c.args.levels) (stmt_at c.args.inside c.args.levels) (lexemes c.args.self.now.rest.now) (expression_of c.in_ok-condition.condition) (lexemes c.expression.new.self.rest.now) c.in_ok-condition.ensures.read _ (lexemes c.closed.new.self.rest.now) c.in_ok-condition-2.ensures.read (map statement_of c.in_ok-body.body.items) (lexemes c.body.new.self.rest.now) c.in_ok-body.ensures.read)
+    rw (e, c.in_ok-condition-2.ensures.same, c.first_line-line.ensures) (branch_reads (expr_at c.args.levels) (stmt_at c.args.inside c.args.levels) (lexemes c.args.self.now.rest.now) (expression_of c.in_ok-condition.condition) (lexemes c.expression.new.self.rest.now) c.in_ok-condition.ensures.read _ (lexemes c.close.new.self.rest.now) c.in_ok-condition-2.ensures.read (map statement_of c.in_ok-body.body.items) (lexemes c.body.new.self.rest.now) c.in_ok-body.ensures.read)
 
 pub otherwise-returns-in_err-take-clause-read : goal.otherwise-returns-in_err-take-clause-read
 otherwise-returns-in_err-take-clause-read t c =
@@ -203,12 +203,12 @@ line-returns-in_err-statement-clause-read t c =
 pub parts-returns-clause-read : goal.parts-returns-clause-read
 parts-returns-clause-read t c =
     parts_end (expr_at c.args.levels) (stmt_at c.args.inside c.args.levels) (map branch_of c.loop-self.parts.items) (lexemes c.loop-self.self.rest.now) _ c.loop-self.invariant.read (sym c.begins.ensures ∙ c.loop-self-test.false)
-    ∙ ap (λ (l : List BranchTree). Ok (l, lexemes c.loop-self.self.rest.now)) (ap (map branch_of) (sym c.fitted.ensures))
+    ∙ ap (λ (l : List BranchTree). Ok (l, lexemes c.loop-self.self.rest.now)) (ap (map branch_of) (sym c.fit.ensures))
 
 pub body-returns-clause-read : goal.body-returns-clause-read
 body-returns-clause-read t c =
     body_end (stmt_at c.args.inside c.args.levels) (map statement_of c.loop-self.statements.items) (lexemes c.loop-self.self.rest.now) _ c.loop-self.invariant.read (sym c.in_body.ensures ∙ c.loop-self-test.false)
-    ∙ ap (λ (l : List StatementTree). Ok (l, lexemes c.loop-self.self.rest.now)) (ap (map statement_of) (sym c.fitted.ensures))
+    ∙ ap (λ (l : List StatementTree). Ok (l, lexemes c.loop-self.self.rest.now)) (ap (map statement_of) (sym c.fit.ensures))
 
 pub statement-returns-then-not-begins_block-clause-read : goal.statement-returns-then-not-begins_block-clause-read
 statement-returns-then-not-begins_block-clause-read t c = rw (stmt_simple c.args.inside c.args.levels (lexemes c.args.self.now.rest.now) (sym c.begins_block.ensures ∙ c.if-not-begins_block.true)) c.simple.ensures.read

@@ -34,7 +34,7 @@ use Rattle.interp.proofs.Reading.{arguments_reach, operands_reach, links_reach}
 use Rattle.interp.proofs.evaluator.Evaluator.+eval.Goals as goal
 
 pub eval-returns-clause-gives : goal.eval-returns-clause-gives
-eval-returns-clause-gives g t c = λ files left ts hold reads. comes_rule c.form-answer.result c.ended_inside.new.answer c.ended_inside.ensures.ends (c.form-answer.ensures.gives files left ts hold reads)
+eval-returns-clause-gives g t c = λ files left ts hold reads. comes_rule c.form-answer.result c.end_rule_inside.new.answer c.end_rule_inside.ensures.ends (c.form-answer.ensures.gives files left ts hold reads)
 
 pub arguments-loop-argument-init : goal.arguments-loop-argument-init
 arguments-loop-argument-init g t c = record { same = (refl, (refl, (refl, refl))); tree = refl; out = refl; done = λ files left ts hold reads. rw c.clear.ensures (leads_start hold) }
@@ -51,25 +51,25 @@ arguments-loop-argument-preserved g t c = record { same = search rules; tree = s
 pub arguments-returns-clause-gives : goal.arguments-returns-clause-gives
 arguments-returns-clause-gives g t c = λ files left ts hold reads. comes_given (leads_end (leads_as (ap (λ ys. arguments_of (folder left) (arguments_data c.loop-argument.evaluated) (arguments ys)) (no_item (argument_at ts) c.args.arguments.now c.loop-argument.argument-index c.loop-argument-test.false)) (c.loop-argument.invariant.done files left ts hold reads)) (given_give (c.loop-argument.invariant.done files left ts hold reads).holds refl))
 
-pub asked-returns-in_err-value-clause-gives : goal.asked-returns-in_err-value-clause-gives
-asked-returns-in_err-value-clause-gives g t c = λ files left ts hold reads. comes_halt (c.in_err-value.ensures.gives files left ts hold reads) c.from_residual.ensures.1
+pub ask_links-returns-in_err-value-clause-gives : goal.ask_links-returns-in_err-value-clause-gives
+ask_links-returns-in_err-value-clause-gives g t c = λ files left ts hold reads. comes_halt (c.in_err-value.ensures.gives files left ts hold reads) c.from_residual.ensures.1
 
-pub asked-loop-link-init : goal.asked-loop-link-init
-asked-loop-link-init g t c = record { same = search rules; tree = search rules; out = search rules; done = λ files left ts hold reads. leads_on (leads_start hold) (c.in_ok-value.ensures.gives files left ts hold reads).comes }
+pub ask_links-loop-link-init : goal.ask_links-loop-link-init
+ask_links-loop-link-init g t c = record { same = search rules; tree = search rules; out = search rules; done = λ files left ts hold reads. leads_on (leads_start hold) (c.in_ok-value.ensures.gives files left ts hold reads).comes }
 
-pub asked-returns-in_err-whole-clause-gives : goal.asked-returns-in_err-whole-clause-gives
-asked-returns-in_err-whole-clause-gives g t c = λ files left ts hold reads.
+pub ask_links-returns-in_err-whole-clause-gives : goal.ask_links-returns-in_err-whole-clause-gives
+ask_links-returns-in_err-whole-clause-gives g t c = λ files left ts hold reads.
     let led = (leads_as (ap (λ ys. links_of (folder left) c.args.line (option_map data_of c.loop-link.given) (links ys)) (next_is (link_at ts) c.args.links.now c.loop-link.link-index c.link-item.result c.loop-link-test.true c.link-item.is)) (c.loop-link.invariant.done files left ts hold reads)) in
     comes_end led (comes_stop (c.in_err-whole.ensures.gives files led.holds) c.from_residual-in_err-whole.ensures.1)
 
-pub asked-returns-in_err-given-clause-gives : goal.asked-returns-in_err-given-clause-gives
-asked-returns-in_err-given-clause-gives g t c = λ files left ts hold reads.
+pub ask_links-returns-in_err-given-clause-gives : goal.ask_links-returns-in_err-given-clause-gives
+ask_links-returns-in_err-given-clause-gives g t c = λ files left ts hold reads.
     let led = (leads_as (ap (λ ys. links_of (folder left) c.args.line (option_map data_of c.loop-link.given) (links ys)) (next_is (link_at ts) c.args.links.now c.loop-link.link-index c.link-item.result c.loop-link-test.true c.link-item.is)) (c.loop-link.invariant.done files left ts hold reads)) in
     let asked = leads_on led (c.in_ok-whole.ensures.gives files led.holds) in
     comes_end asked (comes_halt (c.in_err-given.ensures.gives files left ts asked.holds (reads_on reads asked.continues.written.names)) c.from_residual-in_err-given.ensures.1)
 
-pub asked-loop-link-preserved : goal.asked-loop-link-preserved
-asked-loop-link-preserved g t c = record {
+pub ask_links-loop-link-preserved : goal.ask_links-loop-link-preserved
+ask_links-loop-link-preserved g t c = record {
   same = search rules;
   tree = search rules;
   out = search rules;
@@ -79,8 +79,8 @@ asked-loop-link-preserved g t c = record {
       leads_on asked (c.in_ok-given.ensures.gives files left ts asked.holds (reads_on reads asked.continues.written.names)).comes;
 }
 
-pub asked-returns-clause-gives : goal.asked-returns-clause-gives
-asked-returns-clause-gives g t c = λ files left ts hold reads. comes_given (leads_end (leads_as (ap (λ ys. links_of (folder left) c.args.line (option_map data_of c.loop-link.given) (links ys)) (no_item (link_at ts) c.args.links.now c.loop-link.link-index c.loop-link-test.false)) (c.loop-link.invariant.done files left ts hold reads)) (given_give (c.loop-link.invariant.done files left ts hold reads).holds refl))
+pub ask_links-returns-clause-gives : goal.ask_links-returns-clause-gives
+ask_links-returns-clause-gives g t c = λ files left ts hold reads. comes_given (leads_end (leads_as (ap (λ ys. links_of (folder left) c.args.line (option_map data_of c.loop-link.given) (links ys)) (no_item (link_at ts) c.args.links.now c.loop-link.link-index c.loop-link-test.false)) (c.loop-link.invariant.done files left ts hold reads)) (given_give (c.loop-link.invariant.done files left ts hold reads).holds refl))
 
 pub rare-list-requires : goal.rare-list-requires
 rare-list-requires g t c κs lives = let reach : above above_number c.deref.result.now ≤ c.args.node = rw c.deref.ensures.value (numbers_reach c.args.node c.in-List.items.items (parts_at c.args.code.now c.args.node c.index.result.now (flat.List c.in-List.items c.in-List.line) c.requires.here c.index.ensures c.in-List.is)) in (omega arith, (lives.0, (lives.1.0, (lives.1.1, (omega arith, c.requires.room)))))
@@ -171,20 +171,20 @@ rare-returns-in-Some-false-clause-gives g t' c = λ files left ts hold reads.
     (comes_as (ap (λ (o : Option Bool). chosen t.line o (is_disabler (data_of c.in_ok-value-in-Ternary.value)) (ruled (value_of (folder left) (tree_at ts t.yes))) (ruled (value_of (folder left) (tree_at ts t.no)))) (sym (sym c.in-Some-false.ensures ∙ ap Some c.in-Some-false.field-0-test)))
     (c.eval-in-Some-false.ensures.gives files left ts value.holds (reads_on reads value.gives.written.names))))
 
-pub rare-returns-in_err-unchosen-in-None-clause-gives : goal.rare-returns-in_err-unchosen-in-None-clause-gives
-rare-returns-in_err-unchosen-in-None-clause-gives g t' c = λ files left ts hold reads.
+pub rare-returns-in_err-refuse_choice-in-None-clause-gives : goal.rare-returns-in_err-refuse_choice-in-None-clause-gives
+rare-returns-in_err-refuse_choice-in-None-clause-gives g t' c = λ files left ts hold reads.
     let t = c.in-Ternary in
     let value = (c.in_ok-value-in-Ternary.ensures.gives files left ts hold reads).comes in
     comes_as (ap (value_of (folder left)) (sym (opened reads c.args.node c.index.result.now (flat.Ternary t.test t.yes t.no t.line) c.requires.here c.index.ensures t.is)))
     (comes_then value (comes_as (ap (λ (o : Option Bool). chosen t.line o (is_disabler (data_of c.in_ok-value-in-Ternary.value)) (ruled (value_of (folder left) (tree_at ts t.yes))) (ruled (value_of (folder left) (tree_at ts t.no)))) c.in-None.ensures)
-    (comes_last (c.in_err-unchosen-in-None.ensures.gives files value.holds) c.from_residual-in_err-unchosen-in-None.ensures.1)))
+    (comes_last (c.in_err-refuse_choice-in-None.ensures.gives files value.holds) c.from_residual-in_err-refuse_choice-in-None.ensures.1)))
 
 pub rare-returns-in-Ternary-clause-gives : goal.rare-returns-in-Ternary-clause-gives
 rare-returns-in-Ternary-clause-gives g t' c = λ files left ts hold reads.
     let t = c.in-Ternary in
     let value = (c.in_ok-value-in-Ternary.ensures.gives files left ts hold reads).comes in
     comes_given (given_as (ap (value_of (folder left)) (sym (opened reads c.args.node c.index.result.now (flat.Ternary t.test t.yes t.no t.line) c.requires.here c.index.ensures t.is)))
-    (given_then value (given_as (ap (λ (o : Option Bool). chosen t.line o (is_disabler (data_of c.in_ok-value-in-Ternary.value)) (ruled (value_of (folder left) (tree_at ts t.yes))) (ruled (value_of (folder left) (tree_at ts t.no)))) c.in-None.ensures) (c.in_ok-unchosen-in-None.ensures.gives files value.holds))))
+    (given_then value (given_as (ap (λ (o : Option Bool). chosen t.line o (is_disabler (data_of c.in_ok-value-in-Ternary.value)) (ruled (value_of (folder left) (tree_at ts t.yes))) (ruled (value_of (folder left) (tree_at ts t.no)))) c.in-None.ensures) (c.in_ok-refuse_choice-in-None.ensures.gives files value.holds))))
 
 pub form-returns-in_err-variable-in-Name-clause-gives : goal.form-returns-in_err-variable-in-Name-clause-gives
 form-returns-in_err-variable-in-Name-clause-gives g t c = λ files left ts hold reads. let number = (name_of reads c.in-Name.number (parts_at c.args.code.now c.args.node c.index.result.now (flat.Name c.in-Name.number c.in-Name.line) c.requires.here c.index.ensures c.in-Name.is)) in comes_as (ap (value_of (folder left)) (sym (opened reads c.args.node c.index.result.now (flat.Name c.in-Name.number c.in-Name.line) c.requires.here c.index.ensures c.in-Name.is))) (comes_as (ap (variable c.in-Name.line) number.1) (comes_last (c.in_err-variable-in-Name.ensures.gives number.0 files hold) c.from_residual.ensures.1))
@@ -223,15 +223,15 @@ list-loop-item-preserved g t c = record {
       rw more (leads_inside led (c.in_ok-value.ensures.gives files left ts led.holds (reads_on reads led.continues.written.names)).comes);
 }
 
-pub list-returns-in_err-listed-clause-gives : goal.list-returns-in_err-listed-clause-gives
-list-returns-in_err-listed-clause-gives g t c = λ files left ts hold reads.
+pub list-returns-in_err-list-clause-gives : goal.list-returns-in_err-list-clause-gives
+list-returns-in_err-list-clause-gives g t c = λ files left ts hold reads.
     let led = leads_as (ap (λ ys. next (values_of (folder left) (items_of c.loop-item.values.items) (expressions ys)) (listed c.args.line)) (no_item (tree_at ts) c.args.items.now c.loop-item.item-index c.loop-item-test.false)) (c.loop-item.invariant.done files left ts hold reads) in
-    comes_end led (comes_then {view = λ (ds : Items). ds} {x = items_of c.loop-item.values.items} (given_give led.holds refl) (comes_last (c.in_err-listed.ensures.gives files led.holds) c.from_residual-in_err-listed.ensures.1))
+    comes_end led (comes_then {view = λ (ds : Items). ds} {x = items_of c.loop-item.values.items} (given_give led.holds refl) (comes_last (c.in_err-list.ensures.gives files led.holds) c.from_residual-in_err-list.ensures.1))
 
 pub list-returns-clause-gives : goal.list-returns-clause-gives
 list-returns-clause-gives g t c = λ files left ts hold reads.
     let led = leads_as (ap (λ ys. next (values_of (folder left) (items_of c.loop-item.values.items) (expressions ys)) (listed c.args.line)) (no_item (tree_at ts) c.args.items.now c.loop-item.item-index c.loop-item-test.false)) (c.loop-item.invariant.done files left ts hold reads) in
-    comes_given (leads_end led (given_then {view = λ (ds : Items). ds} {x = items_of c.loop-item.values.items} (given_give led.holds refl) (c.in_ok-listed.ensures.gives files led.holds)))
+    comes_given (leads_end led (given_then {view = λ (ds : Items). ds} {x = items_of c.loop-item.values.items} (given_give led.holds refl) (c.in_ok-list.ensures.gives files led.holds)))
 
 pub dictionary-loop-entry-init : goal.dictionary-loop-entry-init
 dictionary-loop-entry-init g t c = record { same = (refl, (refl, (refl, refl))); tree = refl; out = refl; done = λ files left ts hold reads. rw c.new-pairs.ensures.items (leads_start hold) }
@@ -266,15 +266,15 @@ dictionary-loop-entry-preserved g t c = record {
       rw more (leads_inside keyed (c.in_ok-value.ensures.gives files left ts keyed.holds (reads_on reads keyed.continues.written.names)).comes);
 }
 
-pub dictionary-returns-in_err-paired-clause-gives : goal.dictionary-returns-in_err-paired-clause-gives
-dictionary-returns-in_err-paired-clause-gives g t c = λ files left ts hold reads.
+pub dictionary-returns-in_err-pair-clause-gives : goal.dictionary-returns-in_err-pair-clause-gives
+dictionary-returns-in_err-pair-clause-gives g t c = λ files left ts hold reads.
     let led = leads_as (ap (λ ys. next (entries_of (folder left) (pairs_of c.loop-entry.pairs.items) (entries ys)) (paired c.args.line)) (no_item (entry_at ts) c.args.entries.now c.loop-entry.entry-index c.loop-entry-test.false)) (c.loop-entry.invariant.done files left ts hold reads) in
-    comes_end led (comes_then {view = λ (ps : List (Data × Data)). ps} {x = pairs_of c.loop-entry.pairs.items} (given_give led.holds refl) (comes_last (c.in_err-paired.ensures.gives files led.holds) c.from_residual-in_err-paired.ensures.1))
+    comes_end led (comes_then {view = λ (ps : List (Data × Data)). ps} {x = pairs_of c.loop-entry.pairs.items} (given_give led.holds refl) (comes_last (c.in_err-pair.ensures.gives files led.holds) c.from_residual-in_err-pair.ensures.1))
 
 pub dictionary-returns-clause-gives : goal.dictionary-returns-clause-gives
 dictionary-returns-clause-gives g t c = λ files left ts hold reads.
     let led = leads_as (ap (λ ys. next (entries_of (folder left) (pairs_of c.loop-entry.pairs.items) (entries ys)) (paired c.args.line)) (no_item (entry_at ts) c.args.entries.now c.loop-entry.entry-index c.loop-entry-test.false)) (c.loop-entry.invariant.done files left ts hold reads) in
-    comes_given (leads_end led (given_then {view = λ (ps : List (Data × Data)). ps} {x = pairs_of c.loop-entry.pairs.items} (given_give led.holds refl) (c.in_ok-paired.ensures.gives files led.holds)))
+    comes_given (leads_end led (given_then {view = λ (ps : List (Data × Data)). ps} {x = pairs_of c.loop-entry.pairs.items} (given_give led.holds refl) (c.in_ok-pair.ensures.gives files led.holds)))
 
 pub chain-returns-in_err-value-clause-gives : goal.chain-returns-in_err-value-clause-gives
 chain-returns-in_err-value-clause-gives g t c = λ files left ts hold reads. comes_halt (c.in_err-value.ensures.gives files left ts hold reads) c.from_residual.ensures.1
@@ -360,8 +360,8 @@ chain-loop-operand-preserved g t c = record {
 pub chain-returns-clause-gives : goal.chain-returns-clause-gives
 chain-returns-clause-gives g t c = λ files left ts hold reads. comes_given (leads_end (leads_as (ap (λ ys. chain_of (folder left) c.args.line (data_of c.loop-operand.value) (operands ys)) (no_item (operand_at ts) c.args.others.now c.loop-operand.operand-index c.loop-operand-test.false)) (c.loop-operand.invariant.done files left ts hold reads)) (given_give (c.loop-operand.invariant.done files left ts hold reads).holds refl))
 
-pub compound-asked-requires : goal.compound-asked-requires
-compound-asked-requires g t c κs lives = let reach : max (suc c.in-Postfix.first) (above above_link c.deref.result.now) ≤ c.args.node = rw c.deref.ensures.value (first_reach c.args.node c.in-Postfix.first above_link c.in-Postfix.links.items (link_within c.args.node) (links_reach c.args.node c.in-Postfix.links.items) (parts_at c.args.code.now c.args.node c.index.result.now (flat.Postfix c.in-Postfix.first c.in-Postfix.links c.in-Postfix.line) c.requires.here c.index.ensures c.in-Postfix.is)) in (omega arith, (lives.0, (lives.1.0, (lives.1.1, (omega arith, c.requires.room)))))
+pub compound-ask_links-requires : goal.compound-ask_links-requires
+compound-ask_links-requires g t c κs lives = let reach : max (suc c.in-Postfix.first) (above above_link c.deref.result.now) ≤ c.args.node = rw c.deref.ensures.value (first_reach c.args.node c.in-Postfix.first above_link c.in-Postfix.links.items (link_within c.args.node) (links_reach c.args.node c.in-Postfix.links.items) (parts_at c.args.code.now c.args.node c.index.result.now (flat.Postfix c.in-Postfix.first c.in-Postfix.links c.in-Postfix.line) c.requires.here c.index.ensures c.in-Postfix.is)) in (omega arith, (lives.0, (lives.1.0, (lives.1.1, (omega arith, c.requires.room)))))
 
 pub rare-eval-requires : goal.rare-eval-requires
 rare-eval-requires g t c κs lives = let reach : suc c.in-Prefix.value ≤ c.args.node = number_reach c.args.node c.in-Prefix.value (parts_at c.args.code.now c.args.node c.index.result.now (flat.Prefix c.in-Prefix.prefix c.in-Prefix.value c.in-Prefix.line) c.requires.here c.index.ensures c.in-Prefix.is) in (omega arith, (lives.0, (lives.1.0, (lives.1.1, (omega arith, c.requires.room)))))
@@ -372,36 +372,36 @@ compound-returns-in_err-given-in-Postfix-clause-gives g t c = λ files left ts h
     (comes_as (ap (λ (xs : List LinkNode). value_of (folder left) (PostfixTree (tree_at ts c.in-Postfix.first) (links (map (link_at ts) xs)) c.in-Postfix.line)) c.deref.ensures.value)
     (comes_halt (c.in_err-given-in-Postfix.ensures.gives files left ts hold reads) c.from_residual.ensures.1))
 
-pub compound-returns-in_err-needed-in-Postfix-clause-gives : goal.compound-returns-in_err-needed-in-Postfix-clause-gives
-compound-returns-in_err-needed-in-Postfix-clause-gives g t c = λ files left ts hold reads.
+pub compound-returns-in_err-need-in-Postfix-clause-gives : goal.compound-returns-in_err-need-in-Postfix-clause-gives
+compound-returns-in_err-need-in-Postfix-clause-gives g t c = λ files left ts hold reads.
     let given = (c.in_ok-given-in-Postfix.ensures.gives files left ts hold reads).comes in
     comes_as (ap (value_of (folder left)) (sym (opened reads c.args.node c.index.result.now (flat.Postfix c.in-Postfix.first c.in-Postfix.links c.in-Postfix.line) c.requires.here c.index.ensures c.in-Postfix.is)))
     (comes_as (ap (λ (xs : List LinkNode). value_of (folder left) (PostfixTree (tree_at ts c.in-Postfix.first) (links (map (link_at ts) xs)) c.in-Postfix.line)) c.deref.ensures.value)
-    (comes_then given (comes_last (c.in_err-needed-in-Postfix.ensures.gives files given.holds) c.from_residual-in_err-needed-in-Postfix.ensures.1)))
+    (comes_then given (comes_last (c.in_err-need-in-Postfix.ensures.gives files given.holds) c.from_residual-in_err-need-in-Postfix.ensures.1)))
 
-pub compound-returns-in_ok-needed-in-Postfix-clause-gives : goal.compound-returns-in_ok-needed-in-Postfix-clause-gives
-compound-returns-in_ok-needed-in-Postfix-clause-gives g t c = λ files left ts hold reads.
+pub compound-returns-in_ok-need-in-Postfix-clause-gives : goal.compound-returns-in_ok-need-in-Postfix-clause-gives
+compound-returns-in_ok-need-in-Postfix-clause-gives g t c = λ files left ts hold reads.
     let given = (c.in_ok-given-in-Postfix.ensures.gives files left ts hold reads).comes in
     comes_given (given_as (ap (value_of (folder left)) (sym (opened reads c.args.node c.index.result.now (flat.Postfix c.in-Postfix.first c.in-Postfix.links c.in-Postfix.line) c.requires.here c.index.ensures c.in-Postfix.is)))
     (given_as (ap (λ (xs : List LinkNode). value_of (folder left) (PostfixTree (tree_at ts c.in-Postfix.first) (links (map (link_at ts) xs)) c.in-Postfix.line)) c.deref.ensures.value)
-    (given_then given (c.in_ok-needed-in-Postfix.ensures.gives files given.holds))))
+    (given_then given (c.in_ok-need-in-Postfix.ensures.gives files given.holds))))
 
 pub rare-returns-in_err-value-in-Prefix-clause-gives : goal.rare-returns-in_err-value-in-Prefix-clause-gives
 rare-returns-in_err-value-in-Prefix-clause-gives g t c = λ files left ts hold reads.
     comes_as (ap (value_of (folder left)) (sym (opened reads c.args.node c.index.result.now (flat.Prefix c.in-Prefix.prefix c.in-Prefix.value c.in-Prefix.line) c.requires.here c.index.ensures c.in-Prefix.is)))
     (comes_halt (c.in_err-value-in-Prefix.ensures.gives files left ts hold reads) c.from_residual-in_err-value-in-Prefix.ensures.1)
 
-pub rare-returns-in_err-prefixed-in-Prefix-clause-gives : goal.rare-returns-in_err-prefixed-in-Prefix-clause-gives
-rare-returns-in_err-prefixed-in-Prefix-clause-gives g t c = λ files left ts hold reads.
+pub rare-returns-in_err-prefix-in-Prefix-clause-gives : goal.rare-returns-in_err-prefix-in-Prefix-clause-gives
+rare-returns-in_err-prefix-in-Prefix-clause-gives g t c = λ files left ts hold reads.
     let value = (c.in_ok-value-in-Prefix.ensures.gives files left ts hold reads).comes in
     comes_as (ap (value_of (folder left)) (sym (opened reads c.args.node c.index.result.now (flat.Prefix c.in-Prefix.prefix c.in-Prefix.value c.in-Prefix.line) c.requires.here c.index.ensures c.in-Prefix.is)))
-    (comes_then value (comes_last (c.in_err-prefixed-in-Prefix.ensures.gives files value.holds) c.from_residual-in_err-prefixed-in-Prefix.ensures.1))
+    (comes_then value (comes_last (c.in_err-prefix-in-Prefix.ensures.gives files value.holds) c.from_residual-in_err-prefix-in-Prefix.ensures.1))
 
 pub rare-returns-in-Prefix-clause-gives : goal.rare-returns-in-Prefix-clause-gives
 rare-returns-in-Prefix-clause-gives g t c = λ files left ts hold reads.
     let value = (c.in_ok-value-in-Prefix.ensures.gives files left ts hold reads).comes in
     comes_given (given_as (ap (value_of (folder left)) (sym (opened reads c.args.node c.index.result.now (flat.Prefix c.in-Prefix.prefix c.in-Prefix.value c.in-Prefix.line) c.requires.here c.index.ensures c.in-Prefix.is)))
-    (given_then value (c.in_ok-prefixed-in-Prefix.ensures.gives files value.holds)))
+    (given_then value (c.in_ok-prefix-in-Prefix.ensures.gives files value.holds)))
 
 pub link-returns-in_err-method_at-in-Method-clause-gives : goal.link-returns-in_err-method_at-in-Method-clause-gives
 link-returns-in_err-method_at-in-Method-clause-gives g t c = λ files left ts hold reads.

@@ -40,8 +40,8 @@ decreases-dictionary g l = 8 * above above_entry l.entries.now + 3
 abbrev pub decreases-arguments : goal.decreases-arguments
 decreases-arguments g l = 8 * above above_argument l.arguments.now
 
-abbrev pub decreases-asked : goal.decreases-asked
-decreases-asked g l = 8 * max (suc l.first) (above above_link l.links.now) + 4
+abbrev pub decreases-ask_links : goal.decreases-ask_links
+decreases-ask_links g l = 8 * max (suc l.first) (above above_link l.links.now) + 4
 
 abbrev pub decreases-link : goal.decreases-link
 decreases-link g l = 8 * above_link l.link.now + 2
@@ -89,8 +89,8 @@ invariant-arguments-loop-argument g l =
           → Leads files (arguments_of (folder left) no_arguments (arguments (map (argument_at ts) l.fn.arguments))) (stand_of see heard l.fn.self.context) (arguments_of (folder left) (arguments_data l.evaluated) (arguments (map (argument_at ts) (drop l.argument-index l.arguments)))) (stand_of see heard l.self.context);
     }
 
-abbrev pub invariant-asked-loop-link : goal.invariant-asked-loop-link
-invariant-asked-loop-link g l =
+abbrev pub invariant-ask_links-loop-link : goal.invariant-ask_links-loop-link
+invariant-ask_links-loop-link g l =
     let see = g.T.Tree.seen in
     let heard = g.O.Outputs.seen in
     record {

@@ -6,14 +6,14 @@ use Rattle.interp.proofs.evaluator.Evaluator.definitions.Goals as goal
 pub returns-in_err-code-clause-gives : goal.returns-in_err-code-clause-gives
 returns-in_err-code-clause-gives g c = λ few files h. given_stop (c.in_err-code.ensures.gives files h) c.from_residual.ensures.1
 
-pub returns-in_err-ended-clause-gives : goal.returns-in_err-ended-clause-gives
-returns-in_err-ended-clause-gives g c = λ few files h.
+pub returns-in_err-end_rule-clause-gives : goal.returns-in_err-end_rule-clause-gives
+returns-in_err-end_rule-clause-gives g c = λ few files h.
     let opened = c.in_ok-code.ensures.gives files h in
-    let done = given_rule c.in_err-ended.ensures.ticks (c.root_statements-answer.ensures.gives few files opened.holds) in
-    given_then opened (given_stop (given_is (sym c.in_err-ended.ensures.same) done) c.from_residual-in_err-ended.ensures.1)
+    let done = given_rule c.in_err-end_rule.ensures.ticks (c.root_statements-answer.ensures.gives few files opened.holds) in
+    given_then opened (given_stop (given_is (sym c.in_err-end_rule.ensures.same) done) c.from_residual-in_err-end_rule.ensures.1)
 
 pub returns-clause-gives : goal.returns-clause-gives
 returns-clause-gives g c = λ few files h.
     let opened = c.in_ok-code.ensures.gives files h in
-    let done = given_is (sym c.in_ok-ended.ensures.same) (given_rule c.in_ok-ended.ensures.ticks (c.root_statements-answer.ensures.gives few files opened.holds)) in
+    let done = given_is (sym c.in_ok-end_rule.ensures.same) (given_rule c.in_ok-end_rule.ensures.ticks (c.root_statements-answer.ensures.gives few files opened.holds)) in
     given_then opened (given_then done (given_give done.holds refl))

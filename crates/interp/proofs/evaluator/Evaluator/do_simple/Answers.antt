@@ -23,7 +23,7 @@ returns-in_err-flow-clause-gives g c = λ files left table hold made.
     let numbers = c.statements_of-numbers.result.now in
     let led = c.loop-place.invariant.done files left table hold made in
     let here = walked_on left table c.args.code.now numbers _ c.loop-place.place c.statements_of-numbers.ensures c.loop-place-test.true led in
-    let e = comes_rule {view = λ (f : Flow). f} c.simple-answer.result (Err c.in_err-flow.field-0.0) (rw c.in_err-flow.was at c.ended_inside.ensures.ends)
+    let e = comes_rule {view = λ (f : Flow). f} c.simple-answer.result (Err c.in_err-flow.field-0.0) (rw c.in_err-flow.was at c.end_rule_inside.ensures.ends)
     (c.simple-answer.ensures.gives files left table led.holds (made_on led.continues.written.names made)) in
     comes_end here (comes_halt e c.from_residual.ensures.1)
 
@@ -32,7 +32,7 @@ returns-then-not-is_next-clause-gives g c = λ files left table hold made.
     let numbers = c.statements_of-numbers.result.now in
     let led = c.loop-place.invariant.done files left table hold made in
     let here = walked_on left table c.args.code.now numbers _ c.loop-place.place c.statements_of-numbers.ensures c.loop-place-test.true led in
-    let e = comes_rule {view = λ (f : Flow). f} c.simple-answer.result (Ok c.in_ok-flow.flow) (rw c.in_ok-flow.was at c.ended_inside.ensures.ends)
+    let e = comes_rule {view = λ (f : Flow). f} c.simple-answer.result (Ok c.in_ok-flow.flow) (rw c.in_ok-flow.was at c.end_rule_inside.ensures.ends)
     (c.simple-answer.ensures.gives files left table led.holds (made_on led.continues.written.names made)) in
     let l = walked_out (do_all (folder left) left.few (block_by table c.args.code.now (drop (c.loop-place.place + 1) (statements_of c.args.code.now c.args.block))))
     c.in_ok-flow.flow (sym c.is_next.ensures ∙ c.if-not-is_next.true) (leads_on here e.comes) in
@@ -47,7 +47,7 @@ loop-place-preserved g c = record {
       let numbers = c.statements_of-numbers.result.now in
       let led = c.loop-place.invariant.done files left table hold made in
       let here = walked_on left table c.args.code.now numbers _ c.loop-place.place c.statements_of-numbers.ensures c.loop-place-test.true led in
-      let e = comes_rule {view = λ (f : Flow). f} c.simple-answer.result (Ok c.in_ok-flow.flow) (rw c.in_ok-flow.was at c.ended_inside.ensures.ends)
+      let e = comes_rule {view = λ (f : Flow). f} c.simple-answer.result (Ok c.in_ok-flow.flow) (rw c.in_ok-flow.was at c.end_rule_inside.ensures.ends)
       (c.simple-answer.ensures.gives files left table led.holds (made_on led.continues.written.names made)) in
       walked_next c.in_ok-flow.flow (sym c.is_next.ensures ∙ c.if-not-is_next.false) (leads_on here e.comes);
 }

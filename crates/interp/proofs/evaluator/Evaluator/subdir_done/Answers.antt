@@ -13,7 +13,7 @@ returns-then-gives_disabler-clause-gives g c = λ files h.
 pub returns-in_err-fits-clause-gives : goal.returns-in_err-fits-clause-gives
 returns-in_err-fits-clause-gives g c = λ files h. given_none h c.from_residual.ensures.1
 
-pub returns-in_err-fitted-clause-gives : goal.returns-in_err-fitted-clause-gives
-returns-in_err-fitted-clause-gives g c = λ files h.
+pub returns-in_err-fit-clause-gives : goal.returns-in_err-fit-clause-gives
+returns-in_err-fit-clause-gives g c = λ files h.
     given_as (ap (λ b. done_by b c.args.line (arguments_data c.args.arguments.now)) (sym c.if-gives_disabler.false ∙ c.gives_disabler.ensures))
-    (given_stop (given_as (ap (fitted c.args.line) (c.in_ok-fits.ensures ∙ ap (λ r. checked r (arguments_data c.args.arguments.now)) c.row.ensures)) (c.in_err-fitted.ensures.gives files h)) c.from_residual-in_err-fitted.ensures.1)
+    (given_stop (given_as (ap (fitted c.args.line) (c.in_ok-fits.ensures ∙ ap (λ r. checked r (arguments_data c.args.arguments.now)) c.row.ensures)) (c.in_err-fit.ensures.gives files h)) c.from_residual-in_err-fit.ensures.1)

@@ -67,7 +67,7 @@ returns-in-Ok-clause-gives g c = λ files left table hold made.
     record { rested = walked_left here done.rested }
 
 pub returns-in-Err-clause-deep : goal.returns-in-Err-clause-deep
-returns-in-Err-clause-deep g c = ended_tours c.args.code.now c.ended.result c.ended.ensures.same
+returns-in-Err-clause-deep g c = ended_tours c.args.code.now c.end_rule.result c.end_rule.ensures.same
 
 pub returns-in-Err-clause-gives : goal.returns-in-Err-clause-gives
 returns-in-Err-clause-gives g c = λ files left table hold made.
@@ -76,7 +76,7 @@ returns-in-Err-clause-gives g c = λ files left table hold made.
     let led = c.loop-at.invariant.done files left table hold made in
     let here = leads_as (ap (rounds_of (round_by table c.args.code.now left head)) (round_is xs c.loop-at.at c.in_ok-round.field-0 c.in-Some.round c.in-Some.is c.in_ok-round.ensures)) led in
     let done = c.in-Err.ensures.gives files left table led.holds (made_on led.continues.written.names made) in
-    rested_ended c.ended.result c.ended.ensures.same (walked_stop c.in-Err.stop here (given_rule {view = λ (f : Flow). f} c.ended.ensures.ticks done.rested))
+    rested_ended c.end_rule.result c.end_rule.ensures.same (walked_stop c.in-Err.stop here (given_rule {view = λ (f : Flow). f} c.end_rule.ensures.ticks done.rested))
 
 pub returns-clause-gives : goal.returns-clause-gives
 returns-clause-gives g c = λ files left table hold made.

@@ -53,7 +53,7 @@ returns-in-Ok-None-clause-gives g c = λ files left table hold made.
     record { rested = walked_left here (done_none c.in-Ok-None.field-0-is done) }
 
 pub returns-in-Err-Stops-clause-deep : goal.returns-in-Err-Stops-clause-deep
-returns-in-Err-Stops-clause-deep g c = ended_begins c.args.code.now c.ended.result c.ended.ensures.same
+returns-in-Err-Stops-clause-deep g c = ended_begins c.args.code.now c.end_rule.result c.end_rule.ensures.same
 
 pub returns-in-Err-Stops-clause-gives : goal.returns-in-Err-Stops-clause-gives
 returns-in-Err-Stops-clause-gives g c = λ files left table hold made.
@@ -61,8 +61,8 @@ returns-in-Err-Stops-clause-gives g c = λ files left table hold made.
     let led = c.loop-place.invariant.done files left table hold made in
     let here = walked_on left table c.args.code.now numbers _ c.loop-place.place c.statements_of-numbers.ensures c.loop-place-test.true led in
     let done = c.in-Err-Stops.ensures.gives files left table led.holds (made_on led.continues.written.names made) in
-    rested_ended c.ended.result (rw c.in-Err-Stops.field-0-is at c.ended.ensures.same)
-    (walked_stop c.in-Err-Stops.stop here (given_rule {view = λ (f : Flow). f} (rw c.in-Err-Stops.field-0-is at c.ended.ensures.ticks) (done_stops c.in-Err-Stops.field-0-is done)))
+    rested_ended c.end_rule.result (rw c.in-Err-Stops.field-0-is at c.end_rule.ensures.same)
+    (walked_stop c.in-Err-Stops.stop here (given_rule {view = λ (f : Flow). f} (rw c.in-Err-Stops.field-0-is at c.end_rule.ensures.ticks) (done_stops c.in-Err-Stops.field-0-is done)))
 
 pub returns-in-Err-Enters-clause-gives : goal.returns-in-Err-Enters-clause-gives
 returns-in-Err-Enters-clause-gives g c = λ files left table hold made.

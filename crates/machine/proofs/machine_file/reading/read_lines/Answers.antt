@@ -17,7 +17,7 @@ returns-in-Err c =
     line_refused (lines c.args.text.now) c.loop-line.number c.in-Some.line.now
     (said_by c.loop-line.reading.0.entries c.loop-line.reading.1.0) c.in-Err.detail.bytes.items c.loop-line.invariant.said at
     (ap more_in (sym c.in-Err.is) ∙ c.in_ok-more.ensures
-    ∙ ap (after (said_by c.loop-line.reading.0.entries c.loop-line.reading.1.0) (c.loop-line.number + 1)) c.trimmed.ensures)
+    ∙ ap (after (said_by c.loop-line.reading.0.entries c.loop-line.reading.1.0) (c.loop-line.number + 1)) c.trim.ensures)
 
 pub loop-line-preserved : goal.loop-line-preserved
 loop-line-preserved c =
@@ -31,7 +31,7 @@ loop-line-preserved c =
       said = line_taken (lines c.args.text.now) c.loop-line.number c.in-Some.line.now
           (said_by c.loop-line.reading.0.entries c.loop-line.reading.1.0) (said_in c.in-Ok.more) c.loop-line.invariant.said at
           (ap more_in (sym c.in-Ok.is) ∙ c.in_ok-more.ensures
-          ∙ ap (after (said_by c.loop-line.reading.0.entries c.loop-line.reading.1.0) (c.loop-line.number + 1)) c.trimmed.ensures);
+          ∙ ap (after (said_by c.loop-line.reading.0.entries c.loop-line.reading.1.0) (c.loop-line.number + 1)) c.trim.ensures);
     }
 
 pub returns : goal.returns

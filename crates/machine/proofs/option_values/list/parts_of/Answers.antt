@@ -19,7 +19,7 @@ loop-part-preserved c =
     let turn = YieldsList-turn all c.loop-part.yielded _ c.loop-part.yielded_by _ _ c.in-Some.part c.in-Some.is c.next.ensures.steps in
     parts_more (slice_split (λ x. x == comma) c.args.text.now) c.loop-part.parts.items _ c.in_ok-from_str.field-0 c.in-Some.part.now _ _ _
     turn c.loop-part.invariant
-    (c.in_ok-from_str.ensures.ok ∙ c.trimmed.ensures) c.in_ok-push.ensures.items (length_push c.loop-part.yielded c.in-Some.part)
+    (c.in_ok-from_str.ensures.ok ∙ c.trim.ensures) c.in_ok-push.ensures.items (length_push c.loop-part.yielded c.in-Some.part)
 
 pub returns : goal.returns
 returns c =

@@ -25,10 +25,10 @@ returns c =
     let whole : cut_in c.loop-character.cutting ≡ cut_from begun (chars c.args.text.now) =
     sym (at_drop_all (cut_from (cut_in c.loop-character.cutting)) (chars c.args.text.now) _ (omega (arith, end.1)))
     ∙ c.loop-character.invariant in
-    let P : Cut → Type 0 = λ s. IfOk c.ended.result (λ words. option_map (λ w. strings_in w.items) words ≡ ended s) in
-    let value = subst P whole c.ended.ensures in
+    let P : Cut → Type 0 = λ s. IfOk c.end.result (λ words. option_map (λ w. strings_in w.items) words ≡ ended s) in
+    let value = subst P whole c.end.ensures in
     record {
       value = value;
-      written = λ given. both_ways (λ w. strings_in w.items) c.ended.result _ given _ value (cut_written (chars c.args.text.now) given)
+      written = λ given. both_ways (λ w. strings_in w.items) c.end.result _ given _ value (cut_written (chars c.args.text.now) given)
           (written_cut (chars c.args.text.now) given);
     }

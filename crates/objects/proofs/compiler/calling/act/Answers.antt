@@ -14,7 +14,7 @@ pub returns-in-FindLibrary : goal.returns-in-FindLibrary
 returns-in-FindLibrary g c = carries_as (ap (λ m. does m c.args.name.now (arguments_data c.args.arguments.now)) (sym c.in-FindLibrary.is)) c.find_library.ensures
 
 pub returns-in-Id : goal.returns-in-Id
-returns-in-Id g c = carries_as (ap (λ m. does m c.args.name.now (arguments_data c.args.arguments.now)) (sym c.in-Id.is)) c.keyed.ensures
+returns-in-Id g c = carries_as (ap (λ m. does m c.args.name.now (arguments_data c.args.arguments.now)) (sym c.in-Id.is)) c.read_key.ensures
 
 pub returns-in-Number : goal.returns-in-Number
 returns-in-Number g c = carries_as (ap (λ m. does m c.args.name.now (arguments_data c.args.arguments.now)) (sym c.in-Number.is)) c.number.ensures
@@ -23,4 +23,4 @@ pub returns-in-SupportedArguments : goal.returns-in-SupportedArguments
 returns-in-SupportedArguments g c = carries_as (ap (λ m. does m c.args.name.now (arguments_data c.args.arguments.now)) (sym c.in-SupportedArguments.is)) c.get_supported_arguments.ensures
 
 pub returns-in-Version : goal.returns-in-Version
-returns-in-Version g c = carries_as (ap (λ m. does m c.args.name.now (arguments_data c.args.arguments.now)) (sym c.in-Version.is)) c.keyed-in-Version.ensures
+returns-in-Version g c = carries_as (ap (λ m. does m c.args.name.now (arguments_data c.args.arguments.now)) (sym c.in-Version.is)) c.read_key-in-Version.ensures

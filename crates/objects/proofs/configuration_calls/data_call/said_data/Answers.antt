@@ -15,4 +15,4 @@ pub returns : goal.returns
 unfolding said_data
 returns g c =
     carries_passed {view = λ (x : Configuration). x} (data_given (argument 0 (arguments_data c.args.arguments.now))) c.in_ok-values.values
-    (c.in_ok-values.ensures ∙ ap data_given c.argument.ensures) c.passed.ensures
+    (c.in_ok-values.ensures ∙ ap data_given c.argument.ensures) c.pass.ensures

@@ -14,4 +14,4 @@ pub returns : goal.returns
 unfolding input_given
 returns g c =
     let said = c.in_ok-input.ensures ∙ ap (λ (h : HereData). input_named h.source_root h.folder (arguments_data c.args.arguments.now)) c.here.ensures in
-    carries_read (carries_passed {view = option_map string_bytes} _ c.in_ok-input.input said c.passed.ensures)
+    carries_read (carries_passed {view = option_map string_bytes} _ c.in_ok-input.input said c.pass.ensures)

@@ -9,4 +9,4 @@ returns-in_err-given g c = carries_none c.from_residual.ensures.1
 
 pub returns : goal.returns
 unfolding values_given
-returns g c = carries_read (carries_passed {view = given_view} _ c.in_ok-given.given c.in_ok-given.ensures c.passed.ensures)
+returns g c = carries_read (carries_passed {view = given_view} _ c.in_ok-given.given c.in_ok-given.ensures c.pass.ensures)

@@ -16,4 +16,4 @@ returns-in-Ok-clause-open g c = still_open c.requires.open c.in-Ok.ensures.name 
 pub returns-in-Err-clause-acts : goal.returns-in-Err-clause-acts
 returns-in-Err-clause-acts g c =
     let e = c.in-Err.ensures in
-    written_short c.args.values.now.entries c.args.template.now c.in-Err.stop c.stopped.result c.stopped.ensures e.events e.fault e.stays e.failures
+    written_short c.args.values.now.entries c.args.template.now c.in-Err.stop c.stop_for.result c.stop_for.ensures e.events e.fault e.stays e.failures

@@ -8,4 +8,4 @@ use Rattle.outputs.proofs.build_file.writing.write_made.Goals as goal
 
 pub returns : goal.returns
 returns g c =
-    writes_over (puts (edge_text (lent_view c.lent.result))) (puts (edge_text (edge_view c.args.edge.now))) (ap (λ e. puts (edge_text e)) c.lent.ensures) c.write_edge.ensures
+    writes_over (puts (edge_text (lent_view c.lend.result))) (puts (edge_text (edge_view c.args.edge.now))) (ap (λ e. puts (edge_text e)) c.lend.ensures) c.write_edge.ensures

@@ -1,11 +1,10 @@
-use Rattle.std.proofs.Common.{◌≡◌, ◌++◌, map, take}
+use Rattle.std.proofs.Common.{◌≡◌, ◌++◌, take}
 use Rattle.std.specs.Prelude.{flat_map}
 use Rattle.targets.specs.edge.Texts.{texts}
-use Rattle.targets.specs.Data.{ListsData}
 use Rattle.targets.specs.View.{lists_view}
 use Rattle.targets.specs.target_edges.Words.{texts_of}
 use Rattle.targets.proofs.target_edges.words.push_brought.Given as goal
 
 abbrev pub invariant-loop-lists : goal.invariant-loop-lists
 invariant-loop-lists l =
-    texts l.words.items ≡ texts l.fn.words.items ++ flat_map (λ (d : ListsData). texts_of l.what d) (map (λ d. lists_view d.value) (take l.lists-index l.target.dependencies.items))
+    texts l.words.items ≡ texts l.fn.words.items ++ flat_map (λ d. texts_of l.what (lists_view d.value)) (take l.lists-index l.target.dependencies.items)

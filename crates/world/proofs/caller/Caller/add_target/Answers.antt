@@ -9,4 +9,4 @@ returns-in_err-answer g c = carries_wanted c.from_residual.ensures.1 (front_as c
 
 pub returns : goal.returns
 unfolding add_target
-returns g c = carries_declared _ _ _ _ c.in_ok-answer.ensures.answer c.in_ok-answer.ensures.world c.in_ok-answer.ensures.names c.allowed.ensures
+returns g c = carries_declared _ _ _ _ c.in_ok-answer.ensures.answer c.in_ok-answer.ensures.world c.in_ok-answer.ensures.names c.allow.ensures

@@ -12,4 +12,4 @@ returns-in_err-answer g c = carries_none c.from_residual.ensures.1
 pub returns : goal.returns
 unfolding fit
 returns g c = carries_passed {view = λ (u : Unit {0}). u} (checked (row_data c.args.row.now) (arguments_data c.args.arguments.now)) c.in_ok-answer.answer
-    c.in_ok-answer.ensures c.passed.ensures
+    c.in_ok-answer.ensures c.pass.ensures

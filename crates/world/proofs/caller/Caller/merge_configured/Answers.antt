@@ -6,4 +6,4 @@ pub returns : goal.returns
 unfolding merge_configured
 returns g c =
     let done = c.merge_configured-answer.ensures in
-    carries_configured _ _ c.merge_configured-answer.result done.world done.frozen done.err done.names c.configured.ensures
+    carries_configured _ _ c.merge_configured-answer.result done.world done.frozen done.err done.names c.configure.ensures

@@ -6,4 +6,4 @@ pub returns : goal.returns
 unfolding set_configured
 returns g c =
     let done = c.set_configured-answer.ensures in
-    carries_configured _ _ c.set_configured-answer.result done.world done.frozen done.err done.names c.configured.ensures
+    carries_configured _ _ c.set_configured-answer.result done.world done.frozen done.err done.names c.configure.ensures

@@ -6,4 +6,4 @@ pub returns : goal.returns
 unfolding set_quoted
 returns g c =
     let done = c.set_quoted-answer.ensures in
-    carries_configured _ _ c.set_quoted-answer.result done.world done.frozen done.err done.names c.configured.ensures
+    carries_configured _ _ c.set_quoted-answer.result done.world done.frozen done.err done.names c.configure.ensures

@@ -1,8 +1,0 @@
-use Rattle.expressions.proofs.Evaluating.{given_none}
-use Rattle.interp.proofs.evaluator.Evaluator.combined.Goals as goal
-
-pub returns-in_err-answer-clause-gives : goal.returns-in_err-answer-clause-gives
-returns-in_err-answer-clause-gives g c = λ files h. given_none h c.from_residual.ensures.1
-
-pub returns-clause-gives : goal.returns-clause-gives
-returns-clause-gives g c = λ files h. c.answered.ensures.gives _ c.in_ok-answer.ensures files h

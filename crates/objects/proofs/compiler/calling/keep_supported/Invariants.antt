@@ -1,0 +1,13 @@
+use Rattle.std.proofs.Common.{map, drop}
+use Rattle.data.specs.Data.{no_items}
+use Rattle.data.specs.View.{data_of, items_of}
+use Rattle.world.specs.Answering.{Leads}
+use Rattle.world.specs.Caller.{state_of}
+use Rattle.objects.specs.CompilerMethods.{supported}
+use Rattle.objects.proofs.compiler.calling.keep_supported.Given as goal
+
+-- what was done, and what is left
+abbrev pub invariant-loop-value : goal.invariant-loop-value
+invariant-loop-value g l =
+    Leads (supported no_items (map (λ v. data_of v.now) l.values)) (state_of g.T.Tree.seen g.O.Outputs.seen l.fn.caller)
+    (supported (items_of l.taken.items) (map (λ v. data_of v.now) (drop l.value-index l.values))) (state_of g.T.Tree.seen g.O.Outputs.seen l.caller)

@@ -1,0 +1,32 @@
+use Rattle.std.proofs.Common.{ap, refl, ◌∙◌}
+use Rattle.data.specs.Data.{text}
+use Rattle.data.specs.Limits.{within}
+use Rattle.machine.specs.machine_file.Questions.{Key, answer_to}
+use Rattle.world.specs.Deed.{answered}
+use Rattle.world.proofs.Answering.{carries_as, carries_give, carries_none, carries_stop, carries_then, carries_value}
+use Rattle.objects.specs.Keys.{keyed, said_or}
+use Rattle.objects.proofs.keys.read_key.Goals as goal
+
+pub returns-in_err-ask_key : goal.returns-in_err-ask_key
+unfolding keyed
+returns-in_err-ask_key g c = carries_stop c.in_err-ask_key.ensures.deed c.from_residual.ensures.1
+
+pub returns-in_err-answer : goal.returns-in_err-answer
+unfolding keyed
+returns-in_err-answer g c = carries_then c.in_ok-ask_key.ensures.deed (carries_none c.from_residual-in_err-answer.ensures.1)
+
+pub returns-in_err-value : goal.returns-in_err-value
+unfolding keyed
+returns-in_err-value g c =
+    let topic = Key c.args.section.now c.args.key.now in
+    carries_then c.in_ok-ask_key.ensures.deed (carries_stop (carries_as (ap (λ t. answered (within (text t)))
+    (c.text_or-text.ensures ∙ ap (λ m. said_or c.args.default.now (answer_to m topic)) (c.machine.ensures ∙ c.in_ok-ask_key.ensures.machine)))
+    (carries_value _ _ c.in_ok-answer.ensures c.in_err-value.ensures)) c.from_residual-in_err-value.ensures.1)
+
+pub returns : goal.returns
+unfolding keyed
+returns g c =
+    let topic = Key c.args.section.now c.args.key.now in
+    carries_then c.in_ok-ask_key.ensures.deed (carries_then {x = c.in_ok-value.value} (carries_as (ap (λ t. answered (within (text t)))
+    (c.text_or-text.ensures ∙ ap (λ m. said_or c.args.default.now (answer_to m topic)) (c.machine.ensures ∙ c.in_ok-ask_key.ensures.machine)))
+    (carries_value _ _ c.in_ok-answer.ensures c.in_ok-value.ensures)) (carries_give refl))
