@@ -14,8 +14,7 @@ use Rattle.interp.specs.declared.frames.Frame.{Frame}
 use Rattle.interp.specs.declared.halt.Halt.{Halt}
 use Rattle.interp.specs.declared.halt.Halt.TheVariants as halts
 use Rattle.interp.specs.declared.halt.Inside.{Inside}
-use Rattle.interp.proofs.Stack.{leads_under, moves_given, moves_none, moves_then, stacked_on}
-use Rattle.expressions.proofs.Evaluating.{leads_further}
+use Rattle.interp.proofs.Stack.{leads_under, moves_given, moves_none, stacked_on}
 
 -- ---- how it begins
 
