@@ -39,7 +39,7 @@ fn make(alloc: Global, measure: &str, count: usize) -> Result<usize, Stop> {
 }
 
 // The value of an operation that is not refused.
-fn read_given<E: Drop>(answer: Result<Value, E>) -> Result<Value, Stop> {
+fn accept<E: Drop>(answer: Result<Value, E>) -> Result<Value, Stop> {
     match answer {
         Ok(value) => Ok(value),
         Err(_) => Err(Stop("an operation is refused")),
@@ -52,11 +52,11 @@ fn call(alloc: Global, receiver: &Value, name: &str, values: &[Value]) -> Result
         return Err(Stop("the name of a method is too long"));
     };
     let name = MethodName::new(name);
-    read_given(method(alloc, receiver, &name, values)?)
+    accept(method(alloc, receiver, &name, values)?)
 }
 
 fn text(alloc: Global, string: String) -> Result<Value, Stop> {
-    read_given(Value::of_string(alloc, string)?)
+    accept(Value::of_string(alloc, string)?)
 }
 
 // How many items a list has, entries a dictionary or bytes a text.
@@ -72,7 +72,7 @@ fn size(value: &Value) -> usize {
 fn append(alloc: Global, count: usize) -> Result<usize, Stop> {
     let mut list = Value::of_list(alloc, List::new(alloc))?;
     for _ in 0..count {
-        list = read_given(binary(alloc, Binary::Add, list, Value::Integer(7))?)?;
+        list = accept(binary(alloc, Binary::Add, list, Value::Integer(7))?)?;
     }
     Ok(size(&list))
 }
@@ -81,7 +81,7 @@ fn characters(alloc: Global, count: usize) -> Result<usize, Stop> {
     let mut grown = text(alloc, String::new(alloc))?;
     let character = text(alloc, String::from_str(alloc, "a")?)?;
     for _ in 0..count {
-        grown = read_given(binary(alloc, Binary::Add, grown, character.clone()?)?)?;
+        grown = accept(binary(alloc, Binary::Add, grown, character.clone()?)?)?;
     }
     Ok(size(&grown))
 }
@@ -91,7 +91,7 @@ fn double(alloc: Global, bytes: usize) -> Result<usize, Stop> {
     for _ in 0..24 {
         if size(&grown) < bytes {
             let same = grown.clone()?;
-            grown = read_given(binary(alloc, Binary::Add, grown, same)?)?;
+            grown = accept(binary(alloc, Binary::Add, grown, same)?)?;
         }
     }
     Ok(size(&grown))
@@ -102,7 +102,7 @@ fn key(alloc: Global, number: usize) -> Result<Value, Stop> {
 }
 
 fn empty_table(alloc: Global) -> Result<Value, Stop> {
-    read_given(dictionary(alloc, Vec::new(alloc))?)
+    accept(dictionary(alloc, Vec::new(alloc))?)
 }
 
 // A dictionary with so many entries put in one by one.
@@ -110,8 +110,8 @@ fn put_each(alloc: Global, table: Value, count: usize) -> Result<Value, Stop> {
     let mut table = table;
     for i in 0..count {
         let pair = (key(alloc, i)?, Value::Integer(7));
-        let entry = read_given(dictionary(alloc, vec![in alloc; pair]?)?)?;
-        table = read_given(binary(alloc, Binary::Add, table, entry)?)?;
+        let entry = accept(dictionary(alloc, vec![in alloc; pair]?)?)?;
+        table = accept(binary(alloc, Binary::Add, table, entry)?)?;
     }
     Ok(table)
 }
@@ -128,7 +128,7 @@ fn replace(alloc: Global, count: usize) -> Result<usize, Stop> {
 fn lookups(alloc: Global, count: usize) -> Result<usize, Stop> {
     let table = put_each(alloc, empty_table(alloc)?, count)?;
     for i in 0..count {
-        let _value = read_given(index(alloc, &table, &key(alloc, i)?)?)?;
+        let _value = accept(index(alloc, &table, &key(alloc, i)?)?)?;
     }
     Ok(size(&table))
 }
