@@ -23,7 +23,7 @@ class Build:
         self.commands: set[subprocess.Popen] = set()
         self.failed: list[str] = []
         self.start = time.monotonic()
-        # Of the checks that have ended: the seconds of one process where that was measured, and here.
+        # Of the checks that have ended: the seconds where that was measured, and here.
         self.measured, self.taken = 0.0, 0.0
 
     @property
@@ -45,7 +45,7 @@ class Build:
         """Proves a crate, and makes its library or the program."""
         crate = check.crate
         crate.stamp.unlink(missing_ok=True)
-        steps = [self.kit.build(self.crates, crate, check.processes), *([self.kit.link()] if crate.name == PROGRAM else [])]
+        steps = [self.kit.build(self.crates, crate), *([self.kit.link()] if crate.name == PROGRAM else [])]
         with open(crate.log, "wb") as log:
             for words in steps:
                 with subprocess.Popen(words, cwd=crate.folder, stdin=subprocess.DEVNULL, stdout=log, stderr=subprocess.STDOUT) as command:
@@ -60,7 +60,7 @@ class Build:
         """Keeps what came of a check, and says how much is done."""
         now, name = time.monotonic(), check.crate.name
         self.measured += check.crate.work
-        self.taken += (now - check.begin) * check.speed
+        self.taken += now - check.begin
         if not is_proved:
             self.failed.append(name)
             return

@@ -22,7 +22,7 @@ FIRST_SHARE = 0.6
 @dataclasses.dataclass(eq=False)
 class Crate:
     """A crate of the program: the libraries that crates.txt lists for it, the crates below it, a digest of its files, and what its check
-    is guessed to take: seconds of one process, where that was measured, and MiB at its end."""
+    is guessed to take: seconds, where that was measured, and MiB at its end."""
     name: str
     listed: list[str]
     below: set[str]

@@ -20,13 +20,13 @@ class Kit:
             words += ["--extern", f"{name}={crates[name].made if name in crates else self.folder / 'rlibs' / f'{name}.rlib'}"]
         return words
 
-    def build(self, crates: dict[str, Crate], crate: Crate, processes: int) -> list[str]:
+    def build(self, crates: dict[str, Crate], crate: Crate) -> list[str]:
         """The command that proves a crate and, where it is proved, writes its statements, or the code of the program."""
         root = "src/main.rt" if crate.name == PROGRAM else "src/lib.rt"
         words = [f"{self.folder}/bin/rattle", "build", "--crate-name", crate.name, root, *self.libraries(crates, crate)]
         words += ["--antt-project", f"{self.folder}/rattle/logic/antt-project.json", "--logic-built", f"{self.folder}/logic_built"]
         # No crate has C code.
-        words += ["--links", f"{crate.name}=", "--jobs", f"{processes}"]
+        words += ["--links", f"{crate.name}=", "--jobs", "1"]
         if crate.name == PROGRAM:
             return [*words, "--toolchain", f"{self.folder}/toolchain", "--backend", "llvm", "-o", f"{OUT}/{PROGRAM}.o"]
         return [*words, "--statements", "-o", f"{crate.made}"]

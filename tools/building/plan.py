@@ -9,28 +9,18 @@ import random
 from tools.building.crates import Crate
 
 TRIES = 300
-# A check that nothing else can be proved beside has two processes, which share what was loaded before. Each further one takes more work
-# for less time, and so does a second one where others are at work.
-ALONE = 2
-SPEEDS = {1: 1.0, ALONE: 1.4}
 
 
 @dataclasses.dataclass
 class Check:
-    """A check at work: its crate, when it began, how long it takes, about, and by how many processes."""
+    """A check at work: its crate, when it began, and how long it takes, about. It has one process: by two it would take more work."""
     crate: Crate
     begin: float
     length: float
-    processes: int = 1
 
     @property
     def end(self) -> float:
         return self.begin + self.length
-
-    @property
-    def speed(self) -> float:
-        """How many times as fast as one process it goes."""
-        return SPEEDS[self.processes]
 
     def bytes_at(self, time: float) -> float:
         return self.crate.bytes_at((time - self.begin) / self.length)
@@ -51,17 +41,13 @@ class Plan:
         taken = (sum(it.bytes_at(time) for it, end in zip(checks, ends) if end >= time) for time in ends)
         return not at_work or max(taken) <= self.room
 
-    def check_of(self, crate: Crate, left: list[Crate], now: float, pace: float) -> Check:
-        """The check of a crate that begins now, where the others are left, by seconds here for one of those that were measured."""
-        processes = min(ALONE, self.jobs) if all(crate.name in it.below for it in left) else 1
-        return Check(crate, now, crate.work * pace / SPEEDS[processes], processes)
-
     def next_check(self, order: list[Crate], at_work: list[Check], now: float, pace: float) -> Check | None:
-        """The check that begins now, if any: of the first crate, where all below it is proved and a processor and memory are free."""
-        if not order or sum(it.processes for it in at_work) >= self.jobs:
+        """The check that begins now, if any: of the first crate, where all below it is proved and a processor and memory are free. The
+        pace is the seconds here for one of those that were measured."""
+        if not order or len(at_work) >= self.jobs:
             return None
         waited_for = {it.name for it in order[1:]} | {it.crate.name for it in at_work}
-        check = self.check_of(order[0], [*order[1:], *(it.crate for it in at_work)], now, pace)
+        check = Check(order[0], now, order[0].work * pace)
         return check if waited_for.isdisjoint(order[0].below) and self.fits(check, at_work) else None
 
     def end_of(self, order: list[Crate], at_work: list[Check], now: float, pace: float) -> float:
