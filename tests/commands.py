@@ -75,14 +75,30 @@ def taken(name: str) -> str:
     return text
 
 
+# The program's tests use `devices`, and the program does not.
+CRATES = """\
+# NAME: DEP
+low: std
+
+# Tests: devices.
+devices: low
+
+# Run.
+hawkottoman: low devices
+
+# Tests: others.
+low_tests: low devices
+"""
+
+
 def make_copy() -> None:
     os.makedirs(f"{COPY}/docs")
     shutil.copy(os.path.join(CHECKOUT, "meson"), COPY)
     shutil.copy(os.path.join(CHECKOUT, "docs/hawkottoman-meson.1"), f"{COPY}/docs")
     shutil.copytree(os.path.join(CHECKOUT, "tools"), f"{COPY}/tools", ignore=shutil.ignore_patterns("__pycache__", "port"))
-    for crate in ("low", "hawkottoman", "low_tests"):
+    for crate in ("low", "devices", "hawkottoman", "low_tests"):
         put(f"checkout/crates/{crate}/src/lib.rt", "")
-    put("checkout/crates.txt", "# NAME: DEP\nlow: std\nhawkottoman: low\nlow_tests: low\n")
+    put("checkout/crates.txt", CRATES)
     put("program", PROGRAM, 0o755)
     put("tools/ninja", NINJA, 0o755)
     for name, text in (("rattle", RATTLE), ("rattle-link", LINK), ("rt", RT)):
@@ -132,8 +148,9 @@ def test_building() -> None:
     check("meson setup: says where it is", "1 of 2 crates proved" in errors and "out/build-" in errors, errors)
     check("meson setup: builds once", built("is built", []) == "")
     touch("crates/low_tests/src/lib.rt", 5)
-    built("a changed test builds nothing", [])
-    put("checkout/crates.txt", "# NAME: DEP\nlow: std\nhawkottoman: low\nlow_tests: low\nmore_tests: low\n")
+    touch("crates/devices/src/lib.rt", 5)
+    built("a changed test, or what only tests of the program use, builds nothing", [])
+    put("checkout/crates.txt", CRATES + "more_tests: low\n")
     built("a further test crate builds nothing", [])
     put("checkout/crates.txt", "low: std\nmiddle:\nhawkottoman: low middle\n")
     put("checkout/crates/middle/src/lib.rt", "")

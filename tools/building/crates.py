@@ -11,6 +11,8 @@ LIBRARIES = OUT / "libraries"
 MEASURED = pathlib.Path(__file__).resolve().with_name("measured.txt")
 CODE, DEFINITIONS = ".rt", ".antt"
 SOURCES = ("src", "specs", "proofs")
+# How the heading of a group in crates.txt begins of which only tests and measures make use.
+TESTS = "# Tests"
 MIB = 1 << 20
 # What a check takes that nobody has measured, about: seconds and MiB of any, and of each line of code.
 SECONDS, SECONDS_A_LINE = 60, 0.13
@@ -78,15 +80,23 @@ def crate_of(name: str, listed: dict[str, list[str]], measured: dict[str, tuple[
     return Crate(name, listed[name], crates_below(name, listed), digest.hexdigest(), work, size)
 
 
-def rows_of(path: pathlib.Path) -> list[str]:
+def rows_of(text: str) -> list[str]:
     """The lines of a table that are no comments."""
-    return [line for line in path.read_text().splitlines() if line.strip() and not line.startswith("#")]
+    return [line for line in text.splitlines() if line.strip() and not line.startswith("#")]
+
+
+def crates_listed() -> dict[str, list[str]]:
+    """The libraries that crates.txt lists for each crate, without what only tests make use of: its groups are set apart by empty lines."""
+    groups = (CHECKOUT / "crates.txt").read_text().split("\n\n")
+    uses_of = [{name: uses.split() for name, _, uses in (row.partition(":") for row in rows_of(it))} for it in groups]
+    of_tests = {name for group, uses in zip(groups, uses_of) if group.startswith(TESTS) for name in uses}
+    return {name: [it for it in uses if it not in of_tests] for group in uses_of for name, uses in group.items() if name not in of_tests}
 
 
 def crates_of_program() -> dict[str, Crate]:
     """The program's crate and those that it stands on, by their names, as crates.txt lists them."""
-    listed = {name: uses.split() for name, _, uses in (row.partition(":") for row in rows_of(CHECKOUT / "crates.txt"))}
-    measured = {name: (float(work), float(size)) for name, work, size in map(str.split, rows_of(MEASURED))}
+    listed = crates_listed()
+    measured = {name: (float(work), float(size)) for name, work, size in map(str.split, rows_of(MEASURED.read_text()))}
     needed = {PROGRAM, *crates_below(PROGRAM, listed)}
     return {name: crate_of(name, listed, measured) for name in listed if name in needed}
 

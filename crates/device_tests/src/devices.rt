@@ -1,12 +1,12 @@
 //! Devices, in memory and on a disk: what they answer, and what they are told.
 ghost use Rattle.ports.specs.Endings.{HasRoom};
 ghost use Rattle.std.specs.Prelude.{◌≡◌, ◌+◌, ◌<◌, ◌≤◌, IfOk};
-ghost use Rattle.ports.specs.MemTree.{mem_tree_seen};
+ghost use Rattle.memory_devices.specs.MemTree.{mem_tree_seen};
 
 use basics::text_lists::strings;
+use memory_devices::{Event, MemOutputs, MemTree, OutputCall, TreeCall};
 use ports::{
-    DeviceFault, DiskOutputs, DiskTree, Event, MemOutputs, MemTree, OutputCall, OutputPlace,
-    Outputs, Tree, TreeCall, fault_all, log_all, put_all,
+    DeviceFault, DiskOutputs, DiskTree, OutputPlace, Outputs, Tree, fault_all, log_all, put_all,
 };
 use std::alloc::{AllocError, Global};
 use std::test::Fail;

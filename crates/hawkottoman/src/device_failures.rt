@@ -4,8 +4,9 @@ ghost use Rattle.std.specs.Prelude.{◌<◌};
 use crate::expected::{Expected, outputs};
 use crate::given::{EMPTY, Given, SMALLEST, SMALLEST_BUILD_FILE, run_over, tree_of};
 use basics::text_lists::strings;
+use memory_devices::{MemOutputs, OutputCall, TreeCall};
 use outputs::build_file::Status;
-use ports::{MemOutputs, OutputCall, Outputs, Tree, TreeCall};
+use ports::{Outputs, Tree};
 use std::alloc::{AllocError, Global};
 use std::test::Fail;
 

@@ -1,9 +1,9 @@
 //! What a run is to come to.
 ghost use Rattle.std.specs.Prelude.{◌≡◌, IfOk};
-ghost use Rattle.ports.specs.MemOutputs.{mem_outputs_seen};
+ghost use Rattle.memory_devices.specs.MemOutputs.{mem_outputs_seen};
 
+use memory_devices::{Event, MemOutputs};
 use outputs::build_file::Status;
-use ports::{Event, MemOutputs};
 use std::alloc::{AllocError, Global};
 
 /// The events of a run that meets no failure of a device.

@@ -1,12 +1,13 @@
 //! The projects that are run, and their outputs.
 ghost use Rattle.ports.specs.Endings.{HasRoom};
 ghost use Rattle.std.specs.Prelude.{◌≡◌, IfOk};
-ghost use Rattle.ports.specs.MemTree.{mem_tree_seen};
+ghost use Rattle.memory_devices.specs.MemTree.{mem_tree_seen};
 
 use crate::expected::Expected;
 use crate::running::setup;
+use memory_devices::MemTree;
 use outputs::build_file::Status;
-use ports::{MemTree, Outputs, Tree};
+use ports::{Outputs, Tree};
 use std::alloc::{AllocError, Global};
 use world::Settings;
 

@@ -1,5 +1,4 @@
-pub mod Files
 pub mod Going
-pub mod Recorded
+pub mod OpenNames
 pub mod Sending
 pub mod Untold

@@ -7,8 +7,8 @@ use Rattle.std.specs.List.{flat_map}
 use Rattle.std.proofs.lemmas.Grind.{flat_map-append}
 use Rattle.std.proofs.lemmas.Bool.{false≢true}
 use Rattle.ports.specs.declared.fault.DeviceFault.{DeviceFault}
-use Rattle.ports.specs.declared.event.Event.TheVariants.{Open, Byte, Close, Log, Fault}
-use Rattle.ports.specs.Outputs.{OutputState, Step, Opens, Puts, Closes, Logs, Faults, name_or_empty, told, name_after, opening, Takes}
+use Rattle.ports.specs.Outputs.{Event, Open, Byte, Close, Log, Fault, OutputState, Step, Opens, Puts, Closes, Logs, Faults}
+use Rattle.ports.specs.Outputs.{name_or_empty, told, name_after, opening, Takes}
 use Rattle.ports.specs.Outputs.{Sends, all, part, IsOpen, Took, Makes, Writes}
 use Rattle.ports.specs.Endings.{Ending, Whole, Failed, Short, ended, is_whole, failures_after}
 

@@ -3,7 +3,7 @@ use Rattle.std.proofs.Common.{◌≡◌, ℕ, false, List, [], Some, None, sym, 
 use Rattle.ports.specs.Endings.{Ending, failures_after}
 use Rattle.ports.specs.Outputs.{OutputState, name_after, opening, closing, puts, logs, faults, Took}
 use Rattle.ports.proofs.Sending.{takes_untold}
-use Rattle.ports.proofs.Recorded.{name_after-puts, name_after-logs, name_after-faults}
+use Rattle.ports.proofs.OpenNames.{name_after-puts, name_after-logs, name_after-faults}
 
 pub untold_opens : {old new : OutputState} {e : Ending} (name : List ℕ) → old.tells ≡ false → new.open_name ≡ Some name
     → new.failures ≡ failures_after old.failures e → Took old (opening name) e new

@@ -3,12 +3,11 @@
 -- say.
 pub mod Closed
 use Rattle.std.specs.Prelude.{ℕ, Bool, false, List, [], Option, option_map, string_bytes}
-use Rattle.ports.specs.Outputs.{OutputState}
+use Rattle.ports.specs.Outputs.{Event, OutputState}
 use Rattle.ports.specs.declared.disk_file.DiskOutput.{DiskOutput}
-use Rattle.ports.specs.declared.event.Event.{Event}
 
 -- what a disk took
-pub taken_by_disk : List (Event (List ℕ))
+pub taken_by_disk : List Event
 taken_by_disk = []
 
 -- whether that is all that its calls say they took

@@ -1,11 +1,7 @@
 pub mod DiskOutputs
 pub mod DiskTree
 pub mod Endings
-pub mod MemOutputs
-pub mod MemTree
 pub mod NoOutputs
 pub mod Outputs
-pub mod Plan
 pub mod Reading
-pub mod Slots
 pub mod Tree

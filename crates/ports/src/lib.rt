@@ -1,4 +1,4 @@
-//! What a run is lent: a tree of files to read and outputs to write, on a disk or in memory.
+//! What a run is lent: a tree of files to read and outputs to write, on a disk.
 //!
 //! A device is a value of a type that is a [`Tree`] or [`Outputs`]. The calls of a device have one error, [`DeviceFault`], and each
 //! device counts its own: [`Tree::failures`] and [`Outputs::failures`]. So a caller, and a theorem about it, can tell whether a device
@@ -7,11 +7,11 @@
 //! Contracts see a device as plain data. A tree is seen as its files, the count of its failures and whether it is *steady*: while it
 //! is, each call answers from the files and leaves them as they are. Outputs are seen as the list of their *events*, the name of the
 //! open output, the count of their failures and whether they *tell*: while they do, each call adds to the list what its answer says.
-//! [`MemTree`] is always steady and [`MemOutputs`] always tell. Of a disk no program knows either, so for [`DiskTree`] and [`DiskOutputs`]
-//! both are closed: nothing states them, and nothing denies them. What is proved of the bytes holds of a disk of which the user knows that
-//! nobody writes the files meanwhile, and that it takes what it says it took.
+//! Devices in memory, which tests are lent, are always steady and always tell. Of a disk no program knows either, so for [`DiskTree`] and
+//! [`DiskOutputs`] both are closed: nothing states them, and nothing denies them. What is proved of the bytes holds of a disk of which the
+//! user knows that nobody writes the files meanwhile, and that it takes what it says it took.
 //!
-//! An [`Event`] is one byte of an output, of the log or of a fault's line, or that an output was begun or ended. Outputs, log and
+//! An *event* is one byte of an output, of the log or of a fault's line, or that an output was begun or ended. Outputs, log and
 //! fault lines share one list, so it has their order. What a call writes is stated as a list of *steps*, which are events without the
 //! output's name: the run of a function is the runs of its calls, one behind the other, whatever is open. The steps become events by
 //! the name that is open before them.
@@ -45,33 +45,22 @@
 //! **Nothing below the root is trusted.** What stands beside an output is taken away and the file made new, so that no link there is
 //! followed; a folder on the way that is a link is refused. What changes the folders while the program runs is not kept out: the library
 //! has no calls that go from folder to folder.
-//!
-//! **A device in memory states its plan, not its moment.** `with_plan` and `only` state what is planned. Which call then fails is stated
-//! on private functions and shown by tests: the traits' clauses let any call fail, and a caller has to reckon with that.
 #![tactic(auto)]
 
 mod disk_file;
 mod disk_folder;
 mod disk_outputs;
 mod disk_tree;
-mod event;
 mod fault;
-mod memory_outputs;
-mod memory_tree;
 mod no_outputs;
 mod outputs;
-mod plan;
 mod send;
 mod tree;
 
 pub use disk_outputs::{DiskOutputs, OutputPlace};
 pub use disk_tree::DiskTree;
-pub use event::Event;
 pub use fault::DeviceFault;
-pub use memory_outputs::MemOutputs;
-pub use memory_tree::MemTree;
 pub use no_outputs::NoOutputs;
 pub use outputs::Outputs;
-pub use plan::{OutputCall, TreeCall};
 pub use send::{fault_all, log_all, put_all};
 pub use tree::Tree;

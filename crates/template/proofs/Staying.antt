@@ -2,7 +2,7 @@
 use Rattle.std.proofs.Common.{◌≡◌, ℕ, zero, suc, Bool, true, false, ◌==◌, List, [], ◌∷◌, ◌++◌, Option, Some, None, is_some, refl, ap, ◌∙◌}
 use Rattle.std.specs.Prelude.{◌+◌, ◌/◌, ◌%◌, ◌&&◌, codes, drop, take, nat_lt, replicate, decimal, if◌then◌else◌}
 use Rattle.ports.specs.Outputs.{Step, name_after, puts, logs}
-use Rattle.ports.proofs.Recorded.{name_after-puts, name_after-logs}
+use Rattle.ports.proofs.OpenNames.{name_after-puts, name_after-logs}
 use Rattle.ports.proofs.Sending.{name_after-append}
 use Rattle.template.specs.Config.{Content, Flag, Number, Bytes, Entries, printed, value_of}
 use Rattle.template.specs.Header.{entry_lines, header_steps}

@@ -1,15 +1,13 @@
 -- What becomes of the outputs of `configure_file`.
 use Rattle.std.specs.Prelude.{◌≡◌, ℕ, true, List, [], ◌∷◌, Option}
 use Rattle.targets.specs.edge.Texts.{Path}
-use Rattle.ports.specs.Outputs.{Step, told}
-use Rattle.ports.specs.declared.event.Event.{Event}
-use Rattle.ports.specs.declared.event.Event.TheVariants.{Open, Byte, Close, Log, Fault}
+use Rattle.ports.specs.Outputs.{Event, Open, Byte, Close, Log, Fault, Step, told}
 use Rattle.project.specs.Laws.{all_held}
 use Rattle.world.specs.Run.{Run, ran, Done, Faulted}
 use Rattle.world.specs.Trace.{steps_of}
 
 -- the outputs whose `Close` stands among these events
-abbrev pub closed_in : List (Event (List ℕ)) → List Path
+abbrev pub closed_in : List Event → List Path
 closed_in [] = []
 closed_in (Close path ∷ events) = path ∷ closed_in events
 closed_in (Open path ∷ events) = closed_in events

@@ -1,0 +1,4 @@
+pub mod MemOutputs
+pub mod MemTree
+pub mod Plan
+pub mod Slots
