@@ -147,7 +147,7 @@ impl<'a> Argument<'a> {
 }
 
 /// What a literal is.
-#[derive(Clone, Copy, PartialEq, Eq)]
+#[derive(Clone, Copy)]
 pub enum Literal {
     True,
     False,
@@ -164,7 +164,7 @@ pub enum Literal {
 }
 
 /// What stands between two values.
-#[derive(Clone, Copy, PartialEq, Eq)]
+#[derive(Clone, Copy)]
 pub enum Operator {
     Or,
     And,
@@ -195,7 +195,7 @@ pub struct Operand<'a> {
 }
 
 /// What stands before a value.
-#[derive(Clone, Copy, PartialEq, Eq)]
+#[derive(Clone, Copy)]
 pub enum Prefix {
     Not,
     /// `-`

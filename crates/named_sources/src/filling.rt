@@ -83,7 +83,7 @@ fn fill_parts(
 fn has_mark(text: &str) -> bool
     ensures { result ≡ has 64 text.now }
 {
-    text.as_bytes().iter().any(|byte| *byte == b'@')
+    text.as_bytes().contains(&b'@')
 }
 
 /// The text with the values of its placeholders, leftmost first and not scanned again; or none where one of them stands for nothing

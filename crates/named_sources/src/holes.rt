@@ -149,33 +149,27 @@ fn private_folder(alloc: Global, outputs: &[String]) -> Result<Meaning<'_>, Allo
 fn place_name<'p>(alloc: Global, place: &Place<'p>, name: &str) -> Result<Meaning<'p>, AllocError>
     ensures { IfOk result (λ m. meaning_view m ≡ place_name (place_view place.now) name.now) }
 {
-    if name == "OUTDIR" {
-        Ok(Meaning::Lent(build_folder(place.folder)))
-    } else if name == "SOURCE_ROOT" {
-        Ok(Meaning::Made(source_root(alloc, place.depth)?))
-    } else if name == "BUILD_ROOT" {
-        Ok(Meaning::Lent("."))
-    } else if name == "CURRENT_SOURCE_DIR" {
-        let folder = source_folder(alloc, place.depth, place.folder)?;
-        Ok(Meaning::Made(folder))
-    } else if name == "PRIVATE_DIR" {
-        private_folder(alloc, place.outputs)
-    } else if name == "DEPFILE" {
-        Ok(means_if(place.depfile))
-    } else {
-        Ok(numbered_name(place, name))
+    match name {
+        "OUTDIR" => Ok(Meaning::Lent(build_folder(place.folder))),
+        "SOURCE_ROOT" => Ok(Meaning::Made(source_root(alloc, place.depth)?)),
+        "BUILD_ROOT" => Ok(Meaning::Lent(".")),
+        "CURRENT_SOURCE_DIR" => {
+            let folder = source_folder(alloc, place.depth, place.folder)?;
+            Ok(Meaning::Made(folder))
+        }
+        "PRIVATE_DIR" => private_folder(alloc, place.outputs),
+        "DEPFILE" => Ok(means_if(place.depfile)),
+        _ => Ok(numbered_name(place, name)),
     }
 }
 
 fn file_name<'p>(alloc: Global, place: &Place<'p>, name: &str) -> Result<Meaning<'p>, AllocError>
     ensures { IfOk result (λ m. meaning_view m ≡ file_name (place_view place.now) name.now) }
 {
-    if name == "INPUT" {
-        Ok(means_if(only_of(place.inputs)))
-    } else if name == "OUTPUT" {
-        Ok(means_if(only_of(place.outputs)))
-    } else {
-        place_name(alloc, place, name)
+    match name {
+        "INPUT" => Ok(means_if(only_of(place.inputs))),
+        "OUTPUT" => Ok(means_if(only_of(place.outputs))),
+        _ => place_name(alloc, place, name),
     }
 }
 
@@ -206,14 +200,10 @@ pub fn meaning_of<'p>(
 ) -> Result<Meaning<'p>, AllocError>
     ensures { IfOk result (λ m. meaning_view m ≡ meaning scope (place_view place.now) name.now) }
 {
-    if name == "PLAINNAME" {
-        Ok(plain_name_of(place.inputs))
-    } else if name == "BASENAME" {
-        base_name_of(alloc, place.inputs)
-    } else {
-        match scope {
-            Scope::Command => file_name(alloc, place, name),
-            Scope::FileName => Ok(Meaning::Stays),
-        }
+    match (name, scope) {
+        ("PLAINNAME", _) => Ok(plain_name_of(place.inputs)),
+        ("BASENAME", _) => base_name_of(alloc, place.inputs),
+        (_, Scope::Command) => file_name(alloc, place, name),
+        (_, Scope::FileName) => Ok(Meaning::Stays),
     }
 }

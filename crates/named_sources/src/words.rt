@@ -47,11 +47,9 @@ pub fn push_words(
     ensures { IfOk result (λ done. (if done then Some (texts words.new.items) else None)
         ≡ option_map (λ ws. texts words.old.items ++ ws) (words_of (place_view place.now) text.now)) }
 {
-    if text == "@INPUT@" {
-        push_some(words, place.inputs)
-    } else if text == "@OUTPUT@" {
-        push_some(words, place.outputs)
-    } else {
-        push_word(words, fill(alloc, Scope::Command, place, text)?)
+    match text {
+        "@INPUT@" => push_some(words, place.inputs),
+        "@OUTPUT@" => push_some(words, place.outputs),
+        _ => push_word(words, fill(alloc, Scope::Command, place, text)?),
     }
 }

@@ -25,18 +25,13 @@ pub struct BuildType {
 fn build_type(name: &str) -> Option<BuildType>
     ensures { option_map (type_in name.now) result ≡ type_among build_types name.now }
 {
-    let (debug, optimization) = if name == "plain" {
-        (false, "plain")
-    } else if name == "debug" {
-        (true, "0")
-    } else if name == "debugoptimized" {
-        (true, "2")
-    } else if name == "release" {
-        (false, "3")
-    } else if name == "minsize" {
-        (true, "s")
-    } else {
-        return None;
+    let (debug, optimization) = match name {
+        "plain" => (false, "plain"),
+        "debug" => (true, "0"),
+        "debugoptimized" => (true, "2"),
+        "release" => (false, "3"),
+        "minsize" => (true, "s"),
+        _ => return None,
     };
     Some(BuildType {
         debug,

@@ -25,12 +25,10 @@ pub enum Scope {
 pub fn scope_of(section: &str) -> Option<Scope>
     ensures { result ≡ scope_of section.now }
 {
-    if section == "built-in options" {
-        Some(Scope::BuiltIn)
-    } else if section == "project options" {
-        Some(Scope::OfProject)
-    } else {
-        None
+    match section {
+        "built-in options" => Some(Scope::BuiltIn),
+        "project options" => Some(Scope::OfProject),
+        _ => None,
     }
 }
 

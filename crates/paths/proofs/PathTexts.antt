@@ -1,15 +1,16 @@
 -- Texts behind a beginning, and the parts of paths.
 use Rattle.std.proofs.Common.{◌≡◌, ◌≢◌, ℕ, zero, suc, ◌==◌, ◌+◌, ◌<◌, ◌≤◌, Bool, true, false, cond, eqb, List, [], ◌∷◌, ◌++◌, map, reverse}
 use Rattle.std.proofs.Common.{length, take, drop, get_or, Option, Some, None, MatchOption, option_copied, codes, Bor, refl, sym, ap, ◌∙◌}
-use Rattle.std.proofs.Common.{append_assoc, arith}
+use Rattle.std.proofs.Common.{append_assoc, arith, bytes_eq, ◌||◌, if◌then◌else◌, ⊎_elim}
 use Rattle.std.specs.List.{starts_with, join_with_byte}
 use Rattle.std.specs.Str.Pattern.{FindsTextPrefix, StripsPrefix}
+use Rattle.std.proofs.lemmas.Bool.{cases_Bool}
 use Rattle.std.proofs.lemmas.Bool.Decides.{Decides-eqb}
-use Rattle.std.proofs.lemmas.List.{append_cancel_left, at_drop_more, map-append, take_more, reverse-reverse, length-reverse, length-map}
+use Rattle.std.proofs.lemmas.List.{append_cancel_left, at_drop_more, map-append, take_more, reverse-append, reverse-reverse, length-reverse, length-map}
 use Rattle.std.proofs.lemmas.List.{length-take}
 use Rattle.std.proofs.lemmas.List.Prefix.{front_rest}
-use Rattle.std.proofs.lemmas.Slice.Eq.{starts_is}
-use Rattle.paths.specs.Paths.{rest_after, and_then, follow_part, follow_parts, named}
+use Rattle.std.proofs.lemmas.Slice.Eq.{bytes_eq-Decides, starts_is}
+use Rattle.paths.specs.Paths.{rest_after, and_then, follow_part, follow_parts, named, without_last}
 
 cond_yes : {A : Type 0} (b : Bool) (x y : A) → b ≡ true → cond b x y ≡ x
 cond_yes true x y e = refl
@@ -45,6 +46,22 @@ behind_root root text rest (Some x) is h =
 
 pub past_root : (root text : List ℕ) (x : Bor (List ℕ)) (r : Option (Bor (List ℕ))) → Strips root text (Some x) → Strips (codes "/") x.now r → option_copied r ≡ rest_after (root ++ codes "/") text
 past_root root text x r s t = behind_root root text x.now r (s.1.1 ∙ ap (λ l. root ++ l) (sym s.2)) t
+
+-- a text that is no other
+differs : (text other : List ℕ) → text ≢ other → bytes_eq text other ≡ false
+differs text other h = ⊎_elim (λ e. absurd (h ((bytes_eq-Decides text other).0 e))) (λ e. e) (cases_Bool (bytes_eq text other))
+
+-- a part that is neither empty nor dots is pushed
+pub follow_plain : (old new : List (Bor (List ℕ))) (part : Bor (List ℕ)) → part.now ≢ [] → part.now ≢ codes "." → part.now ≢ codes ".." → new ≡ old ++ part ∷ []
+    → follow_part (reverse (map (λ p. p.now) old)) part.now ≡ Some (reverse (map (λ p. p.now) new))
+follow_plain old new part empty one two pushed =
+    let now : Bor (List ℕ) → List ℕ = λ p. p.now in
+    let folder = reverse (map now old) in
+    let on = Some (part.now ∷ folder) in
+    ap (λ b. if b || bytes_eq part.now (codes ".") then Some folder else (if bytes_eq part.now (codes "..") then without_last folder else on)) (differs _ _ empty)
+    ∙ ap (λ b. if b then Some folder else (if bytes_eq part.now (codes "..") then without_last folder else on)) (differs _ _ one)
+    ∙ ap (λ b. if b then without_last folder else on) (differs _ _ two)
+    ∙ sym (ap (λ l. Some (reverse l)) (ap (map now) pushed ∙ map-append now old (part ∷ [])) ∙ ap Some (reverse-append (map now old) (part.now ∷ [])))
 
 -- the part of this turn is followed
 follow_one : (folder : List (List ℕ)) (all : List (List ℕ)) (n : ℕ) (part : List ℕ) (whole : Option (List (List ℕ))) (to : Option (List (List ℕ)))

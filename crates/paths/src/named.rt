@@ -63,13 +63,13 @@ fn from_root(
 fn follow<'a>(folder: &mut Vec<&'a str>, part: &'a str) -> Result<bool, AllocError>
     ensures { IfOk result (λ inside. follow_part (folder_of folder.old) part.now ≡ (if inside then Some (folder_of folder.new) else None)) }
 {
-    if part == "" || part == "." {
-        Ok(true)
-    } else if part == ".." {
-        Ok(folder.pop().is_some())
-    } else {
-        folder.push(part)?;
-        Ok(true)
+    match part {
+        "" | "." => Ok(true),
+        ".." => Ok(folder.pop().is_some()),
+        _ => {
+            folder.push(part)?;
+            Ok(true)
+        }
     }
 }
 
@@ -124,7 +124,7 @@ fn clean_name(alloc: Global, text: &str) -> Result<Option<String>, AllocError>
 fn stays(part: &str) -> bool
     ensures { result ≡ not (bytes_eq part.now [] || (bytes_eq part.now (codes ".") || bytes_eq part.now (codes ".."))) }
 {
-    !(part == "" || (part == "." || part == ".."))
+    !matches!(part, "" | "." | "..")
 }
 
 // Whether all parts of a text stay, so that it is the path that it names.

@@ -8,7 +8,7 @@ use std::alloc::{AllocError, Global};
 fn has(text: &str, byte: u8) -> bool
     ensures { result ≡ has byte text.now }
 {
-    text.as_bytes().iter().any(|b| *b == byte)
+    text.as_bytes().contains(&byte)
 }
 
 /// Whether there is a `/` in the text.
@@ -22,7 +22,7 @@ pub fn has_slash(text: &str) -> bool
 pub fn is_file_name(name: &str) -> bool
     ensures { result ≡ is_file_name name.now }
 {
-    !(name == "" || has_slash(name) || name == "." || name == "..")
+    !matches!(name, "" | "." | "..") && !has_slash(name)
 }
 
 /// What stands behind the last `/`.

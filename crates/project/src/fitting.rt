@@ -71,7 +71,7 @@ fn names_fit(alloc: Global, target: &BuildTarget) -> Result<bool, AllocError>
 fn is_reserved(path: &str) -> bool
     ensures { result ≡ is_held path.now reserved }
 {
-    path == "all" || path == "build.ninja" || path == "meson-info/introspect.json"
+    matches!(path, "all" | "build.ninja" | "meson-info/introspect.json")
 }
 
 fn is_made(taken: &SipSet<String>, path: &str) -> bool

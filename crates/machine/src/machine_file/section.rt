@@ -30,7 +30,7 @@ pub enum SectionKind {
 }
 
 /// What a key takes.
-#[derive(Clone, Copy, PartialEq, Eq)]
+#[derive(Clone, Copy)]
 pub enum Expected {
     Any,
     /// A text, or at least one text in a list.
@@ -47,22 +47,15 @@ impl SectionKind {
     pub(crate) fn of(name: &str) -> Option<SectionKind>
         ensures { result ≡ kind_of name.now }
     {
-        if name == "binaries" {
-            Some(SectionKind::Binaries)
-        } else if is_among(&["built-in options", "project options"], name) {
-            Some(SectionKind::Options)
-        } else if name == "host_machine" {
-            Some(SectionKind::HostMachine)
-        } else if name == "compiler" {
-            Some(SectionKind::Compiler)
-        } else if name == "checks" {
-            Some(SectionKind::Checks)
-        } else if name == "properties" {
-            Some(SectionKind::Properties)
-        } else if is_dependency(name) {
-            Some(SectionKind::Dependency)
-        } else {
-            None
+        match name {
+            "binaries" => Some(SectionKind::Binaries),
+            "built-in options" | "project options" => Some(SectionKind::Options),
+            "host_machine" => Some(SectionKind::HostMachine),
+            "compiler" => Some(SectionKind::Compiler),
+            "checks" => Some(SectionKind::Checks),
+            "properties" => Some(SectionKind::Properties),
+            _ if is_dependency(name) => Some(SectionKind::Dependency),
+            _ => None,
         }
     }
 
@@ -119,22 +112,19 @@ fn of_host_machine(key: &str) -> Option<Expected>
 fn of_compiler(key: &str) -> Option<Expected>
     ensures { result ≡ of_compiler key.now }
 {
-    if is_among(&["id", "version"], key) {
-        Some(Expected::Text)
-    } else {
-        None
+    match key {
+        "id" | "version" => Some(Expected::Text),
+        _ => None,
     }
 }
 
 fn of_dependency(key: &str) -> Option<Expected>
     ensures { result ≡ of_dependency key.now }
 {
-    if key == "version" {
-        Some(Expected::Text)
-    } else if is_among(&["compile_args", "link_args"], key) {
-        Some(Expected::Texts)
-    } else {
-        None
+    match key {
+        "version" => Some(Expected::Text),
+        "compile_args" | "link_args" => Some(Expected::Texts),
+        _ => None,
     }
 }
 

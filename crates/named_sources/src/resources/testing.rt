@@ -56,7 +56,7 @@ fn assign(
 fn is_assignment(text: &str) -> bool
     ensures { result ≡ is_assignment text.now }
 {
-    text.as_bytes().iter().any(|byte| *byte == b'=')
+    text.as_bytes().contains(&b'=')
 }
 
 // The first text that says no name and value breaks a rule.

@@ -41,10 +41,9 @@ fn literal_given(alloc: Global, literal: Literal, slice: &str) -> Result<Option<
 fn negative_literal(literal: Literal, slice: &str) -> Option<Given>
     ensures { option_map given_in result ≡ negative_literal literal slice.now }
 {
-    if literal == Literal::Number {
-        numeral(true, slice)
-    } else {
-        None
+    match literal {
+        Literal::Number => numeral(true, slice),
+        _ => None,
     }
 }
 

@@ -30,7 +30,7 @@ fn is_bare_word(word: &str) -> bool
 fn has_equals_sign(word: &str) -> bool
     ensures { result ≡ has_equals word.now }
 {
-    word.as_bytes().iter().any(|byte| *byte == b'=')
+    word.as_bytes().contains(&b'=')
 }
 
 fn is_reserved_word(word: &str) -> bool
