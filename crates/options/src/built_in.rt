@@ -29,8 +29,7 @@ pub fn built_in_settings(alloc: Global) -> Result<SipMap<String, Setting>, Alloc
     ensures { IfOk result (λ settings. settings_in settings.entries ≡ built_in_settings) }
 {
     let mut settings = new_map(alloc);
-    let table = built_ins();
-    for row in &table {
+    for row in built_ins() {
         put_value_of(alloc, &mut settings, row)?;
     }
     Ok(settings)

@@ -33,9 +33,7 @@ fn row_names(alloc: Global, rows: &[BuiltIn]) -> Result<Vec<String>, AllocError>
 fn built_in_names(alloc: Global) -> Result<Vec<String>, AllocError>
     ensures { IfOk result (λ v. texts v.items ≡ built_in_names) }
 {
-    let table = built_ins();
-    let names = row_names(alloc, &table)?;
-    Ok(names)
+    row_names(alloc, built_ins())
 }
 
 // The names of the options that are declared, in the order of their calls.

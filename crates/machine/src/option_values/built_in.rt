@@ -39,47 +39,90 @@ pub struct BuiltIn {
     pub form: Form,
 }
 
-// A row of the table of options.
-fn built_in(name: &'static str, form: Form) -> BuiltIn
-    ensures { result ≡ record { name = name.entry; form = form } }
-{
-    BuiltIn { name, form }
-}
+const BUILT_INS: &[BuiltIn] = &[
+    BuiltIn {
+        name: "prefix",
+        form: Form::Text("/usr/local"),
+    },
+    BuiltIn {
+        name: "bindir",
+        form: Form::Text("bin"),
+    },
+    BuiltIn {
+        name: "libdir",
+        form: Form::Text("lib"),
+    },
+    BuiltIn {
+        name: "includedir",
+        form: Form::Text("include"),
+    },
+    BuiltIn {
+        name: "datadir",
+        form: Form::Text("share"),
+    },
+    BuiltIn {
+        name: "mandir",
+        form: Form::Text("share/man"),
+    },
+    BuiltIn {
+        name: "sysconfdir",
+        form: Form::Text("etc"),
+    },
+    BuiltIn {
+        name: "buildtype",
+        form: Form::Combo(ChoiceList::BuildTypes, "debug"),
+    },
+    BuiltIn {
+        name: "debug",
+        form: Form::Boolean(true),
+    },
+    BuiltIn {
+        name: "optimization",
+        form: Form::Combo(ChoiceList::Levels, "0"),
+    },
+    BuiltIn {
+        name: "warning_level",
+        form: Form::Combo(ChoiceList::Warnings, "1"),
+    },
+    BuiltIn {
+        name: "werror",
+        form: Form::Boolean(false),
+    },
+    BuiltIn {
+        name: "c_std",
+        form: Form::Combo(ChoiceList::Standards, "none"),
+    },
+    BuiltIn {
+        name: "default_library",
+        form: Form::Combo(ChoiceList::Libraries, "shared"),
+    },
+    BuiltIn {
+        name: "c_args",
+        form: Form::Words,
+    },
+    BuiltIn {
+        name: "c_link_args",
+        form: Form::Words,
+    },
+    BuiltIn {
+        name: "auto_features",
+        form: Form::Feature,
+    },
+];
 
 /// The options in their order, as the Meson manual's page "Built-in options" has them.
-pub fn built_ins() -> [BuiltIn; 17]
-    ensures { map row_in result ≡ built_ins }
+#[tactic(auto, unfolding(crate::specs::option_values::BuiltIns::built_ins))]
+pub fn built_ins() -> &'static [BuiltIn]
+    ensures { map row_in result.now ≡ built_ins }
 {
-    [
-        built_in("prefix", Form::Text("/usr/local")),
-        built_in("bindir", Form::Text("bin")),
-        built_in("libdir", Form::Text("lib")),
-        built_in("includedir", Form::Text("include")),
-        built_in("datadir", Form::Text("share")),
-        built_in("mandir", Form::Text("share/man")),
-        built_in("sysconfdir", Form::Text("etc")),
-        built_in("buildtype", Form::Combo(ChoiceList::BuildTypes, "debug")),
-        built_in("debug", Form::Boolean(true)),
-        built_in("optimization", Form::Combo(ChoiceList::Levels, "0")),
-        built_in("warning_level", Form::Combo(ChoiceList::Warnings, "1")),
-        built_in("werror", Form::Boolean(false)),
-        built_in("c_std", Form::Combo(ChoiceList::Standards, "none")),
-        built_in(
-            "default_library",
-            Form::Combo(ChoiceList::Libraries, "shared"),
-        ),
-        built_in("c_args", Form::Words),
-        built_in("c_link_args", Form::Words),
-        built_in("auto_features", Form::Feature),
-    ]
+    BUILT_INS
 }
 
 /// Whether every project has an option of this name.
 pub fn is_built_in(name: &str) -> bool
     ensures { result ≡ is_built_in name.now }
 {
-    let table = built_ins();
-    table.iter().any(|row| name == row.name)
+    built_ins().iter().any(|row| name == row.name)
 }
 
 // These texts, owned.
@@ -175,8 +218,7 @@ pub fn built_in_kinds(alloc: Global) -> Result<IndexMap<String, OptionKind>, All
     ensures { IfOk result (λ kinds. AreBuiltIns kinds.entries) }
 {
     let mut kinds = IndexMap::new(alloc);
-    let table = built_ins();
-    for row in &table {
+    for row in built_ins() {
         put_kind_of(alloc, &mut kinds, row)?;
     }
     Ok(kinds)

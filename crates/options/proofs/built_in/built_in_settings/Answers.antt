@@ -14,11 +14,11 @@ loop-row-init c = ap settings_in c.new_map-settings.ensures.entries
 
 pub loop-row-preserved : goal.loop-row-preserved
 loop-row-preserved c = step_more add_setting row_in [] _ _ _ c.loop-row.row-index _ c.in_ok-put_value_of.ensures c.loop-row.invariant
-    (omega (arith, seventeen _ c.built_ins-table.ensures, c.loop-row-test.true))
+    (omega (arith, seventeen _ c.built_ins-row-items.ensures, c.loop-row-test.true))
 
 pub returns : goal.returns
 returns c =
     c.loop-row.invariant
     ∙ ap (λ (xs : List BuiltIn). fold add_setting [] (map row_in xs))
-    (take_all c.loop-row.row-index _ (omega (arith, seventeen _ c.built_ins-table.ensures, c.loop-row-test.false)))
-    ∙ ap (fold add_setting []) c.built_ins-table.ensures ∙ all_settings
+    (take_all c.loop-row.row-index _ (omega (arith, seventeen _ c.built_ins-row-items.ensures, c.loop-row-test.false)))
+    ∙ ap (fold add_setting []) c.built_ins-row-items.ensures ∙ all_settings

@@ -1,4 +1,5 @@
-use Rattle.std.proofs.Common.{◌≡◌, List, [], ◌∷◌, map, refl, ap, ◌∙◌}
+use Rattle.std.proofs.Common.{◌≡◌, List, [], ◌∷◌, map, refl, ap, subst, IfOk, ◌∙◌}
+use Rattle.targets.specs.edge.Texts.{texts}
 use Rattle.machine.specs.option_values.BuiltIns as plain
 use Rattle.machine.specs.option_values.View.{row_in}
 use Rattle.machine.specs.declared.option_values.built_in.BuiltIn.{BuiltIn}
@@ -9,4 +10,6 @@ names_are [] = refl
 names_are (row ∷ rows) = ap (λ ns. row.name.now ∷ ns) (names_are rows)
 
 pub returns : goal.returns
-returns c = c.in_ok-names.ensures ∙ names_are _ ∙ ap (map (λ (b : plain.BuiltIn). b.name)) c.built_ins-table.ensures
+returns c =
+    subst (λ names. IfOk c.row_names.result (λ v. texts v.items ≡ names))
+    (names_are c.built_ins.result.now ∙ ap (map (λ (b : plain.BuiltIn). b.name)) c.built_ins.ensures) c.row_names.ensures

@@ -13,11 +13,11 @@ loop-row-init c = ap kinds_in c.new-kinds.ensures.empty
 
 pub loop-row-preserved : goal.loop-row-preserved
 loop-row-preserved c = step_more add_kind row_in [] _ _ _ c.loop-row.row-index _ c.in_ok-put_kind_of.ensures c.loop-row.invariant
-    (omega (arith, seventeen _ c.built_ins-table.ensures, c.loop-row-test.true))
+    (omega (arith, seventeen _ c.built_ins-row-items.ensures, c.loop-row-test.true))
 
 pub returns : goal.returns
 returns c =
     c.loop-row.invariant
     ∙ ap (λ (xs : List BuiltIn). fold add_kind [] (map row_in xs))
-    (take_all c.loop-row.row-index _ (omega (arith, seventeen _ c.built_ins-table.ensures, c.loop-row-test.false)))
-    ∙ ap (fold add_kind []) c.built_ins-table.ensures ∙ all_kinds
+    (take_all c.loop-row.row-index _ (omega (arith, seventeen _ c.built_ins-row-items.ensures, c.loop-row-test.false)))
+    ∙ ap (fold add_kind []) c.built_ins-row-items.ensures ∙ all_kinds

@@ -9,5 +9,5 @@ use Rattle.machine.proofs.option_values.built_in.is_built_in.Goals as goal
 pub returns : goal.returns
 returns c =
     any_from_yields_List (λ (row : BuiltIn). bytes_eq c.args.name.now row.name.now) _ _ _ c.any.ensures.ran
-    (YieldsList-from_slice c.built_ins-table.result (cc)) (λ x b q k. search (rules, tests))
-    ∙ any_built_in c.args.name.now c.built_ins-table.result c.built_ins-table.ensures
+    (YieldsList-from_slice c.built_ins.result.now (cc)) (λ x b q k. search (rules, tests))
+    ∙ any_built_in c.args.name.now c.built_ins.result.now c.built_ins.ensures
