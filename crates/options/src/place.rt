@@ -50,8 +50,7 @@ fn of_declaration<'a>(
         )),
         None => {
             let misfit = Misfit::NoDefault(name, &declaration.kind, &declaration.value);
-            let verdict = refuse(alloc, Place::Declared(declaration.line), misfit)?;
-            Ok(verdict)
+            refuse(alloc, Place::Declared(declaration.line), misfit)
         }
     }
 }
@@ -89,12 +88,10 @@ fn of_assignment<'a>(
     ensures { IfOk result (λ v. verdict_in v ≡ of_assignment (declared_of known.now) place text.now) }
 {
     let Some((name, value)) = cut_first(text, '=') else {
-        let verdict = refuse(alloc, place, Misfit::NoSign(text))?;
-        return Ok(verdict);
+        return refuse(alloc, place, Misfit::NoSign(text));
     };
     let kind = known.kind_named(state.number_of(name), name);
-    let verdict = of_named(alloc, place, name, kind, Written::Text(value))?;
-    Ok(verdict)
+    of_named(alloc, place, name, kind, Written::Text(value))
 }
 
 // A text of `default_options`, or an entry.

@@ -63,6 +63,5 @@ pub fn resolve(
     take_defaults(alloc, &mut state, &known, defaults)?;
     take_machine(alloc, &mut state, &known, machine)?;
     take_words(alloc, &mut state, &known, words)?;
-    let resolved = state.end(alloc)?;
-    Ok(resolved)
+    state.end(alloc)
 }

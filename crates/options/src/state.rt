@@ -16,11 +16,20 @@ use machine::option_values::{Options, Setting};
 use std::alloc::{AllocError, Global};
 
 /// The names of no option so far, the options with their values, and the first fault.
-#[derive(Drop)]
 pub struct State {
     pub unknown: Vec<String>,
     pub settings: SipMap<String, Setting>,
     pub fault: Option<OptionFault>,
+}
+
+impl Drop for State {
+    fn drop(self) {
+        let State {
+            unknown: _,
+            settings: _,
+            fault: _,
+        } = self;
+    }
 }
 
 /// An option takes a value: it keeps its place, and a new one stands last.
