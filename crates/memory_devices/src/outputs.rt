@@ -1,7 +1,7 @@
 ghost use Rattle.std.specs.Prelude.{◌≡◌, ◌+◌, ◌-◌, ◌^◌, ◌≤◌, ◌<◌, ◌++◌, ◌∷◌, [], ◌||◌, ◌&&◌, IsTrue, true, IfOk, MatchResult, is_err};
 ghost use Rattle.std.specs.Prelude.{is_ok, if◌then◌else◌, length, map, min, nat_lt, vec_len, vec_capacity};
-ghost use Rattle.memory_devices.specs.Slots.{events_at, open_at, are_within, is_open_within, is_within, name_at, event_at, event_now, is_full};
-ghost use Rattle.memory_devices.specs.Slots.{call_of, room_of, slot_of};
+ghost use Rattle.memory_devices.specs.Slots.{events_at, open_at, are_within, is_open_within, is_within, name_at, event_at, event_now};
+ghost use Rattle.memory_devices.specs.Slots.{is_full, call_of, room_of, slot_of};
 ghost use Rattle.ports.specs.Outputs.{taken};
 ghost use Rattle.memory_devices.specs.Plan.{is_due, is_output_call};
 
