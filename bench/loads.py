@@ -256,7 +256,7 @@ def one_input(folder: str, count: int) -> int:
     return count
 
 
-# Keys of 32 characters: plain ones, and ones that collide in the hash that the tables of `indexmap` take by themselves. It reads 16 bytes
+# Keys of 32 characters: plain ones, and ones that collide in the hash that tables take by themselves (`FoldHasher`). It reads 16 bytes
 # at a time; after a prefix whose state is itself a text, that text makes the product zero, and the last eight bytes change nothing.
 
 LETTERS = "ABCDEFGHIJKLMNOPQRSTUVWXYZabcdefghijklmnopqrstuvwxyz0123456789_"

@@ -1,2 +1,4 @@
+mod Hashed
+mod Keys
 mod Names
-mod Sets
+pub mod Pairs

@@ -4,3 +4,5 @@ pub mod Texts
 pub mod Faults
 pub mod View
 pub mod Sets
+pub mod Maps
+pub mod Places

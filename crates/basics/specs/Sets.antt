@@ -1,11 +1,10 @@
 -- Sets in the order of insertion.
-use Rattle.std.specs.Prelude.{ℕ, Bool, List, [], ◌∷◌, ◌++◌, if◌then◌else◌, fold}
+use Rattle.std.specs.Prelude.{Bool, List, [], ◌∷◌, ◌++◌, if◌then◌else◌, fold}
 use Rattle.std.specs.List.{list_any}
 
--- the keys of a set, the first that was put in first, and how many more fit in the memory that it has
+-- the keys of a set, the first that was put in first
 pub record KeySet (K : Type 0) : Type 0 where
   pub keys : List K
-  pub spare : ℕ
 
 module _ {K : Type 0} (eq : K → K → Bool) where
   -- these keys and k: last, unless a key equal to k stands among them

@@ -11,7 +11,7 @@ use Rattle.std.proofs.lemmas.List.Folds.{list_any-append}
 use Rattle.std.proofs.lemmas.List.{map-append}
 use Rattle.std.proofs.lemmas.Slice.Eq.{bytes_eq-Decides}
 use Rattle.std.proofs.lemmas.Bool.{false≢true}
-use Rattle.indexmap.specs.IndexMap.{insert_entry}
+use Rattle.basics.specs.Maps.{insert_entry}
 use Rattle.ports.specs.Tree.{file_at}
 use Rattle.basics.specs.Sets.{insert_key}
 use Rattle.memory_devices.specs.MemTree.{contents, is_one_of}
@@ -24,21 +24,26 @@ same_test false false f g = refl
 
 bytes_eq-swap : (a b : List ℕ) → bytes_eq a b ≡ bytes_eq b a
 bytes_eq-swap a b =
-    same_test _ _ (λ h. (bytes_eq-Decides b a).1 (sym ((bytes_eq-Decides a b).0 h))) (λ h. (bytes_eq-Decides a b).1 (sym ((bytes_eq-Decides b a).0 h)))
+    same_test _ _ (λ h. (bytes_eq-Decides b a).1 (sym ((bytes_eq-Decides a b).0 h)))
+    (λ h. (bytes_eq-Decides a b).1 (sym ((bytes_eq-Decides b a).0 h)))
 
-chosen : {A B : Type 0} (f : A → B) (a b : Bool) (x : A) (r : Option A) (s : Option B) → a ≡ b → option_map f r ≡ s → option_map f (cond a (Some x) r) ≡ cond b (Some (f x)) s
+chosen : {A B : Type 0} (f : A → B) (a b : Bool) (x : A) (r : Option A) (s : Option B) → a ≡ b → option_map f r ≡ s
+    → option_map f (cond a (Some x) r) ≡ cond b (Some (f x)) s
 chosen f true true x r s e h = refl
 chosen f true false x r s e h = absurd (false≢true (sym e))
 chosen f false true x r s e h = absurd (false≢true e)
 chosen f false false x r s e h = h
 
 -- what a look-up by a path finds
-pub file_at-lookup : (path : List ℕ) (files : List (String Global × Vec ℕ Global)) → option_map (λ v. v.items) (lookup (λ k. bytes_eq path (string_bytes k)) files) ≡ file_at (contents files) path
+pub file_at-lookup : (path : List ℕ) (files : List (String Global × Vec ℕ Global))
+    → option_map (λ v. v.items) (lookup (λ k. bytes_eq path (string_bytes k)) files) ≡ file_at (contents files) path
 file_at-lookup path [] = refl
-file_at-lookup path (file ∷ files) = chosen (λ v. v.items) _ _ file.1 _ _ (bytes_eq-swap path (string_bytes file.0)) (file_at-lookup path files)
+file_at-lookup path (file ∷ files) =
+    chosen (λ v. v.items) _ _ file.1 _ _ (bytes_eq-swap path (string_bytes file.0)) (file_at-lookup path files)
 
 -- behind the same files, lists with the same files
-file_at-behind : (path : List ℕ) (files a b : List (List ℕ × List ℕ)) → file_at a path ≡ file_at b path → file_at (files ++ a) path ≡ file_at (files ++ b) path
+file_at-behind : (path : List ℕ) (files a b : List (List ℕ × List ℕ)) → file_at a path ≡ file_at b path
+    → file_at (files ++ a) path ≡ file_at (files ++ b) path
 file_at-behind path [] a b h = h
 file_at-behind path (file ∷ files) a b h = ap (λ r. if bytes_eq file.0 path then Some file.1 else r) (file_at-behind path files a b h)
 
@@ -60,7 +65,8 @@ file_at-insert : (path : List ℕ) (files : List (String Global × Vec ℕ Globa
 file_at-insert path [] name bytes = refl
 file_at-insert path (file ∷ files) name bytes =
     elim (string_eq name file.0) as (λ s. string_eq name file.0 ≡ s
-    → file_at (contents (cond s ((file.0, bytes) ∷ files) (file ∷ insert_entry string_eq files name bytes))) path ≡ file_at ((string_bytes name, bytes.items) ∷ contents (file ∷ files)) path) [
+    → file_at (contents (cond s ((file.0, bytes) ∷ files) (file ∷ insert_entry string_eq files name bytes))) path ≡ file_at
+    ((string_bytes name, bytes.items) ∷ contents (file ∷ files)) path) [
       | true ↦ λ e. covered _ _ _ _ _ (ap (λ n. bytes_eq n path) (sym ((bytes_eq-Decides (string_bytes name) (string_bytes file.0)).0 e)))
       | false ↦ λ e.
           ap (λ r. if bytes_eq (string_bytes file.0) path then Some file.1.items else r) (file_at-insert path files name bytes)
@@ -69,8 +75,10 @@ file_at-insert path (file ∷ files) name bytes =
     ] refl
 
 -- the last of the files that are left goes into the map
-pub file_at-moved : (path : List ℕ) (left less : List (String Global × Vec ℕ Global)) (name : String Global) (bytes : Vec ℕ Global) (files more : List (String Global × Vec ℕ Global))
-    → left ≡ less ++ (name, bytes) ∷ [] → more ≡ insert_entry string_eq files name bytes → file_at (contents less ++ contents more) path ≡ file_at (contents left ++ contents files) path
+pub file_at-moved : (path : List ℕ) (left less : List (String Global × Vec ℕ Global)) (name : String Global) (bytes : Vec ℕ Global)
+    (files more : List (String Global × Vec ℕ Global))
+    → left ≡ less ++ (name, bytes) ∷ [] → more ≡ insert_entry string_eq files name bytes
+    → file_at (contents less ++ contents more) path ≡ file_at (contents left ++ contents files) path
 file_at-moved path left less name bytes files more l m =
     ap (λ r. file_at (contents less ++ contents r) path) m
     ∙ file_at-behind path (contents less) _ _ (file_at-insert path files name bytes)

@@ -8,7 +8,7 @@ ghost use Rattle.memory_devices.specs.Plan.{is_due, is_tree_call, number_after, 
 ghost use Rattle.memory_devices.specs.declared.plan.TreeCall.TheVariants.{Any};
 
 use crate::plan::{Plan, TreeCall, tree_call_fails};
-use basics::tables::{SipMap, SipSet, map_with_capacity, set_with_capacity};
+use basics::tables::{SipMap, SipSet, new_map, set_with_capacity};
 use ports::{DeviceFault, Tree};
 use std::alloc::{AllocError, Global};
 
@@ -75,7 +75,7 @@ impl MemTree {
         ensures plan { IfOk result (λ tree. mem_tree_plan tree ≡ record { piece = 2 ^ 64 - 1; kind = Any; number = 0 }) }
         ensures known { IfOk result (λ tree. (path : List ℕ) → mem_tree_knows tree path ≡ true) }
     {
-        let mut found = map_with_capacity(alloc, files.len())?;
+        let mut found = new_map(alloc);
         while let Some((path, bytes)) = files.pop() {
             found.insert(path, bytes)?;
         }

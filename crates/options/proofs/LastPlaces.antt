@@ -5,17 +5,17 @@ use Rattle.std.specs.List.{fold}
 use Rattle.std.specs.Option.{option_map, option_and_then}
 use Rattle.machine.specs.machine_file.Files as machine
 use Rattle.machine.specs.declared.option_values.kind.FeatureState.{FeatureState}
-use Rattle.machine.specs.declared.option_values.kind.FeatureState.TheVariants as feature
 use Rattle.machine.specs.option_values.Values as value
 use Rattle.options.specs.option_file.Declarations.{Declaration}
 use Rattle.options.specs.Faults.{OptionFaultData}
 use Rattle.options.specs.FillIns as filling
 use Rattle.options.specs.FillIns.{build_types, type_among, with_type, by_buildtype, by_prefix, by_auto_features, decided, decided_value}
-use Rattle.options.specs.FillIns.{with_state, state_at, text_at, is_usr, filled_in}
-use Rattle.options.specs.Laws.{set_by, or_later, last_setting, is_auto}
+use Rattle.options.specs.FillIns.{with_state, state_at, text_at, is_usr, is_auto, filled_in}
+use Rattle.options.specs.Laws.{set_by, or_later, last_setting}
 use Rattle.options.specs.Resolves.{State, after_verdict, unless_fault, next, verdicts, at_first, resolved}
 use Rattle.machine.specs.option_values.Settings.{value_named, Setting, put, setting_named, or_given, fill}
 use Rattle.options.specs.Verdicts.{Verdict, Sets, Warns, Refuses, Default}
+use Rattle.options.proofs.Decided.{stays_decided}
 use Rattle.options.proofs.FinalValues.{ended, no_fault, given_name}
 use Rattle.options.proofs.KnownKinds.{same_name, is_itself}
 
@@ -147,16 +147,6 @@ prefix_held : (name : List ℕ) (w : value.Value) (b : Bool) (ss : List Setting)
     → held (if b then fill (codes "sysconfdir") (value.Text (codes "/etc")) ss else ss) name ≡ Some (w, true)
 prefix_held name w true ss h = fill_held name (codes "sysconfdir") _ w ss h
 prefix_held name w false ss h = h
-
-stays_decided : (state : FeatureState) (w : value.Value) → is_auto w ≡ false → decided_value state w ≡ w
-stays_decided state (value.Feature feature.Auto) e = absurd cc
-stays_decided state (value.Feature feature.Enabled) e = refl
-stays_decided state (value.Feature feature.Disabled) e = refl
-stays_decided state (value.Text text) e = refl
-stays_decided state (value.Boolean boolean) e = refl
-stays_decided state (value.Combo choice) e = refl
-stays_decided state (value.Integer number) e = refl
-stays_decided state (value.Array items) e = refl
 
 -- the value that is shown, of one that is held
 abbrev pub shown : Option Held → Option value.Value

@@ -1,4 +1,5 @@
 pub mod Bools
+pub mod Decided
 pub mod Fills
 pub mod Fitting
 pub mod Folds

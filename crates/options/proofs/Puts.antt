@@ -1,14 +1,12 @@
 -- Maps into which something is put.
-use Rattle.std.proofs.Common.{◌≡◌, ℕ, Bool, true, false, List, [], ◌∷◌, Option, Some, String, string_bytes, refl, sym, ap, ◌∙◌, cond, map}
+use Rattle.std.proofs.Common.{◌≡◌, Bool, true, false, List, [], ◌∷◌, String, string_bytes, refl, sym, ap, ◌∙◌, map}
 use Rattle.std.proofs.Common.{length, if◌then◌else◌}
-use Rattle.std.specs.Map.{lookup, set_value}
-use Rattle.std.specs.Str.{bytes_eq}
 use Rattle.std.specs.List.{fold}
 use Rattle.std.proofs.lemmas.List.{length-map}
 use Rattle.machine.specs.declared.option_values.built_in.BuiltIn.{BuiltIn}
 use Rattle.std.specs.declared.alloc.Global.{Global}
 use Rattle.std.specs.String.{string_eq}
-use Rattle.indexmap.specs.IndexMap.{insert_entry}
+use Rattle.basics.specs.Maps.{insert_entry}
 use Rattle.machine.specs.declared.option_values.settings.Setting.{Setting}
 use Rattle.machine.specs.option_values.BuiltIns.{built_ins}
 use Rattle.machine.specs.option_values.View.{row_in}
@@ -27,21 +25,6 @@ pub put_seen : (k : String Global) (s : Setting) (es : List (String Global × Se
     → settings_in (insert_entry string_eq es k s) ≡ put (setting_in (string_bytes k) s) (settings_in es)
 put_seen k s [] = refl
 put_seen k s (e ∷ es) = put_step (string_eq k e.0) e s es _ _ (put_seen k s es)
-
-replaced_step : (b : Bool) (e : String Global × Setting) (old new : Setting) (o : Option Setting) (es more : List (String Global × Setting))
-    (rest : List plain.Setting) → cond b (Some e.1) o ≡ Some old → (o ≡ Some old → settings_in more ≡ rest)
-    → settings_in (cond b ((e.0, new) ∷ es) (e ∷ more))
-    ≡ (if b then setting_in (string_bytes e.0) new ∷ settings_in es else entry_in e ∷ rest)
-replaced_step true e old new o es more rest h r = refl
-replaced_step false e old new o es more rest h r = ap (λ (l : List plain.Setting). entry_in e ∷ l) (r h)
-
--- where there is one of the name, its value is replaced
-pub put_replaced : (name : List ℕ) (old new : Setting) (es : List (String Global × Setting))
-    → lookup (λ k. bytes_eq name (string_bytes k)) es ≡ Some old
-    → settings_in (set_value (λ k. bytes_eq name (string_bytes k)) es new) ≡ put (setting_in name new) (settings_in es)
-put_replaced name old new [] h = absurd cc
-put_replaced name old new (e ∷ es) h =
-    replaced_step (bytes_eq name (string_bytes e.0)) e old new _ es _ _ h (put_replaced name old new es)
 
 -- ---- the options that every project has, put into an empty map one after another
 

@@ -67,6 +67,11 @@ abbrev pub decided_value : FeatureState → Value → Value
 decided_value state (Feature Auto) = Feature state
 decided_value state v = v
 
+-- whether a value leaves its option to `auto_features`
+abbrev pub is_auto : Value → Bool
+is_auto (Feature Auto) = true
+is_auto v = false
+
 -- a feature option that is `auto` takes this state, and any other option stays
 abbrev pub decided : FeatureState → Setting → Setting
 decided state s = record s { value = decided_value state s.value }

@@ -2,7 +2,6 @@
 use Rattle.std.specs.Prelude.{ℕ, Bool, true, false, List, [], ◌∷◌, map, Option, Some, None, bytes_eq, if◌then◌else◌}
 use Rattle.std.specs.List.{list_all}
 use Rattle.basics.specs.Among.{is_among}
-use Rattle.machine.specs.declared.option_values.kind.FeatureState.TheVariants.{Auto}
 use Rattle.machine.specs.option_values.BuiltIns.{BuiltIn, built_ins}
 use Rattle.machine.specs.option_values.Integers.{is_within}
 use Rattle.machine.specs.option_values.Kinds as kind
@@ -62,8 +61,3 @@ set_by (Refuses fault) name = None
 abbrev pub last_setting : List Verdict → List ℕ → Option Setting
 last_setting [] name = None
 last_setting (v ∷ vs) name = or_later (last_setting vs name) (set_by v name)
-
--- whether a value leaves its option to `auto_features`
-abbrev pub is_auto : value.Value → Bool
-is_auto (value.Feature Auto) = true
-is_auto v = false

@@ -3,11 +3,11 @@
 ghost use Rattle.std.specs.Prelude.{◌≡◌, codes, map, OnOk};
 ghost use Rattle.std.specs.Option.{option_map};
 ghost use Rattle.machine.specs.option_values.View.{value_in};
-ghost use Rattle.options.specs.FillIns.{build_types, type_among, text_in, state_in, text_at, state_at, is_usr, decided};
+ghost use Rattle.options.specs.FillIns.{build_types, type_among, text_in, state_in, text_at, state_at, is_usr, is_auto, decided};
 ghost use Rattle.options.specs.FillIns.{by_buildtype, by_prefix, by_auto_features, filled_in};
-ghost use Rattle.machine.specs.option_values.Settings.{or_given, fill, change_at};
+ghost use Rattle.machine.specs.option_values.Settings.{fill, change_at};
 ghost use Rattle.options.specs.View.{type_in};
-ghost use Rattle.machine.specs.option_values.SettingsView.{Becomes, settings_in};
+ghost use Rattle.machine.specs.option_values.SettingsView.{settings_in};
 
 use basics::tables::SipMap;
 use machine::option_values::{FeatureState, OptionValue, Setting};
@@ -39,22 +39,16 @@ fn build_type(name: &str) -> Option<BuildType>
     })
 }
 
-// An option has this value, if no place gave it one.
-fn fill_one(setting: &mut Setting, value: OptionValue)
-    ensures { Becomes (or_given (value_in value)) setting.old setting.new }
-{
-    if !setting.given {
-        setting.value = value;
-    }
-}
-
 // The option of this name has this value, if no place gave it one.
 fn fill(settings: &mut SipMap<String, Setting>, name: &str, value: OptionValue)
     ensures { settings_in settings.new.entries ≡ fill name.now (value_in value) (settings_in settings.old.entries) }
 {
-    match settings.get_mut(name) {
-        Some(setting) => fill_one(setting, value),
-        None => {}
+    let given = match settings.get(name) {
+        Some(setting) => setting.given,
+        None => return,
+    };
+    if !given {
+        settings.replace(name, Setting { value, given });
     }
 }
 
@@ -139,12 +133,13 @@ fn by_prefix(alloc: Global, settings: &mut SipMap<String, Setting>) -> Result<()
     Ok(())
 }
 
-// A feature option that is `auto` takes this state, and any other option stays.
-fn decide(setting: &mut Setting, state: FeatureState)
-    ensures { Becomes (decided state) setting.old setting.new }
+// Whether a value is the state `auto` of a feature.
+fn is_auto(value: &OptionValue) -> bool
+    ensures { result ≡ is_auto (value_in value.now) }
 {
-    if let OptionValue::Feature(FeatureState::Auto) = setting.value {
-        setting.value = OptionValue::Feature(state);
+    match value {
+        OptionValue::Feature(FeatureState::Auto) => true,
+        _ => false,
     }
 }
 
@@ -152,9 +147,13 @@ fn decide(setting: &mut Setting, state: FeatureState)
 fn decide_at(settings: &mut SipMap<String, Setting>, i: usize, state: FeatureState)
     ensures { settings_in settings.new.entries ≡ change_at (decided state) i (settings_in settings.old.entries) }
 {
-    match settings.get_index_mut(i) {
-        Some(setting) => decide(setting, state),
-        None => {}
+    let (_, setting) = match settings.get_index(i) {
+        Some(entry) => entry,
+        None => return,
+    };
+    if is_auto(&setting.value) {
+        let (value, given) = (OptionValue::Feature(state), setting.given);
+        settings.set_at(i, Setting { value, given });
     }
 }
 

@@ -8,7 +8,7 @@ ghost use Rattle.machine.specs.option_values.View.{AreBuiltIns, kind_in};
 ghost use Rattle.options.specs.Verdicts.{scope_of, declared_kind, kind_named, kind_in_scope};
 
 use crate::option_file::Declared;
-use indexmap::IndexMap;
+use basics::tables::SipMap;
 use machine::option_values::{OptionKind, built_in_kinds};
 use std::alloc::{AllocError, Global};
 
@@ -34,7 +34,7 @@ pub fn scope_of(section: &str) -> Option<Scope>
 
 /// The options that there are, with what each takes.
 pub struct Known<'a> {
-    built_ins: IndexMap<String, OptionKind>,
+    built_ins: SipMap<String, OptionKind>,
     declared: &'a Declared,
     ghost are: { AreBuiltIns built_ins.entries },
 }

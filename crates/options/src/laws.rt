@@ -4,7 +4,8 @@
 ghost use Rattle.std.specs.Prelude.{◌≡◌, ◌++◌, ℕ, List, Ok, Some, true, false};
 ghost use Rattle.machine.specs.machine_file.Files.{Section};
 ghost use Rattle.options.specs.option_file.View.{options_in as declared_in};
-ghost use Rattle.options.specs.Laws.{all_fit, names_in, built_in_names, declared_names, last_setting, is_auto};
+ghost use Rattle.options.specs.FillIns.{is_auto};
+ghost use Rattle.options.specs.Laws.{all_fit, names_in, built_in_names, declared_names, last_setting};
 ghost use Rattle.options.specs.Resolves.{resolved, verdicts};
 ghost use Rattle.machine.specs.option_values.Settings.{value_named, Setting as SettingSaid};
 ghost use Rattle.options.specs.Verdicts.{Default};

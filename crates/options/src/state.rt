@@ -41,13 +41,8 @@ pub fn put(
 ) -> Result<(), AllocError>
     ensures { OnOk result (settings_in settings.new.entries ≡ put (setting_in name.now setting) (settings_in settings.old.entries)) }
 {
-    match settings.get_mut(name) {
-        Some(there) => *there = setting,
-        None => {
-            let name = String::from_str(alloc, name)?;
-            settings.insert(name, setting)?;
-        }
-    }
+    let name = String::from_str(alloc, name)?;
+    settings.insert(name, setting)?;
     Ok(())
 }
 

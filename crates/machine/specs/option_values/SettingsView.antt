@@ -1,5 +1,5 @@
 -- Options, each with a value, without where they lie in memory.
-use Rattle.std.specs.Prelude.{◌≡◌, ℕ, List, map, string_bytes, String}
+use Rattle.std.specs.Prelude.{ℕ, List, map, string_bytes, String}
 use Rattle.std.specs.declared.alloc.Global.{Global}
 use denote.Ref.{Bor}
 use Rattle.machine.specs.option_values.View.{value_in}
@@ -12,10 +12,6 @@ use Rattle.machine.specs.option_values.Settings as plain
 -- an option with its name
 abbrev pub setting_in : List ℕ → Setting → plain.Setting
 setting_in name s = record { name = name; value = value_in s.value; given = s.given }
-
--- an option of any name has become what f makes of it
-abbrev pub Becomes : (plain.Setting → plain.Setting) → Setting → Setting → Type 0
-Becomes f old new = (name : List ℕ) → setting_in name new ≡ f (setting_in name old)
 
 abbrev pub entry_in : String Global × Setting → plain.Setting
 entry_in e = setting_in (string_bytes e.0) e.1

@@ -1,7 +1,7 @@
 //! Reads a machine file, line by line.
 
 ghost use Rattle.std.specs.Prelude.{◌≡◌, [], ◌∷◌, ◌++◌, false, is_some, string_bytes, IfOk, OnOk};
-ghost use Rattle.indexmap.specs.IndexMap.{get_by_text};
+ghost use Rattle.basics.specs.Maps.{get_by_text};
 ghost use Rattle.machine.specs.machine_file.Files.{has_key, has_name, takes, with_pair, lacks_version, default_entries, closed};
 ghost use Rattle.machine.specs.machine_file.Files.{sections_said};
 ghost use Rattle.machine.specs.machine_file.Files.{with_section, in_section, after, machine_of};

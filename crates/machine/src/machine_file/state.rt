@@ -2,7 +2,7 @@
 
 ghost use Rattle.std.specs.Prelude.{◌≡◌, false, is_some, string_bytes};
 ghost use Rattle.std.specs.Option.{ForSome};
-ghost use Rattle.indexmap.specs.IndexMap.{get_by_text};
+ghost use Rattle.basics.specs.Maps.{get_by_text};
 
 use crate::machine_file::machine::{Entry, Section};
 use crate::machine_file::section::SectionKind;

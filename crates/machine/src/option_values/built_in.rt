@@ -7,7 +7,7 @@ ghost use Rattle.machine.specs.option_values.View.{value_in};
 
 use crate::option_values::choices::Choices;
 use crate::option_values::kind::{FeatureState, OptionKind, OptionValue};
-use indexmap::IndexMap;
+use basics::tables::{SipMap, new_map};
 use std::alloc::{AllocError, Global};
 
 /// The choices of a combo.
@@ -188,7 +188,7 @@ pub fn built_in_value(alloc: Global, form: Form) -> Result<OptionValue, AllocErr
 // An option of this name takes this.
 fn put_kind(
     alloc: Global,
-    kinds: &mut IndexMap<String, OptionKind>,
+    kinds: &mut SipMap<String, OptionKind>,
     name: &str,
     kind: OptionKind,
 ) -> Result<(), AllocError>
@@ -203,7 +203,7 @@ fn put_kind(
 // The option of a row of the table takes what stands there.
 fn put_kind_of(
     alloc: Global,
-    kinds: &mut IndexMap<String, OptionKind>,
+    kinds: &mut SipMap<String, OptionKind>,
     row: &BuiltIn,
 ) -> Result<(), AllocError>
     ensures { OnOk result (kinds_in kinds.new.entries ≡ add_kind (kinds_in kinds.old.entries) (row_in row.now)) }
@@ -214,10 +214,10 @@ fn put_kind_of(
 }
 
 /// The options with what each takes.
-pub fn built_in_kinds(alloc: Global) -> Result<IndexMap<String, OptionKind>, AllocError>
+pub fn built_in_kinds(alloc: Global) -> Result<SipMap<String, OptionKind>, AllocError>
     ensures { IfOk result (λ kinds. AreBuiltIns kinds.entries) }
 {
-    let mut kinds = IndexMap::new(alloc);
+    let mut kinds = new_map(alloc);
     for row in built_ins() {
         put_kind_of(alloc, &mut kinds, row)?;
     }

@@ -24,7 +24,7 @@ returns c =
     let e : c.loop-i.i
     ≡ length ss = omega (
       arith,
-      c.len-i-end.ensures.len,
+      c.len-i-end.ensures,
       length-map c.args.settings.now.entries entry_in,
       c.loop-i-test.false,
       c.loop-i.auto.i-end,

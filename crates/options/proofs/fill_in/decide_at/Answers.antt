@@ -1,10 +1,23 @@
+use Rattle.std.proofs.Common.{◌∙◌, ap, sym, String}
+use Rattle.std.specs.declared.alloc.Global.{Global}
+use Rattle.machine.specs.declared.option_values.settings.Setting.{Setting}
+use Rattle.machine.specs.option_values.SettingsView.{settings_in}
 use Rattle.options.specs.FillIns.{decided}
-use Rattle.options.proofs.Fills.{changed, not_changed}
+use Rattle.options.proofs.Fills.{changed, not_changed, none_changed, takes_state, keeps_state}
 use Rattle.options.proofs.fill_in.decide_at.Goals as goal
 
-pub returns-in-Some : goal.returns-in-Some
-returns-in-Some c = changed (decided c.args.state) c.args.i c.in-Some.setting.now c.decide.new.setting c.args.settings.now.entries
-    c.in-Some.ensures.value c.decide.ensures
-
 pub returns-in-None : goal.returns-in-None
-returns-in-None c = not_changed (decided c.args.state) c.args.i c.args.settings.now.entries c.in-None.ensures.value
+returns-in-None c = none_changed (decided c.args.state) c.args.i c.args.settings.now.entries c.in-None.ensures.entry
+
+pub returns-then-is_auto : goal.returns-then-is_auto
+returns-then-is_auto c =
+    let entry : String Global × Setting = (c.in-Some.entry.0.now, c.in-Some.entry.1.now) in
+    ap settings_in c.set_at.ensures.entries
+    ∙ changed (decided c.args.state) c.args.i entry _ c.args.settings.now.entries c.in-Some.ensures.entry
+    (takes_state c.args.state entry.1 c.if-is_auto.ensures)
+
+pub returns-else-is_auto : goal.returns-else-is_auto
+returns-else-is_auto c =
+    let entry : String Global × Setting = (c.in-Some.entry.0.now, c.in-Some.entry.1.now) in
+    not_changed (decided c.args.state) c.args.i entry c.args.settings.now.entries c.in-Some.ensures.entry
+    (keeps_state c.args.state entry (sym c.if-is_auto.ensures))

@@ -1,14 +1,20 @@
-use Rattle.std.proofs.Common.{◌∙◌, sym, ap}
+use Rattle.std.proofs.Common.{◌∙◌, ap, sym, refl}
 use Rattle.machine.specs.option_values.View.{value_in}
 use Rattle.machine.specs.option_values.SettingsView.{settings_in}
-use Rattle.options.proofs.Fills.{filled, not_filled}
+use Rattle.options.proofs.Fills.{takes, filled, kept, not_filled}
 use Rattle.options.proofs.fill_in.fill.Goals as goal
 
-pub returns-in-Some : goal.returns-in-Some
-returns-in-Some c = ap settings_in (c.get_mut.follows.holds c.fill_one.new.setting).0
-    ∙ filled c.args.name.now (value_in c.args.value) c.in-Some.setting.now c.fill_one.new.setting c.args.settings.now.entries
-    c.fill_one.ensures (sym c.in-Some.ensures.value)
-
 pub returns-in-None : goal.returns-in-None
-returns-in-None c = rw c.get_mut.follows.holds-at-none (not_filled c.args.name.now (value_in c.args.value) c.args.settings.now.entries
-    (sym c.in-None.ensures.value))
+returns-in-None c = not_filled c.args.name.now (value_in c.args.value) c.args.settings.now.entries (sym c.in-None.ensures.value)
+
+pub returns-then-not-given : goal.returns-then-not-given
+returns-then-not-given c =
+    let old = c.in-Some.setting.now in
+    ap settings_in c.replace.ensures.entries
+    ∙ filled c.args.name.now (value_in c.args.value) old _ c.args.settings.now.entries
+    (takes c.args.value old old.given refl c.if-not-given.true) (sym c.in-Some.ensures.value)
+
+pub returns-else-not-given : goal.returns-else-not-given
+returns-else-not-given c =
+    kept c.args.name.now (value_in c.args.value) c.in-Some.setting.now c.args.settings.now.entries (sym c.if-not-given.false)
+    (sym c.in-Some.ensures.value)

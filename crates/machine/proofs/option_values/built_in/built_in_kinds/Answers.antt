@@ -9,7 +9,7 @@ use Rattle.machine.proofs.BuiltInRows.{all_kinds, seventeen}
 use Rattle.machine.proofs.option_values.built_in.built_in_kinds.Goals as goal
 
 pub loop-row-init : goal.loop-row-init
-loop-row-init c = ap kinds_in c.new-kinds.ensures.empty
+loop-row-init c = ap kinds_in c.new_map-kinds.ensures.entries
 
 pub loop-row-preserved : goal.loop-row-preserved
 loop-row-preserved c = step_more add_kind row_in [] _ _ _ c.loop-row.row-index _ c.in_ok-put_kind_of.ensures c.loop-row.invariant

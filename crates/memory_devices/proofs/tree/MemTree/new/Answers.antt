@@ -2,8 +2,6 @@ use Rattle.std.proofs.Common.{◌∙◌}
 use Rattle.memory_devices.proofs.Files.{file_at-moved}
 use Rattle.memory_devices.proofs.tree.MemTree.new.Goals as goal
 
-pub loop-path-preserved-in_ok-insert : goal.loop-path-preserved-in_ok-insert
-loop-path-preserved-in_ok-insert c = λ path. file_at-moved path _ _ _ _ _ _ c.in-Some.ensures.items c.in_ok-insert.ensures.entries ∙ c.loop-path.invariant path
-
 pub loop-path-preserved : goal.loop-path-preserved
-loop-path-preserved c = λ path. file_at-moved path _ _ _ _ _ _ c.in-Some.ensures.items c.in_ok-insert.ensures.entries ∙ c.loop-path.invariant path
+loop-path-preserved c = λ path. file_at-moved path _ _ _ _ _ _ c.in-Some.ensures.items c.in_ok-insert.ensures.entries
+    ∙ c.loop-path.invariant path
