@@ -179,12 +179,11 @@ impl MemOutputs {
         ensures plan { mem_outputs_plan result ≡ planned Any piece fail }
         ensures room { mem_outputs_room result ≡ mem_outputs_room self }
     {
-        let (kind, number) = fail.unwrap_or((OutputCall::Any, 0));
         MemOutputs {
             slots: self.slots,
             names: self.names,
             current: self.current,
-            plan: Plan::new(piece, kind, number),
+            plan: Plan::told(OutputCall::Any, piece, fail),
             failures: self.failures,
         }
     }

@@ -1,7 +1,7 @@
 //! What is planned for a device in memory, so that a test sees short calls and failures.
 
 ghost use Rattle.std.specs.Prelude.{◌≡◌, ◌<◌, ◌-◌, ◌==◌};
-ghost use Rattle.memory_devices.specs.Plan.{is_due, is_output_call, is_tree_call, number_after};
+ghost use Rattle.memory_devices.specs.Plan.{planned, is_due, is_output_call, is_tree_call, number_after};
 
 /// The calls of a tree, to say which of them is to fail.
 #[derive(Clone, Copy, Debug, PartialEq, Eq)]
@@ -31,6 +31,17 @@ pub(crate) struct Plan<C> {
     kind: C,
     number: u64,
     ghost piece_is_some: { 0 < piece },
+}
+
+impl<C: Copy> Plan<C> {
+    // Such a piece, and the call that is told by its kind and its number, if one is to fail.
+    pub(crate) fn told(any: C, piece: usize, fail: Option<(C, u64)>) -> Self
+        requires { 0 < piece }
+        ensures { planned any piece fail ≡ record { piece = result.piece; kind = result.kind; number = result.number } }
+    {
+        let (kind, number) = fail.unwrap_or((any, 0));
+        Plan::new(piece, kind, number)
+    }
 }
 
 impl<C> Plan<C> {

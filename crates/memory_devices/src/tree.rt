@@ -95,7 +95,6 @@ impl MemTree {
         ensures plan { mem_tree_plan result ≡ planned Any piece fail }
         ensures known { (path : List ℕ) → mem_tree_knows result path ≡ mem_tree_knows self path }
     {
-        let (kind, number) = fail.unwrap_or((TreeCall::Any, 0));
         let MemTree {
             files,
             known,
@@ -105,7 +104,7 @@ impl MemTree {
         MemTree {
             files,
             known,
-            plan: Plan::new(piece, kind, number),
+            plan: Plan::told(TreeCall::Any, piece, fail),
             failures,
         }
     }
