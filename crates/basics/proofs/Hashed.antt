@@ -1,19 +1,13 @@
 -- Where keys lie that are found by their hashes.
-use Rattle.std.proofs.Common.{◌≡◌, ℕ, ◌<◌, ◌≤◌, Bool, true, false, List, [], ◌∷◌, length, get_or, Option, Some, None, IsSomeAnd, sym}
-use Rattle.std.proofs.Common.{subst, arith, refl}
+use Rattle.std.proofs.Common.{◌≡◌, ℕ, ◌<◌, ◌≤◌, Bool, true, false, List, [], ◌∷◌, length, get_or, Some, None}
+use Rattle.std.proofs.Common.{arith, refl}
 use Rattle.std.specs.Prelude.{position}
 use Rattle.std.specs.List.{position_or_len}
 use Rattle.std.proofs.lemmas.List.Sums.{position_or_len_is}
 use Rattle.std.proofs.lemmas.Grind.{common_steps}
-use Rattle.basics.specs.Places.{AreIndexed, BeginAt}
+use Rattle.basics.specs.Places.{BeginAt}
 
 module _ {K : Type 0} (test : K → Bool) where
-  -- of keys that are indexed, those that pass, which have this hash, begin at its place
-  pub begin : (hashed : ℕ) (hash : K → ℕ) → ((k : K) → test k ≡ true → hashed ≡ hash k) → (place : ℕ → Option ℕ) (keys : List K)
-      → AreIndexed hash place keys → (first : Option ℕ) → first ≡ place hashed → BeginAt test keys first
-  begin hashed hash same place keys indexed first is i d lt e =
-      subst (λ o. IsSomeAnd o (λ at. at ≤ i)) (sym is) (subst (λ n. IsSomeAnd (place n) (λ at. at ≤ i)) (sym (same _ e)) (indexed i d lt))
-
   fails : (b : Bool) → (b ≡ true → ⊥) → b ≡ false
   fails true h = absurd (h refl)
   fails false h = refl

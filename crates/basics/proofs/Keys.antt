@@ -1,6 +1,6 @@
 -- Keys of which none is there twice, and one more.
 use Rattle.std.proofs.Common.{◌≡◌, ◌∙◌, ℕ, zero, suc, ◌<◌, ◌≤◌, ◌+◌, Bool, true, false, List, [], ◌∷◌, ◌++◌, length, get_or, cond, Option}
-use Rattle.std.proofs.Common.{Some, None, IsSomeAnd, sym, ap, subst, arith, refl, not, ◌||◌, if◌then◌else◌, is_some, IfSome, take}
+use Rattle.std.proofs.Common.{Some, None, IsSomeAnd, sym, ap, subst, arith, refl, not, ◌||◌, if◌then◌else◌, is_some, take}
 use Rattle.std.specs.Prelude.{position, nat_lt, Result, Ok, Err, OnErr}
 use Rattle.std.specs.List.{position_or_len, list_any, IsDistinct, AllByRecursion}
 use Rattle.std.proofs.lemmas.Bool.{false_from_ne_true, true_from_ne_false, ltb-true, ltb-false}
@@ -59,16 +59,9 @@ module _ {K : Type 0} (test : K → Bool) where
   pub goes_last : (ks : List K) → None ≡ position test ks → position_or_len test ks ≡ length ks
   goes_last ks e = omega (arith, no_position ks e, prefix_len-le-length (λ k. not (test k)) ks)
 
-  pub stands_at : (ks : List K) (i : ℕ) → Some i ≡ position test ks → i ≡ position_or_len test ks
-  stands_at ks i e = (at_position ks i e).1
-
   pub found : (r : Option ℕ) (ks : List K) → r ≡ position test ks → is_some r ≡ list_any test ks
   found None ks e = sym (is_missing ks e)
   found (Some i) ks e = sym (is_there ks i e)
-
-  pub within : (r : Option ℕ) (ks : List K) → r ≡ position test ks → IfSome r (λ i. i < length ks)
-  within None ks e = tt {0}
-  within (Some i) ks e = let p = at_position ks i e in subst (λ n. n < length ks) (sym p.1) p.0
 
 module _ {K : Type 0} (eq : K → K → Bool) where
   pub inserted_there : (q : K) (ks : List K) (i : ℕ) → Some i ≡ position (eq q) ks → ks ≡ insert_key eq ks q

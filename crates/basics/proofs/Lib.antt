@@ -1,4 +1,4 @@
 mod Hashed
 mod Keys
 mod Names
-pub mod Pairs
+mod Pairs

@@ -1,6 +1,6 @@
 -- Keys with their values.
 use Rattle.std.proofs.Common.{◌≡◌, ◌∙◌, ℕ, zero, suc, ◌<◌, ◌≤◌, ◌+◌, Bool, true, false, List, [], ◌∷◌, ◌++◌, length, cond, Option, Some}
-use Rattle.std.proofs.Common.{None, sym, ap, arith, refl, not, is_some, ◌||◌, if◌then◌else◌}
+use Rattle.std.proofs.Common.{None, sym, ap, arith, refl, not, ◌||◌, if◌then◌else◌}
 use Rattle.std.specs.Prelude.{position, nat_lt}
 use Rattle.std.specs.List.{position_or_len, list_any, slice_get, slice_set}
 use Rattle.std.specs.Map.{lookup, set_value}
@@ -92,15 +92,6 @@ module _ {K V : Type 0} where
     missing_pair [] vs e = refl
     missing_pair (k ∷ ks) [] e = refl
     missing_pair (k ∷ ks) (v ∷ vs) e = none_later (test k) (list_any test ks) v _ e (missing_pair ks vs)
-
-    any_later : (b c : Bool) (v : V) (rest : Option V) → c ≡ is_some rest → (b || c) ≡ is_some (cond b (Some v) rest)
-    any_later true c v rest later = refl
-    any_later false c v rest later = later
-
-    pub any_pair : (ks : List K) (vs : List V) → length ks ≡ length vs → list_any test ks ≡ is_some (lookup test (pairs ks vs))
-    any_pair [] vs e = refl
-    any_pair (k ∷ ks) [] e = absurd cc
-    any_pair (k ∷ ks) (v ∷ vs) e = any_later (test k) (list_any test ks) v _ (any_pair ks vs (omega (arith, e)))
 
     -- the first key that passes stands where it does with its value
     first_pair : (ks : List K) (vs : List V) → length ks ≡ length vs
