@@ -9,6 +9,7 @@ pub mod Tables
 pub mod Same
 pub mod Builder
 pub mod Flat
+pub mod Content
 pub mod Few
 pub mod Kept
 pub mod Keys

@@ -32,4 +32,4 @@ pub use opening::{open_all, open_up, opened_count};
 pub use refusal::Refusal;
 pub use short::Short;
 pub use text::{Text, Texts};
-pub use value::{Dictionary, DictionaryBuilder, List, Value, have_disabler};
+pub use value::{Content, Dictionary, DictionaryBuilder, List, Value, have_disabler};

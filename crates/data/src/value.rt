@@ -14,6 +14,7 @@ ghost use Rattle.data.specs.Limits.{is_within as is_within_limits, items_fit, wi
 ghost use Rattle.data.specs.View.{data_of, items_of};
 
 mod builder;
+mod content;
 
 use crate::keys::Keys;
 use crate::object::Object;
@@ -21,6 +22,7 @@ use crate::refusal::Refusal;
 use crate::text::Text;
 use basics::limits::{ITEMS, LEVELS, WEIGHT};
 pub use builder::DictionaryBuilder;
+pub use content::Content;
 use std::alloc::{AllocError, Global};
 use std::marker::Model;
 use std::mem;
@@ -28,7 +30,6 @@ use std::rc::Rc;
 
 /// A value.
 #[cycle(value)]
-#[derive(Drop)]
 pub enum Value {
     Boolean(bool),
     Integer(i128),
@@ -36,6 +37,22 @@ pub enum Value {
     List(Rc<List>),
     Dictionary(Rc<Dictionary>),
     Object(Rc<Object>),
+}
+
+// Values are let go in many functions: this one is proved once.
+impl Drop for Value {
+    #[cycle(value)]
+    #[inline]
+    fn drop(self) {
+        match self {
+            Value::Boolean(_) => {}
+            Value::Integer(_) => {}
+            Value::Text(_) => {}
+            Value::List(_) => {}
+            Value::Dictionary(_) => {}
+            Value::Object(_) => {}
+        }
+    }
 }
 
 /// A list of at most 65,536 items, 64 levels and weight 33,554,432.

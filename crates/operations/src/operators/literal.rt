@@ -7,7 +7,7 @@ ghost use Rattle.data.specs.Weight.{entries_weight};
 ghost use Rattle.operations.specs.operators.TextLists.{PutsText, items_in, text_list, texts_behind};
 ghost use Rattle.operations.specs.operators.Literal.{with_entry, with_entries, literal_answer, pairs_of, Makes};
 
-use data::{DictionaryBuilder, List, Refusal, Text, Value};
+use data::{Content, DictionaryBuilder, List, Refusal, Text, Value};
 use std::alloc::{AllocError, Global};
 
 /// Why keys and values make no dictionary.
@@ -118,7 +118,7 @@ fn put_entry(
         (λ e. with_entry builder.old (data_of key) (data_of value) ≡ Err e)) }
     ensures light { IfOk result (λ _. entries_weight builder.new ≤ entries_weight builder.old + 2 ^ 26) }
 {
-    let Value::Text(key) = key else {
+    let Content::Text(key) = key.into_content() else {
         return Ok(Err(LiteralRefusal::Refused(Refusal::Type)));
     };
     if builder.contains_key(&key) {

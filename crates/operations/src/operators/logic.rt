@@ -50,8 +50,8 @@ pub fn left_side(connective: Connective, left: Value) -> Result<Left, Refusal>
 pub fn right_side(right: Value) -> Result<Value, Refusal>
     ensures { Answers (right_answer (data_of right)) result }
 {
-    match right {
-        Value::Boolean(boolean) => Ok(Value::Boolean(boolean)),
+    match &right {
+        Value::Boolean(boolean) => Ok(Value::Boolean(*boolean)),
         _ => {
             if right.is_disabler() {
                 Ok(right)

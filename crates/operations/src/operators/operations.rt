@@ -14,7 +14,7 @@ use crate::operators::membership::{absence, membership};
 use crate::operators::operator::{Binary, Unary};
 use crate::operators::relations::{equality, inequality, order};
 use crate::operators::text_sums::{concatenate, path_text};
-use data::{Refusal, Value};
+use data::{Content, Refusal, Value};
 use std::alloc::{AllocError, Global};
 use std::cmp::Ordering;
 
@@ -113,20 +113,20 @@ fn sum(alloc: Global, left: Value, right: Value) -> Result<Result<Value, Refusal
     requires { are_integers (data_of left) (data_of right) ≡ false }
     ensures { IfOk result (λ r. Answers (binary_outcome Add (data_of left) (data_of right)) r) }
 {
-    match left {
-        Value::Text(s) => match right {
-            Value::Text(t) => concatenate(alloc, s, t.as_str()),
+    match left.into_content() {
+        Content::Text(text) => match &right {
+            Value::Text(other) => concatenate(alloc, text, other.as_str()),
             _ => Ok(Err(Refusal::Type)),
         },
-        Value::List(list) => match right {
-            Value::List(others) => append_all(alloc, list, &others),
-            value => append(alloc, list, value),
+        Content::List(list) => match &right {
+            Value::List(others) => append_all(alloc, list, others),
+            _ => append(alloc, list, right),
         },
-        Value::Dictionary(dictionary) => match right {
-            Value::Dictionary(others) => merge(alloc, dictionary, &others),
+        Content::Dictionary(dictionary) => match &right {
+            Value::Dictionary(others) => merge(alloc, dictionary, others),
             _ => Ok(Err(Refusal::Type)),
         },
-        Value::Boolean(_) | Value::Integer(_) | Value::Object(_) => Ok(Err(Refusal::Type)),
+        Content::Other => Ok(Err(Refusal::Type)),
     }
 }
 
