@@ -3,3 +3,4 @@ pub mod MethodNames
 pub mod Names
 pub mod ObjectMethods
 pub mod ValueMethods
+pub mod Rows

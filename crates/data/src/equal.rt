@@ -4,6 +4,7 @@ ghost use Rattle.std.specs.Prelude.{◌≡◌, ◌↔◌, IsTrue};
 ghost use Rattle.data.specs.Same.{same};
 ghost use Rattle.data.specs.View.{data_of, items_of};
 ghost use Rattle.data.specs.declared.object.Object.TheVariants.{CustomTarget, CustomOutput, File};
+ghost use Rattle.data.specs.declared.object.Source.TheVariants as sources;
 
 use crate::object::{Dependency, Object, Program, Source};
 use crate::text::Text;
@@ -194,26 +195,42 @@ fn is_same_source(source: &Source, other: &Source) -> bool
     ensures { IsTrue result ↔ (source.now ≡ other.now) }
 {
     match source {
-        Source::File { path, is_built } => match other {
-            Source::File {
-                path: other_path,
-                is_built: other_is_built,
-            } => path.as_str() == other_path.as_str() && is_built == other_is_built,
-            _ => false,
-        },
-        Source::CustomTarget { number, outputs } => match other {
-            Source::CustomTarget {
-                number: other_number,
-                outputs: other_outputs,
-            } => number == other_number && outputs == other_outputs,
-            _ => false,
-        },
-        Source::CustomOutput { target, output } => match other {
-            Source::CustomOutput {
-                target: other_target,
-                output: other_output,
-            } => target == other_target && output == other_output,
-            _ => false,
-        },
+        Source::File { path, is_built } => is_source_file(other, path, *is_built),
+        Source::CustomTarget { number, outputs } => is_source_target(other, *number, *outputs),
+        Source::CustomOutput { target, output } => is_source_output(other, *target, *output),
+    }
+}
+
+// The same as of objects.
+fn is_source_target(source: &Source, other_number: usize, other_outputs: usize) -> bool
+    ensures { IsTrue result ↔ (sources.CustomTarget other_number other_outputs ≡ source.now) }
+{
+    match source {
+        Source::CustomTarget { number, outputs } => {
+            *number == other_number && *outputs == other_outputs
+        }
+        _ => false,
+    }
+}
+
+fn is_source_output(source: &Source, other_target: usize, other_output: usize) -> bool
+    ensures { IsTrue result ↔ (sources.CustomOutput other_target other_output ≡ source.now) }
+{
+    match source {
+        Source::CustomOutput { target, output } => {
+            *target == other_target && *output == other_output
+        }
+        _ => false,
+    }
+}
+
+fn is_source_file(source: &Source, other_path: &Text, other_is_built: bool) -> bool
+    ensures { IsTrue result ↔ (sources.File other_path.now other_is_built ≡ source.now) }
+{
+    match source {
+        Source::File { path, is_built } => {
+            path.as_str() == other_path.as_str() && *is_built == other_is_built
+        }
+        _ => false,
     }
 }

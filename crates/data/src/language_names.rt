@@ -9,6 +9,7 @@ mod functions;
 mod method_name;
 mod names;
 mod object_methods;
+mod rows;
 mod value_methods;
 
 pub use functions::{Function, FunctionName, ProjectFunction};

@@ -150,12 +150,25 @@ impl Text {
                 return Ok(Ok(()));
             }
         }
-        let mut copy = String::with_capacity(alloc, count)?;
-        copy.push_str(self.as_str())?;
-        copy.push_str(piece)?;
-        self.kept = Kept::Long(Rc::new(alloc, copy)?);
+        self.kept = Kept::Long(joined(alloc, count, self.as_str(), piece)?);
         Ok(Ok(()))
     }
+}
+
+// A string of two pieces, with room for so many bytes.
+fn joined(alloc: Global, count: usize, first: &str, second: &str) -> Result<Rc<String>, AllocError>
+    ensures { IfOk result (λ s. string_bytes s.value ≡ first.now ++ second.now) }
+{
+    let mut string = String::with_capacity(alloc, count)?;
+    push_both(&mut string, first, second)?;
+    Ok(Rc::new(alloc, string)?)
+}
+
+fn push_both(string: &mut String, first: &str, second: &str) -> Result<(), AllocError>
+    ensures { OnOk result (string_bytes string.new ≡ string_bytes string.old ++ (first.now ++ second.now)) }
+{
+    string.push_str(first)?;
+    string.push_str(second)
 }
 
 impl Clone for Text {

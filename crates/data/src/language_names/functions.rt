@@ -1,9 +1,10 @@
 //! The functions by their names.
 ghost use Rattle.std.specs.Prelude.{◌≡◌, option_map};
-ghost use Rattle.data.specs.language_names.Functions.{function_named, project_function_named};
+ghost use Rattle.data.specs.language_names.Functions.{function_named};
 ghost use Rattle.data.specs.declared.language_names.functions.Function.TheVariants as functions;
 
 use crate::Text;
+use crate::language_names::rows::named;
 use std::marker::Model;
 
 /// A function of the page "Reference manual".
@@ -53,6 +54,54 @@ pub enum ProjectFunction {
     Test,
 }
 
+// Those that say nothing of the project.
+const FUNCTIONS: [(&str, Function); 15] = [
+    ("assert", Function::Assert),
+    ("disabler", Function::Disabler),
+    ("error", Function::Error),
+    ("get_variable", Function::GetVariable),
+    ("is_disabler", Function::IsDisabler),
+    ("is_variable", Function::IsVariable),
+    ("join_paths", Function::JoinPaths),
+    ("message", Function::Message),
+    ("project", Function::Project),
+    ("range", Function::Range),
+    ("set_variable", Function::SetVariable),
+    ("subdir", Function::Subdir),
+    ("subdir_done", Function::SubdirDone),
+    ("unset_variable", Function::UnsetVariable),
+    ("warning", Function::Warning),
+];
+
+// The functions that say something of the project.
+const PROJECT_FUNCTIONS: [(&str, ProjectFunction); 19] = [
+    (
+        "add_project_arguments",
+        ProjectFunction::AddProjectArguments,
+    ),
+    (
+        "add_project_link_arguments",
+        ProjectFunction::AddProjectLinkArguments,
+    ),
+    ("configuration_data", ProjectFunction::ConfigurationData),
+    ("configure_file", ProjectFunction::ConfigureFile),
+    ("custom_target", ProjectFunction::CustomTarget),
+    ("declare_dependency", ProjectFunction::DeclareDependency),
+    ("dependency", ProjectFunction::Dependency),
+    ("executable", ProjectFunction::Executable),
+    ("files", ProjectFunction::Files),
+    ("find_program", ProjectFunction::FindProgram),
+    ("get_option", ProjectFunction::GetOption),
+    ("include_directories", ProjectFunction::IncludeDirectories),
+    ("install_data", ProjectFunction::InstallData),
+    ("install_headers", ProjectFunction::InstallHeaders),
+    ("install_man", ProjectFunction::InstallMan),
+    ("library", ProjectFunction::Library),
+    ("shared_library", ProjectFunction::SharedLibrary),
+    ("static_library", ProjectFunction::StaticLibrary),
+    ("test", ProjectFunction::Test),
+];
+
 /// The name by which a definition file calls a function. Which function it names was looked up when it was made. To whoever uses it, it is
 /// its text.
 #[derive(Drop)]
@@ -100,23 +149,9 @@ impl FunctionName {
 fn function_named(name: &str) -> Option<Function>
     ensures { result ≡ function_named name.now }
 {
-    match name {
-        "assert" => Some(Function::Assert),
-        "disabler" => Some(Function::Disabler),
-        "error" => Some(Function::Error),
-        "get_variable" => Some(Function::GetVariable),
-        "is_disabler" => Some(Function::IsDisabler),
-        "is_variable" => Some(Function::IsVariable),
-        "join_paths" => Some(Function::JoinPaths),
-        "message" => Some(Function::Message),
-        "project" => Some(Function::Project),
-        "range" => Some(Function::Range),
-        "set_variable" => Some(Function::SetVariable),
-        "subdir" => Some(Function::Subdir),
-        "subdir_done" => Some(Function::SubdirDone),
-        "unset_variable" => Some(Function::UnsetVariable),
-        "warning" => Some(Function::Warning),
-        _ => of_project(project_function_named(name)),
+    match named(&FUNCTIONS, name) {
+        Some(function) => Some(function),
+        None => of_project(named(&PROJECT_FUNCTIONS, name)),
     }
 }
 
@@ -124,32 +159,4 @@ fn of_project(function: Option<ProjectFunction>) -> Option<Function>
     ensures { result ≡ option_map functions.OfProject function }
 {
     Some(Function::OfProject(function?))
-}
-
-// The function of a name that says something of the project.
-fn project_function_named(name: &str) -> Option<ProjectFunction>
-    ensures { result ≡ project_function_named name.now }
-{
-    match name {
-        "add_project_arguments" => Some(ProjectFunction::AddProjectArguments),
-        "add_project_link_arguments" => Some(ProjectFunction::AddProjectLinkArguments),
-        "configuration_data" => Some(ProjectFunction::ConfigurationData),
-        "configure_file" => Some(ProjectFunction::ConfigureFile),
-        "custom_target" => Some(ProjectFunction::CustomTarget),
-        "declare_dependency" => Some(ProjectFunction::DeclareDependency),
-        "dependency" => Some(ProjectFunction::Dependency),
-        "executable" => Some(ProjectFunction::Executable),
-        "files" => Some(ProjectFunction::Files),
-        "find_program" => Some(ProjectFunction::FindProgram),
-        "get_option" => Some(ProjectFunction::GetOption),
-        "include_directories" => Some(ProjectFunction::IncludeDirectories),
-        "install_data" => Some(ProjectFunction::InstallData),
-        "install_headers" => Some(ProjectFunction::InstallHeaders),
-        "install_man" => Some(ProjectFunction::InstallMan),
-        "library" => Some(ProjectFunction::Library),
-        "shared_library" => Some(ProjectFunction::SharedLibrary),
-        "static_library" => Some(ProjectFunction::StaticLibrary),
-        "test" => Some(ProjectFunction::Test),
-        _ => None,
-    }
 }

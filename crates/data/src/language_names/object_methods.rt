@@ -5,6 +5,8 @@ ghost use Rattle.data.specs.language_names.ObjectMethods.{custom_target_method_n
 ghost use Rattle.data.specs.language_names.ObjectMethods.{machine_method_named, meson_method_named, output_method_named};
 ghost use Rattle.data.specs.language_names.ObjectMethods.{program_method_named};
 
+use crate::language_names::rows::named;
+
 /// A method of the compiler, by what it gives.
 #[derive(Clone, Copy)]
 pub enum CompilerMethod {
@@ -24,28 +26,33 @@ pub enum CompilerMethod {
     Version,
 }
 
+// The methods of the compiler.
+const COMPILER_METHODS: [(&str, CompilerMethod); 14] = [
+    ("alignment", CompilerMethod::Number),
+    ("check_header", CompilerMethod::Check),
+    ("find_library", CompilerMethod::FindLibrary),
+    ("get_id", CompilerMethod::Id),
+    (
+        "get_supported_arguments",
+        CompilerMethod::SupportedArguments,
+    ),
+    ("has_argument", CompilerMethod::Check),
+    ("has_function", CompilerMethod::Check),
+    ("has_header", CompilerMethod::Check),
+    ("has_header_symbol", CompilerMethod::CheckInside),
+    ("has_link_argument", CompilerMethod::Check),
+    ("has_member", CompilerMethod::CheckInside),
+    ("has_type", CompilerMethod::Check),
+    ("sizeof", CompilerMethod::Number),
+    ("version", CompilerMethod::Version),
+];
+
 impl CompilerMethod {
     /// The method of a name.
     pub(crate) fn from_name(name: &str) -> Option<CompilerMethod>
         ensures { result ≡ compiler_method_named name.now }
     {
-        match name {
-            "alignment" => Some(CompilerMethod::Number),
-            "check_header" => Some(CompilerMethod::Check),
-            "find_library" => Some(CompilerMethod::FindLibrary),
-            "get_id" => Some(CompilerMethod::Id),
-            "get_supported_arguments" => Some(CompilerMethod::SupportedArguments),
-            "has_argument" => Some(CompilerMethod::Check),
-            "has_function" => Some(CompilerMethod::Check),
-            "has_header" => Some(CompilerMethod::Check),
-            "has_header_symbol" => Some(CompilerMethod::CheckInside),
-            "has_link_argument" => Some(CompilerMethod::Check),
-            "has_member" => Some(CompilerMethod::CheckInside),
-            "has_type" => Some(CompilerMethod::Check),
-            "sizeof" => Some(CompilerMethod::Number),
-            "version" => Some(CompilerMethod::Version),
-            _ => None,
-        }
+        named(&COMPILER_METHODS, name)
     }
 }
 
@@ -62,22 +69,24 @@ pub enum ConfigurationMethod {
     SetQuoted,
 }
 
+// The methods of configuration data.
+const CONFIGURATION_METHODS: [(&str, ConfigurationMethod); 8] = [
+    ("get", ConfigurationMethod::Get),
+    ("get_unquoted", ConfigurationMethod::GetUnquoted),
+    ("has", ConfigurationMethod::Has),
+    ("keys", ConfigurationMethod::Keys),
+    ("merge_from", ConfigurationMethod::MergeFrom),
+    ("set", ConfigurationMethod::Set),
+    ("set10", ConfigurationMethod::Set10),
+    ("set_quoted", ConfigurationMethod::SetQuoted),
+];
+
 impl ConfigurationMethod {
     /// The method of a name.
     pub(crate) fn from_name(name: &str) -> Option<ConfigurationMethod>
         ensures { result ≡ configuration_method_named name.now }
     {
-        match name {
-            "get" => Some(ConfigurationMethod::Get),
-            "get_unquoted" => Some(ConfigurationMethod::GetUnquoted),
-            "has" => Some(ConfigurationMethod::Has),
-            "keys" => Some(ConfigurationMethod::Keys),
-            "merge_from" => Some(ConfigurationMethod::MergeFrom),
-            "set" => Some(ConfigurationMethod::Set),
-            "set10" => Some(ConfigurationMethod::Set10),
-            "set_quoted" => Some(ConfigurationMethod::SetQuoted),
-            _ => None,
-        }
+        named(&CONFIGURATION_METHODS, name)
     }
 }
 
@@ -169,27 +178,29 @@ pub enum MesonMethod {
     Version,
 }
 
+// The methods of `meson`.
+const MESON_METHODS: [(&str, MesonMethod); 13] = [
+    ("backend", MesonMethod::Backend),
+    ("build_root", MesonMethod::BuildRoot),
+    ("current_build_dir", MesonMethod::CurrentBuildDir),
+    ("current_source_dir", MesonMethod::CurrentSourceDir),
+    ("get_compiler", MesonMethod::GetCompiler),
+    ("is_cross_build", MesonMethod::IsCrossBuild),
+    ("is_subproject", MesonMethod::IsSubproject),
+    ("project_build_root", MesonMethod::BuildRoot),
+    ("project_name", MesonMethod::ProjectName),
+    ("project_source_root", MesonMethod::SourceRoot),
+    ("project_version", MesonMethod::ProjectVersion),
+    ("source_root", MesonMethod::SourceRoot),
+    ("version", MesonMethod::Version),
+];
+
 impl MesonMethod {
     /// The method of a name.
     pub(crate) fn from_name(name: &str) -> Option<MesonMethod>
         ensures { result ≡ meson_method_named name.now }
     {
-        match name {
-            "backend" => Some(MesonMethod::Backend),
-            "build_root" => Some(MesonMethod::BuildRoot),
-            "current_build_dir" => Some(MesonMethod::CurrentBuildDir),
-            "current_source_dir" => Some(MesonMethod::CurrentSourceDir),
-            "get_compiler" => Some(MesonMethod::GetCompiler),
-            "is_cross_build" => Some(MesonMethod::IsCrossBuild),
-            "is_subproject" => Some(MesonMethod::IsSubproject),
-            "project_build_root" => Some(MesonMethod::BuildRoot),
-            "project_name" => Some(MesonMethod::ProjectName),
-            "project_source_root" => Some(MesonMethod::SourceRoot),
-            "project_version" => Some(MesonMethod::ProjectVersion),
-            "source_root" => Some(MesonMethod::SourceRoot),
-            "version" => Some(MesonMethod::Version),
-            _ => None,
-        }
+        named(&MESON_METHODS, name)
     }
 }
 

@@ -3,6 +3,8 @@ ghost use Rattle.std.specs.Prelude.{◌≡◌};
 ghost use Rattle.data.specs.language_names.ValueMethods.{boolean_method_named, dictionary_method_named, integer_method_named};
 ghost use Rattle.data.specs.language_names.ValueMethods.{list_method_named, text_method_named};
 
+use crate::language_names::rows::named;
+
 /// A method of booleans.
 #[derive(Clone, Copy)]
 pub enum BooleanMethod {
@@ -65,41 +67,31 @@ pub enum TextMethod {
     VersionCompare,
 }
 
+// The methods of texts.
+const TEXT_METHODS: [(&str, TextMethod); 15] = [
+    ("contains", TextMethod::Contains),
+    ("startswith", TextMethod::StartsWith),
+    ("endswith", TextMethod::EndsWith),
+    ("format", TextMethod::Format),
+    ("join", TextMethod::Join),
+    ("replace", TextMethod::Replace),
+    ("split", TextMethod::Split),
+    ("splitlines", TextMethod::SplitLines),
+    ("strip", TextMethod::Strip),
+    ("substring", TextMethod::Substring),
+    ("to_int", TextMethod::ToInt),
+    ("to_lower", TextMethod::ToLower),
+    ("to_upper", TextMethod::ToUpper),
+    ("underscorify", TextMethod::Underscorify),
+    ("version_compare", TextMethod::VersionCompare),
+];
+
 impl TextMethod {
     /// The method of a name.
     pub(crate) fn from_name(name: &str) -> Option<TextMethod>
         ensures { result ≡ text_method_named name.now }
     {
-        // a name is compared with those of about its length alone
-        match name.len() {
-            4 | 5 => match name {
-                "join" => Some(TextMethod::Join),
-                "split" => Some(TextMethod::Split),
-                "strip" => Some(TextMethod::Strip),
-                _ => None,
-            },
-            6 | 7 => match name {
-                "format" => Some(TextMethod::Format),
-                "replace" => Some(TextMethod::Replace),
-                "to_int" => Some(TextMethod::ToInt),
-                _ => None,
-            },
-            8 => match name {
-                "contains" => Some(TextMethod::Contains),
-                "endswith" => Some(TextMethod::EndsWith),
-                "to_lower" => Some(TextMethod::ToLower),
-                "to_upper" => Some(TextMethod::ToUpper),
-                _ => None,
-            },
-            _ => match name {
-                "startswith" => Some(TextMethod::StartsWith),
-                "splitlines" => Some(TextMethod::SplitLines),
-                "substring" => Some(TextMethod::Substring),
-                "underscorify" => Some(TextMethod::Underscorify),
-                "version_compare" => Some(TextMethod::VersionCompare),
-                _ => None,
-            },
-        }
+        named(&TEXT_METHODS, name)
     }
 }
 

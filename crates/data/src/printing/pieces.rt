@@ -1,6 +1,6 @@
 //! What a value is printed as, piece by piece.
 
-ghost use Rattle.std.specs.Prelude.{◌≡◌, ◌++◌, ◌∷◌, [], OnOk, IfOk, MatchOption};
+ghost use Rattle.std.specs.Prelude.{◌≡◌, ◌++◌, ◌∷◌, [], codes, OnOk, IfOk, MatchOption};
 ghost use Rattle.data.specs.Prelude.{data_of, entries_of, items_of};
 ghost use Rattle.data.specs.printing.Printed.{shown};
 ghost use Rattle.data.specs.printing.Pieces.{pieces, inside_pieces, item_pieces, entry_pieces, whole};
@@ -172,9 +172,16 @@ impl<'v> Printer<'v> {
             values,
             is_first: false,
         })?;
+        self.push_entry(key, value)?;
+        Ok(Piece::Text(if is_first { "'" } else { ", '" }))
+    }
+
+    // A key, behind its first `'`, and its value.
+    fn push_entry(&mut self, key: &'v Text, value: &'v Value) -> Result<(), AllocError>
+        ensures { OnOk result (self.new ≡ key.entry.now ∷ codes "' : " ∷ (inside_pieces (data_of value.entry.now) ++ self.old)) }
+    {
         self.push(Part::Value(value))?;
         self.push(Part::Text("' : "))?;
-        self.push(Part::Text(key.as_str()))?;
-        Ok(Piece::Text(if is_first { "'" } else { ", '" }))
+        self.push(Part::Text(key.as_str()))
     }
 }

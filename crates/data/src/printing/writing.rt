@@ -3,6 +3,7 @@
 ghost use Rattle.std.specs.Prelude.{◌≡◌, true, false, IfOk, MatchOption, Ok};
 ghost use Rattle.data.specs.Prelude.{Appends, data_of};
 ghost use Rattle.data.specs.printing.Printed.{is_plain, printed, shown};
+ghost use Rattle.data.specs.printing.Pieces.{whole};
 ghost use Rattle.data.specs.printing.Parts.{piece_bytes};
 
 use crate::printing::pieces::{Piece, Printer};
@@ -70,8 +71,19 @@ fn write_pieces(
 ) -> Result<Result<(), Refusal>, AllocError>
     ensures { IfOk result (λ r. Appends text.old (shown (data_of value.now)) text.new r) }
 {
-    let _within = text.as_str();
     let mut printer = Printer::new(alloc, value)?;
+    write_left(alloc, text, &mut printer)
+}
+
+// Puts all that is left to be printed behind a text.
+fn write_left(
+    alloc: Global,
+    text: &mut Text,
+    printer: &mut Printer<'_>,
+) -> Result<Result<(), Refusal>, AllocError>
+    ensures { IfOk result (λ r. Appends text.old (whole printer.old) text.new r) }
+{
+    let _within = text.as_str();
     while let Some(piece) = printer.next()? {
         if let Err(refusal) = push_piece(alloc, text, piece)? {
             return Ok(Err(refusal));

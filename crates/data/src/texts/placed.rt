@@ -35,14 +35,25 @@ pub fn segments(alloc: Global, places: Places, text: &str) -> Result<Vec<Segment
     ensures spelled { IfOk result (λ ss. flat_map spelled (map segment_data ss.items) ≡ text.now) }
 {
     let mut found = Vec::new(alloc);
+    push_segments(&mut found, places, text)?;
+    Ok(found)
+}
+
+// Puts the segments of a text behind others.
+fn push_segments<'t>(
+    found: &mut Vec<Segment<'t>>,
+    places: Places,
+    text: &'t str,
+) -> Result<(), AllocError>
+    ensures { OnOk result (map segment_data found.new.items ≡ map segment_data found.old.items ++ segments places text.now) }
+{
     let mut rest = text;
     while let Some((before, name, after)) = first_place(places, rest) {
-        push_text(&mut found, before)?;
+        push_text(found, before)?;
         found.push(Segment::Place(name))?;
         rest = after;
     }
-    push_text(&mut found, rest)?;
-    Ok(found)
+    push_text(found, rest)
 }
 
 /// The number that the digits of a place write, where a `usize` holds it.

@@ -1,6 +1,6 @@
 //! Texts cut into pieces, which are slices of the text.
 
-ghost use Rattle.std.specs.Prelude.{◌≡◌, false, All, IfOk};
+ghost use Rattle.std.specs.Prelude.{◌≡◌, [], map, false, All, IfOk, MatchResult, Ok, Err};
 ghost use Rattle.data.specs.texts.Pieces.{words, lines, split_at, within_items};
 ghost use Rattle.data.specs.texts.Cut.{pieces, CanCut};
 ghost use Rattle.data.specs.texts.Search.{contains};
@@ -61,6 +61,24 @@ fn cut_up<'a>(
     ensures { IfOk result (λ r. pieces_in r ≡ within_items (pieces cut.entry text.now)) }
 {
     let mut found = Vec::new(alloc);
+    match push_pieces(&mut found, text, cut)? {
+        Ok(()) => Ok(Ok(found)),
+        Err(refusal) => Ok(Err(refusal)),
+    }
+}
+
+// Puts the pieces of a text where there is none yet.
+fn push_pieces<'a>(
+    found: &mut Vec<&'a str>,
+    text: &'a str,
+    cut: Cut<'_>,
+) -> Result<Result<(), Refusal>, AllocError>
+    requires cut { CanCut cut }
+    requires none { found.old.items ≡ [] }
+    ensures { IfOk result (λ r. MatchResult r
+        (λ _. Ok (map (λ piece. piece.now) found.new.items) ≡ within_items (pieces cut.entry text.now))
+        (λ e. Err e ≡ within_items (pieces cut.entry text.now))) }
+{
     let mut rest = text;
     while let Some((piece, after)) = cut.first(rest) {
         if found.len() == ITEMS {
@@ -72,5 +90,5 @@ fn cut_up<'a>(
         };
         rest = after;
     }
-    Ok(Ok(found))
+    Ok(Ok(()))
 }

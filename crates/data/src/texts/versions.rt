@@ -62,22 +62,15 @@ fn split_condition(condition: &[u8]) -> (Relation, &[u8])
     ensures relation { result.0 ≡ relation_of condition.now }
     ensures version { result.1.now ≡ drop (sign_length condition.now) condition.now }
 {
-    if let Some(other) = condition.strip_prefix(b">=") {
-        (Relation::AtLeast, other)
-    } else if let Some(other) = condition.strip_prefix(b"<=") {
-        (Relation::AtMost, other)
-    } else if let Some(other) = condition.strip_prefix(b"!=") {
-        (Relation::NotEqual, other)
-    } else if let Some(other) = condition.strip_prefix(b"==") {
-        (Relation::Equal, other)
-    } else if let Some(other) = condition.strip_prefix(b"=") {
-        (Relation::Equal, other)
-    } else if let Some(other) = condition.strip_prefix(b">") {
-        (Relation::Above, other)
-    } else if let Some(other) = condition.strip_prefix(b"<") {
-        (Relation::Below, other)
-    } else {
-        (Relation::Equal, condition)
+    match condition {
+        [b'>', b'=', other @ ..] => (Relation::AtLeast, other),
+        [b'<', b'=', other @ ..] => (Relation::AtMost, other),
+        [b'!', b'=', other @ ..] => (Relation::NotEqual, other),
+        [b'=', b'=', other @ ..] => (Relation::Equal, other),
+        [b'=', other @ ..] => (Relation::Equal, other),
+        [b'>', other @ ..] => (Relation::Above, other),
+        [b'<', other @ ..] => (Relation::Below, other),
+        _ => (Relation::Equal, condition),
     }
 }
 
