@@ -26,7 +26,13 @@ pub(crate) struct Paths {
     beside: String,
 }
 
-// The file beside ends in what no output's name can have: `|` means something else in a `build.ninja`.
+// The path of the file beside this place. It ends in what no output's name can have: `|` means something else in a `build.ninja`.
+fn beside(place: &String) -> Result<String, AllocError> {
+    let mut beside = place.clone()?;
+    beside.push_str("|new")?;
+    Ok(beside)
+}
+
 fn paths_of<R: Files<File = File>>(
     disk: &DiskFolder<'_, R>,
     name: &str,
@@ -34,10 +40,10 @@ fn paths_of<R: Files<File = File>>(
     ensures { IfOk result (λ made. string_bytes made.name ≡ name.now) }
 {
     let place = disk.whole(name)?;
-    let mut beside = place.clone()?;
-    beside.push_str("|new")?;
+    let beside = beside(&place)?;
+    let name = String::from_str(disk.alloc, name)?;
     Ok(Paths {
-        name: String::from_str(disk.alloc, name)?,
+        name,
         place,
         beside,
     })
@@ -52,6 +58,16 @@ fn make_file<R: Files>(files: &R, path: &str) -> io::Result<R::File> {
     File::create_new(files, path)
 }
 
+// Makes the folders that an output of these paths needs, and begins the file beside its place.
+fn begin_file<R: Files<File = File>>(
+    disk: &DiskFolder<'_, R>,
+    paths: &Paths,
+) -> io::Result<BufWriter<File>> {
+    disk.make_folders_of(paths.name.as_str())?;
+    let file = make_file(disk.files, paths.beside.as_str())?;
+    BufWriter::with_capacity(disk.alloc, BUFFER, file)
+}
+
 /// Begins the output of this name.
 pub(crate) fn begin_output<R: Files<File = File>>(
     disk: &DiskFolder<'_, R>,
@@ -60,9 +76,7 @@ pub(crate) fn begin_output<R: Files<File = File>>(
     ensures { IfOk result (λ made. string_bytes made.paths.name ≡ name.now) }
 {
     let paths = paths_of(disk, name)?;
-    disk.make_folders_of(name)?;
-    let file = make_file(disk.files, paths.beside.as_str())?;
-    let file = BufWriter::with_capacity(disk.alloc, BUFFER, file)?;
+    let file = begin_file(disk, &paths)?;
     Ok(DiskOutput { paths, file })
 }
 
@@ -96,10 +110,15 @@ fn are_equal<A: Read, B: Read>(alloc: Global, left: &mut A, right: &mut B) -> io
     have_same_bytes(left, right, &mut here, &mut there)
 }
 
+// Whether the first path is a file, and no link, as long as what has the second.
+fn have_same_size<R: Files>(files: &R, left: &str, right: &str) -> io::Result<bool> {
+    let old = fs::symlink_metadata(files, left)?;
+    Ok(old.is_file() && old.len() == fs::metadata(files, right)?.len())
+}
+
 // Whether both paths are files, and no links, with the same bytes.
 fn are_same_files<R: Files>(files: &R, alloc: Global, left: &str, right: &str) -> io::Result<bool> {
-    let old = fs::symlink_metadata(files, left)?;
-    if !old.is_file() || old.len() != fs::metadata(files, right)?.len() {
+    if !have_same_size(files, left, right)? {
         return Ok(false);
     }
     let mut left = fs::open(files, left)?;

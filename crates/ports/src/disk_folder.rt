@@ -30,23 +30,27 @@ fn is_folder<R: Files>(files: &R, path: &str) -> io::Result<bool> {
 // Makes this folder, where it isn't there. What else is there is refused.
 fn make_folder<R: Files>(files: &R, path: &str) -> io::Result<()> {
     match fs::create_dir(files, path) {
-        Err(error) if error.kind() == ErrorKind::AlreadyExists => {
-            if is_folder(files, path)? {
-                return Ok(());
-            }
-            Err(error)
-        }
+        Err(error) if error.kind() == ErrorKind::AlreadyExists => match is_folder(files, path) {
+            Ok(true) => Ok(()),
+            Ok(false) => Err(error),
+            Err(other) => Err(other),
+        },
         made => made,
     }
+}
+
+// Makes the folder that this part names below the path, and goes there.
+fn make_next<R: Files>(files: &R, path: &mut String, part: &str) -> io::Result<()> {
+    path.push_str("/")?;
+    path.push_str(part)?;
+    make_folder(files, path.as_str())
 }
 
 // Makes the folders that these parts name, one below the other, below this one.
 fn make_folders<R: Files>(files: &R, alloc: Global, root: &str, parts: &str) -> io::Result<()> {
     let mut path = String::from_str(alloc, root)?;
     for part in parts.split('/') {
-        path.push_str("/")?;
-        path.push_str(part)?;
-        make_folder(files, path.as_str())?;
+        make_next(files, &mut path, part)?;
     }
     Ok(())
 }
@@ -61,12 +65,13 @@ fn lock_folder<R: Files<File = File>>(files: &R, path: &str) -> io::Result<Optio
     }
 }
 
-// Says that another run has the folder.
-fn tell_of_another_run<F: Write>(folder: &str, faults: &mut F) -> io::Result<()> {
+// Says that another run has the folder, which is an error.
+fn refuse_another_run<F: Write>(folder: &str, faults: &mut F) -> io::Result<()> {
     faults.write_all(b"meson: another run is at work in ")?;
     faults.write_all(folder.as_bytes())?;
     faults.write_all(b"\n")?;
-    faults.flush()
+    faults.flush()?;
+    Err(io::Error::from(ErrorKind::WouldBlock))
 }
 
 impl<'a, R: Files<File = File>> DiskFolder<'a, R> {
@@ -81,15 +86,20 @@ impl<'a, R: Files<File = File>> DiskFolder<'a, R> {
         }
     }
 
+    // The whole path of the folder.
+    fn path(&self) -> Result<String, AllocError> {
+        join(self.alloc, self.root.as_str(), self.folder.as_str())
+    }
+
     /// The whole path of what has this path below the folder.
     pub(crate) fn whole(&self, path: &str) -> Result<String, AllocError> {
-        let folder = join(self.alloc, self.root.as_str(), self.folder.as_str())?;
+        let folder = self.path()?;
         join(self.alloc, folder.as_str(), path)
     }
 
     /// Has the folder for this run alone from now on, where it is there.
     pub(crate) fn claim<F: Write>(&mut self, faults: &mut F) -> io::Result<()> {
-        let path = join(self.alloc, self.root.as_str(), self.folder.as_str())?;
+        let path = self.path()?;
         match is_folder(self.files, path.as_str()) {
             Ok(true) => self.take(faults),
             Ok(false) => Ok(()),
@@ -98,31 +108,35 @@ impl<'a, R: Files<File = File>> DiskFolder<'a, R> {
         }
     }
 
-    /// Makes the folder and has it for this run alone, where it hasn't yet. Where another run has it, that is said, and it is an error.
-    pub(crate) fn take<F: Write>(&mut self, faults: &mut F) -> io::Result<()> {
-        if self.lock.is_some() {
-            return Ok(());
-        }
+    // Makes the folder, opens it and locks it, or answers none where another run has.
+    fn make_and_lock(&self) -> io::Result<Option<File>> {
         make_folders(
             self.files,
             self.alloc,
             self.root.as_str(),
             self.folder.as_str(),
         )?;
-        let path = join(self.alloc, self.root.as_str(), self.folder.as_str())?;
-        self.lock = lock_folder(self.files, path.as_str())?;
-        if self.lock.is_none() {
-            tell_of_another_run(self.folder.as_str(), faults)?;
-            return Err(io::Error::from(ErrorKind::WouldBlock));
+        let path = self.path()?;
+        lock_folder(self.files, path.as_str())
+    }
+
+    /// Makes the folder and has it for this run alone, where it hasn't yet. Where another run has it, that is said, and it is an error.
+    pub(crate) fn take<F: Write>(&mut self, faults: &mut F) -> io::Result<()> {
+        if self.lock.is_some() {
+            return Ok(());
         }
-        Ok(())
+        self.lock = self.make_and_lock()?;
+        if self.lock.is_some() {
+            return Ok(());
+        }
+        refuse_another_run(self.folder.as_str(), faults)
     }
 
     /// Makes the folders that the output of this name needs.
     pub(crate) fn make_folders_of(&self, name: &str) -> io::Result<()> {
         match name.rsplit_once('/') {
             Some((folders, _)) => {
-                let folder = join(self.alloc, self.root.as_str(), self.folder.as_str())?;
+                let folder = self.path()?;
                 make_folders(self.files, self.alloc, folder.as_str(), folders)
             }
             None => Ok(()),
