@@ -1,6 +1,6 @@
 -- Lists of texts.
 use Rattle.std.proofs.Common.{◌≡◌, ℕ, ◌+◌, Bool, true, false, List, [], ◌∷◌, ◌++◌, length, map, take, get_or, ◌<◌, string_bytes, bytes_eq}
-use Rattle.std.proofs.Common.{String, refl, sym, ap, ◌∙◌}
+use Rattle.std.proofs.Common.{String, refl, sym, ap, ◌∙◌, append_assoc}
 use Rattle.std.specs.Prelude.{◌||◌, ◌&&◌, if◌then◌else◌, string_eq}
 use Rattle.std.specs.List.{list_any, list_all}
 use Rattle.std.specs.Global.{Global}
@@ -49,3 +49,16 @@ few_more ks new all i item h at e so_far =
     ∙ ap (λ l. put_new l (string_bytes (get_or all i item))) so_far
     ∙ sym (put_all_new-push [] (texts (take i all)) (string_bytes (get_or all i item)))
     ∙ ap (put_all_new []) (sym (ap texts (take_more all i item h) ∙ map-append string_bytes (take i all) (get_or all i item ∷ [])))
+
+-- one more made of a text, behind those made of the texts before it
+pub mapped_more : {X Z : Type 0} (g : X → Z) (f : Text → Z) (front : List Z) (xs new : List X) (x : X) (ys : List (String Global)) (i : ℕ) (y : String Global)
+    → i < length ys → y ≡ get_or ys i y → g x ≡ f (string_bytes y) → new ≡ xs ++ x ∷ [] → map g xs ≡ front ++ map f (texts (take i ys))
+    → map g new ≡ front ++ map f (texts (take (i + 1) ys))
+mapped_more g f front xs new x ys i y lt at made is so_far =
+    let item = get_or ys i y in
+    ap (map g) is ∙ map-append g xs (x ∷ [])
+    ∙ ap (λ z. map g xs ++ z ∷ []) (made ∙ ap (λ k. f (string_bytes k)) at)
+    ∙ ap (λ l. l ++ f (string_bytes item) ∷ []) so_far
+    ∙ append_assoc front (map f (texts (take i ys))) (f (string_bytes item) ∷ [])
+    ∙ ap (λ l. front ++ l) (sym (ap (λ l. map f (texts l)) (take_more ys i y lt) ∙ ap (map f) (map-append string_bytes (take i ys) (item ∷ []))
+    ∙ map-append f (texts (take i ys)) (string_bytes item ∷ [])))

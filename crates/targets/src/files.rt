@@ -1,5 +1,5 @@
 //! The files that a target makes.
-ghost use Rattle.std.specs.Prelude.{◌≡◌, ◌++◌, map, IfOk, string_bytes, option_map};
+ghost use Rattle.std.specs.Prelude.{◌≡◌, [], ◌∷◌, ◌++◌, bytes_eq, map, IfOk, string_bytes, option_map, if◌then◌else◌};
 ghost use Rattle.targets.specs.edge.Texts.{texts};
 ghost use Rattle.targets.specs.edge.Paths.{object_path};
 ghost use Rattle.paths.specs.Paths.{path_in};
@@ -106,6 +106,20 @@ pub fn file_path(alloc: Global, target: &BuildTarget) -> Result<String, AllocErr
     path_of(alloc, &target.folder, name)
 }
 
+// Appends the name by which a shared library is found, where that isn't the file itself.
+fn push_so_name(names: &mut Vec<String>, target: &BuildTarget) -> Result<(), AllocError>
+    ensures { let t = build_view target.now in
+        let front = if bytes_eq (so_name t) (file_name t) then [] else so_name t ∷ [] in
+        IfOk result (λ _. texts names.new.items ≡ texts names.old.items ++ front) }
+{
+    let by_number = so_name(*names.allocator(), target)?;
+    let file = file_name(*names.allocator(), target)?;
+    if by_number != file {
+        names.push(by_number)?;
+    }
+    Ok(())
+}
+
 // The names that lead to a shared library with a number.
 fn numbered_names(alloc: Global, target: &BuildTarget) -> Result<Vec<String>, AllocError>
     ensures { IfOk result (λ v. texts v.items
@@ -114,11 +128,7 @@ fn numbered_names(alloc: Global, target: &BuildTarget) -> Result<Vec<String>, Al
 {
     let mut names = Vec::new(alloc);
     if so_number(target).is_some() {
-        let by_number = so_name(alloc, target)?;
-        let file = file_name(alloc, target)?;
-        if by_number != file {
-            names.push(by_number)?;
-        }
+        push_so_name(&mut names, target)?;
         names.push(with_number(alloc, &target.name, None)?)?;
     }
     Ok(names)

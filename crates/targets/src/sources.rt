@@ -43,11 +43,12 @@ fn is_header(path: &str) -> bool
 
 // ---- what is compiled
 
-fn push_input(inputs: &mut Vec<Input>, path: String, name: String) -> Result<(), AllocError>
+fn push_input(inputs: &mut Vec<Input>, path: String, name: &String) -> Result<(), AllocError>
     ensures { IfOk result (λ _. map input_view inputs.new.items
-        ≡ map input_view inputs.old.items ++ c_input (record { path = string_bytes path; name = string_bytes name })) }
+        ≡ map input_view inputs.old.items ++ c_input (record { path = string_bytes path; name = string_bytes name.now })) }
 {
-    if is_c(&name) {
+    if is_c(name) {
+        let name = name.clone()?;
         inputs.push(Input { path, name })?;
     }
     Ok(())
@@ -58,7 +59,7 @@ fn push_made(inputs: &mut Vec<Input>, paths: &[String]) -> Result<(), AllocError
         ≡ map input_view inputs.old.items ++ flat_map c_input (map own_input (texts paths.now))) }
 {
     for path in paths {
-        push_input(inputs, path.clone()?, path.clone()?)?;
+        push_input(inputs, path.clone()?, path)?;
     }
     Ok(())
 }
@@ -70,9 +71,9 @@ fn push_source(inputs: &mut Vec<Input>, depth: usize, source: &Source) -> Result
     match source {
         Source::Tree(path) => {
             let seen = source_path(*inputs.allocator(), depth, path)?;
-            push_input(inputs, seen, path.clone()?)
+            push_input(inputs, seen, path)
         }
-        Source::Built(path) => push_input(inputs, path.clone()?, path.clone()?),
+        Source::Built(path) => push_input(inputs, path.clone()?, path),
         Source::Made(paths) => push_made(inputs, paths),
     }
 }
@@ -203,7 +204,7 @@ fn is_foreign(source: &Source) -> bool
 fn has_foreign_in(lists: &Lists) -> bool
     ensures { result ≡ list_any (λ s. is_foreign (source_view s)) lists.now.sources.items }
 {
-    lists.sources.iter().any(|source| is_foreign(source))
+    lists.sources.iter().any(is_foreign)
 }
 
 fn lists_have_foreign(lists: &Lists) -> bool

@@ -45,7 +45,7 @@ fn mark(marks: &mut Vec<bool>, number: usize) -> bool
 fn is_among(numbers: &[u32], number: u32) -> bool
     ensures { result ≡ list_any (nat_eq number) numbers.now }
 {
-    numbers.iter().any(|other| number == *other)
+    numbers.contains(&number)
 }
 
 // Whether the number is kept.

@@ -95,7 +95,7 @@ fn is_writable(edge: &Edge) -> bool
 fn all_writable(edges: &[Edge]) -> bool
     ensures { result ≡ list_all (λ e. is_writable (edge_view e)) edges.now }
 {
-    edges.iter().all(|edge| is_writable(edge))
+    edges.iter().all(is_writable)
 }
 
 /// Whether `build.ninja` can hold each of the edges: each makes something by some command, none of its paths is empty or has a control

@@ -60,11 +60,11 @@ fn build_parts(context: &Context, target: &BuildTarget) -> Result<BuildParts, Al
         (linked_views context.now.earlier.now) context.now.libraries.now (build_view target.now)) }
 {
     let alloc = context.alloc;
-    let inputs = compiled_sources(alloc, context.surroundings.facts.depth, target)?;
-    let file = file_path(alloc, target)?;
-    let rest = file_edges(context, target, &file, &inputs)?;
-    let words = front_words(alloc, context.surroundings, target)?;
     let generated = generated_outputs(alloc, target)?;
+    let words = front_words(alloc, context.surroundings, target)?;
+    let file = file_path(alloc, target)?;
+    let inputs = compiled_sources(alloc, context.surroundings.facts.depth, target)?;
+    let rest = file_edges(context, target, &file, &inputs)?;
     Ok(BuildParts {
         words,
         generated,

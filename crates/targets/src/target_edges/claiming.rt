@@ -135,7 +135,7 @@ fn source_is_held(source: &Source) -> bool
 fn each_is_held(sources: &[Source]) -> bool
     ensures { result ≡ list_all (λ s. source_held (source_view s)) sources.now }
 {
-    sources.iter().all(|source| source_is_held(source))
+    sources.iter().all(source_is_held)
 }
 
 fn sources_are_held(sources: &[Source]) -> bool

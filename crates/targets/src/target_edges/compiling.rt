@@ -8,7 +8,7 @@ ghost use Rattle.targets.specs.target_edges.Words.{option_words, argument_words,
 ghost use Rattle.targets.specs.target_edges.Parts.{front_words};
 
 use crate::edge::{build_folder, copies, first_kept, push_all, push_copies, source_folder};
-use crate::target_edges::words::{Brought, join, push_brought, push_if};
+use crate::target_edges::words::{Brought, push_brought, push_if, push_joined};
 use crate::{BuildTarget, Flags, Surroundings};
 use std::alloc::{AllocError, Global};
 
@@ -18,12 +18,9 @@ use std::alloc::{AllocError, Global};
 fn push_include(words: &mut Vec<String>, depth: usize, folder: &str) -> Result<(), AllocError>
     ensures { IfOk result (λ _. texts words.new.items ≡ texts words.old.items ++ include_words depth folder.now) }
 {
-    let alloc = *words.allocator();
-    let built = build_folder(folder);
-    let source = source_folder(alloc, depth, folder)?;
-    words.push(join(alloc, "-I", built)?)?;
-    words.push(join(alloc, "-I", &source)?)?;
-    Ok(())
+    push_joined(words, "-I", build_folder(folder))?;
+    let source = source_folder(*words.allocator(), depth, folder)?;
+    push_joined(words, "-I", &source)
 }
 
 fn push_includes(
@@ -88,9 +85,7 @@ fn push_value(
     if value == none {
         return Ok(());
     }
-    let word = join(*words.allocator(), front, value)?;
-    words.push(word)?;
-    Ok(())
+    push_joined(words, front, value)
 }
 
 fn push_options(words: &mut Vec<String>, flags: &Flags) -> Result<(), AllocError>

@@ -37,6 +37,14 @@ fn redirect(captures: bool, outputs: &[String]) -> Option<&str>
     if captures { first_of(outputs) } else { None }
 }
 
+// Appends a blank and the path.
+fn push_spaced(text: &mut String, path: &str) -> Result<(), AllocError>
+    ensures { IfOk result (λ _. string_bytes text.new ≡ string_bytes text.old ++ and_path path.now) }
+{
+    text.push_str(" ")?;
+    text.push_str(path)
+}
+
 // The bytes that there is room for before a path is named: those of most descriptions.
 const ROOM: usize = 64;
 
@@ -46,8 +54,7 @@ fn description(alloc: Global, paths: &[String]) -> Result<String, AllocError>
     let mut text = String::with_capacity(alloc, ROOM)?;
     text.push_str("Generating")?;
     for path in paths {
-        text.push_str(" ")?;
-        text.push_str(path)?;
+        push_spaced(&mut text, path)?;
     }
     Ok(text)
 }

@@ -1,5 +1,5 @@
 //! The edges that link and archive objects.
-ghost use Rattle.std.specs.Prelude.{◌≡◌, ◌++◌, ◌&&◌, Some, map, flat_map, IfOk, string_bytes, codes};
+ghost use Rattle.std.specs.Prelude.{◌≡◌, [], ◌∷◌, ◌++◌, ◌&&◌, None, Some, map, flat_map, IfOk, string_bytes, codes};
 ghost use Rattle.std.specs.List.{list_all};
 ghost use Rattle.targets.specs.edge.Holding.{is_path as is_path_of, is_writable, value_held};
 ghost use Rattle.targets.specs.edge.Texts.{texts};
@@ -18,7 +18,7 @@ use crate::edge::{
     push_text, strings,
 };
 use crate::target_edges::way::push_way;
-use crate::target_edges::words::{Brought, join, push_brought};
+use crate::target_edges::words::{Brought, join, push_brought, push_joined};
 use crate::{BuildTarget, Kind, Linked, Surroundings, build_target_at, file_at, so_name};
 use std::alloc::{AllocError, Global};
 
@@ -175,15 +175,15 @@ fn search_word(alloc: Global, from: &str, to: &str) -> Result<String, AllocError
     Ok(word)
 }
 
-// Such a word for each of the folders.
-fn search_words(alloc: Global, from: &str, folders: &[String]) -> Result<Vec<String>, AllocError>
-    ensures { IfOk result (λ v. texts v.items ≡ map (search_word from.now) (texts folders.now)) }
+// Appends such a word for each of the folders.
+fn push_words_for(words: &mut Vec<String>, from: &str, folders: &[String]) -> Result<(), AllocError>
+    ensures { IfOk result (λ _. texts words.new.items ≡ texts words.old.items ++ map (search_word from.now) (texts folders.now)) }
 {
-    let mut words = Vec::new(alloc);
     for folder in folders {
-        words.push(search_word(alloc, from, folder)?)?;
+        let word = search_word(*words.allocator(), from, folder)?;
+        words.push(word)?;
     }
-    Ok(words)
+    Ok(())
 }
 
 fn push_search_words(
@@ -194,27 +194,17 @@ fn push_search_words(
     ensures { IfOk result (λ _. texts words.new.items
         ≡ texts words.old.items ++ search_words (linked_views context.now.earlier.now) from.now context.now.libraries.now) }
 {
-    let alloc = context.alloc;
-    let all = shared_folders(alloc, context.earlier, context.libraries)?;
-    let folders = first_kept(alloc, &all)?;
-    push_copies(words, &search_words(alloc, from, &folders)?)
-}
-
-// The word that gives a shared library its name.
-fn name_word(alloc: Global, target: &BuildTarget) -> Result<String, AllocError>
-    ensures { IfOk result (λ s. string_bytes s ≡ codes "-Wl,-soname," ++ so_name_of (build_view target.now)) }
-{
-    let name = so_name(alloc, target)?;
-    join(alloc, "-Wl,-soname,", &name)
+    let all = shared_folders(context.alloc, context.earlier, context.libraries)?;
+    let folders = first_kept(context.alloc, &all)?;
+    push_words_for(words, from, &folders)
 }
 
 fn push_if_linked_shared(words: &mut Vec<String>, target: &BuildTarget) -> Result<(), AllocError>
     ensures { IfOk result (λ _. texts words.new.items ≡ texts words.old.items ++ shared_library_words (build_view target.now)) }
 {
     push_all(words, &["-shared", "-fPIC"])?;
-    let name = name_word(*words.allocator(), target)?;
-    words.push(name)?;
-    Ok(())
+    let name = so_name(*words.allocator(), target)?;
+    push_joined(words, "-Wl,-soname,", &name)
 }
 
 fn push_shared(words: &mut Vec<String>, target: &BuildTarget) -> Result<(), AllocError>
@@ -283,6 +273,56 @@ fn link_words(
 
 // ---- edges
 
+// The edge of this rule that makes this file of these inputs by these words.
+fn edge_of(
+    rule: Rule,
+    file: &str,
+    inputs: Vec<String>,
+    words: Vec<String>,
+    doing: &str,
+) -> Result<Edge, AllocError>
+    ensures { IfOk result (λ e. edge_view e ≡ record {
+      rule = rule;
+      outputs = file.now ∷ [];
+      inputs = texts inputs.items;
+      implicit = [];
+      order_only = [];
+      words = texts words.items;
+      redirect = None;
+      description = doing.now ++ file.now;
+      depfile = None;
+    }) }
+{
+    let alloc = *inputs.allocator();
+    let description = join(alloc, doing, file)?;
+    let outputs = strings(alloc, &[file])?;
+    Ok(Edge {
+        rule,
+        outputs,
+        inputs,
+        implicit: Vec::new(alloc),
+        order_only: Vec::new(alloc),
+        words,
+        redirect: None,
+        description,
+        depfile: None,
+    })
+}
+
+fn archive_words(
+    alloc: Global,
+    archiver: &[String],
+    file: &str,
+    objects: &[String],
+) -> Result<Vec<String>, AllocError>
+    ensures { IfOk result (λ v. texts v.items ≡ texts archiver.now ++ (codes "csr" ∷ file.now ∷ texts objects.now)) }
+{
+    let mut words = copies(alloc, archiver)?;
+    push_all(&mut words, &["csr", file])?;
+    push_copies(&mut words, objects)?;
+    Ok(words)
+}
+
 fn archive_edge(
     alloc: Global,
     archiver: &[String],
@@ -291,20 +331,8 @@ fn archive_edge(
 ) -> Result<Edge, AllocError>
     ensures { IfOk result (λ e. edge_view e ≡ archiving (texts archiver.now) file.now (texts objects.items)) }
 {
-    let mut words = copies(alloc, archiver)?;
-    push_all(&mut words, &["csr", file])?;
-    push_copies(&mut words, &objects)?;
-    Ok(Edge {
-        rule: Rule::Ar,
-        outputs: strings(alloc, &[file])?,
-        inputs: objects,
-        implicit: Vec::new(alloc),
-        order_only: Vec::new(alloc),
-        words,
-        redirect: None,
-        description: join(alloc, "Archiving ", file)?,
-        depfile: None,
-    })
+    let words = archive_words(alloc, archiver, file, &objects)?;
+    edge_of(Rule::Ar, file, objects, words, "Archiving ")
 }
 
 fn link_edge(
@@ -319,20 +347,11 @@ fn link_edge(
         (texts objects.items)) file.now (texts objects.items)
         (library_files (linked_views context.now.earlier.now) context.now.libraries.now)) }
 {
-    let alloc = context.alloc;
-    let libraries = library_files(alloc, context.earlier, context.libraries)?;
+    let libraries = library_files(context.alloc, context.earlier, context.libraries)?;
     let words = link_words(context, target, file, &objects, &libraries)?;
-    Ok(Edge {
-        rule: Rule::CLink,
-        outputs: strings(alloc, &[file])?,
-        inputs: objects,
-        implicit: libraries,
-        order_only: Vec::new(alloc),
-        words,
-        redirect: None,
-        description: join(alloc, "Linking target ", file)?,
-        depfile: None,
-    })
+    let mut edge = edge_of(Rule::CLink, file, objects, words, "Linking target ")?;
+    edge.implicit = libraries;
+    Ok(edge)
 }
 
 /// The edge that makes the target's file of its objects.
@@ -424,17 +443,9 @@ pub fn file_is_held(
 fn naming_edge(alloc: Global, file: &str, name: &str, link: &str) -> Result<Edge, AllocError>
     ensures { IfOk result (λ e. edge_view e ≡ naming file.now name.now link.now) }
 {
-    Ok(Edge {
-        rule: Rule::Symlink,
-        outputs: strings(alloc, &[link])?,
-        inputs: strings(alloc, &[file])?,
-        implicit: Vec::new(alloc),
-        order_only: Vec::new(alloc),
-        words: strings(alloc, &["ln", "-f", "-s", name, link])?,
-        redirect: None,
-        description: join(alloc, "Linking name ", link)?,
-        depfile: None,
-    })
+    let words = strings(alloc, &["ln", "-f", "-s", name, link])?;
+    let inputs = strings(alloc, &[file])?;
+    edge_of(Rule::Symlink, link, inputs, words, "Linking name ")
 }
 
 /// The edges that make these symbolic links to the file of this name.

@@ -1,5 +1,5 @@
 //! Words of commands.
-ghost use Rattle.std.specs.Prelude.{◌≡◌, ◌++◌, IfOk, string_bytes};
+ghost use Rattle.std.specs.Prelude.{◌≡◌, [], ◌∷◌, ◌++◌, IfOk, string_bytes};
 ghost use Rattle.targets.specs.edge.Texts.{texts};
 ghost use Rattle.targets.specs.Sources.{brought};
 ghost use Rattle.targets.specs.View.{build_view, lists_view};
@@ -17,6 +17,15 @@ pub fn join(alloc: Global, front: &str, end: &str) -> Result<String, AllocError>
     whole.push_str(front)?;
     whole.push_str(end)?;
     Ok(whole)
+}
+
+/// Appends one text behind another as a word.
+pub fn push_joined(words: &mut Vec<String>, front: &str, end: &str) -> Result<(), AllocError>
+    ensures { IfOk result (λ _. texts words.new.items ≡ texts words.old.items ++ (front.now ++ end.now) ∷ []) }
+{
+    let word = join(*words.allocator(), front, end)?;
+    words.push(word)?;
+    Ok(())
 }
 
 /// Appends the word where the test holds.

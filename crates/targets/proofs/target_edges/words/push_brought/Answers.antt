@@ -1,10 +1,11 @@
-use Rattle.std.proofs.Common.{◌≡◌, ◌<◌, ◌+◌, ◌++◌, ◌∷◌, ◌∙◌, ℕ, List, [], ap, arith, get_or, length, sym, take}
+use Rattle.std.proofs.Common.{◌≡◌, ◌<◌, ◌≤◌, ◌+◌, ◌++◌, ◌∷◌, ◌∙◌, ℕ, List, [], ap, get_or, length, subst, sym, take}
 use Rattle.std.specs.Prelude.{flat_map}
-use Rattle.std.proofs.lemmas.Grind.{common_steps}
-use Rattle.std.proofs.lemmas.List.{flat_map_more, take_more}
-use Rattle.std.proofs.lemmas.List.Folds.{flat_map-map}
+use Rattle.std.proofs.lemmas.List.{flat_map_more, take_all, take_more}
+use Rattle.targets.specs.Data.{ListsData}
+use Rattle.targets.specs.edge.Texts.{texts}
 use Rattle.targets.specs.View.{lists_view}
 use Rattle.targets.specs.target_edges.Words.{texts_of}
+use Rattle.targets.proofs.ListLemmas.{flat_map-map}
 use Rattle.targets.proofs.target_edges.words.push_brought.Goals as goal
 
 -- what the lists up to a place bring, and what the one there does
@@ -14,13 +15,16 @@ one_more f old words new brought xs ys i x same at lt before is after =
     after ∙ ap (λ b. words ++ b) is ∙ ap (λ w. w ++ f x) (before ∙ ap (λ zs. old ++ flat_map f (take i zs)) (sym same)) ∙ flat_map_more f old (take i xs) x
     ∙ ap (λ zs. old ++ flat_map f zs) (ap (λ y. take i xs ++ y ∷ []) at ∙ sym (take_more xs i x lt)) ∙ ap (λ zs. old ++ flat_map f (take (i + 1) zs)) same
 
-pub loop-lists-init : goal.loop-lists-init
-loop-lists-init c = grind (arith, common_steps)
-
 pub loop-lists-preserved : goal.loop-lists-preserved
 loop-lists-preserved c =
     one_more (λ d. texts_of c.args.what (lists_view d.value)) _ _ _ _ c.deref-lists-items.result.now _ c.loop-lists.lists-index c.lists-item.result c.deref-lists-items.ensures.value c.lists-item.is
     c.loop-lists-test.true c.loop-lists.invariant (c.of.ensures ∙ ap (λ l. texts_of c.args.what (lists_view l)) c.deref.ensures) c.in_ok-push_copies.ensures
 
 pub returns : goal.returns
-returns c = grind (arith, common_steps, flat_map-map)
+returns c =
+    let deps = c.args.target.now.dependencies.items in
+    let old = texts c.args.words.now.items in
+    let whole : length deps ≤ c.loop-lists.lists-index = subst (λ ds. length ds ≤ c.loop-lists.lists-index) c.deref-lists-items.ensures.value c.loop-lists-test.false in
+    c.loop-lists.invariant
+    ∙ ap (λ ds. old ++ flat_map (λ d. texts_of c.args.what (lists_view d.value)) ds) (take_all c.loop-lists.lists-index deps whole)
+    ∙ ap (λ ws. old ++ ws) (sym (flat_map-map (λ (l : ListsData). texts_of c.args.what l) (λ l. lists_view l.value) deps))
