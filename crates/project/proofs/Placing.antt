@@ -1,18 +1,18 @@
 -- A project stays whole when it grows.
 use Rattle.std.proofs.Common.{◌≡◌, ℕ, ◌≤◌, Bool, true, false, List, [], ◌∷◌, ◌++◌, length, map, Result, Ok, Err, refl, sym, ap, ◌∙◌, subst}
-use Rattle.std.proofs.Common.{append-nil, append_assoc, arith}
-use Rattle.std.specs.Prelude.{◌&&◌, ◌||◌, not, is_some, Option, Some, None, option_map, OnOk, if◌then◌else◌}
-use Rattle.std.proofs.lemmas.List.{map-append}
+use Rattle.std.proofs.Common.{append-nil, append_assoc, arith, take}
+use Rattle.std.specs.Prelude.{◌&&◌, ◌||◌, not, is_some, Option, Some, None, option_map, OnOk, OnErr, if◌then◌else◌}
+use Rattle.std.proofs.lemmas.List.{map-append, take_at}
 use Rattle.std.proofs.lemmas.List.Concat.{flat_map-append}
-use Rattle.targets.specs.edge.Texts.{Path, holds, put_new}
+use Rattle.targets.specs.edge.Texts.{Path, Text, holds, put_new}
 use Rattle.targets.specs.edge.Data.{EdgeData}
 use Rattle.targets.specs.edge.Holding.{are_writable, is_writable}
 use Rattle.targets.specs.edge.Paths.{is_upward, source_path}
-use Rattle.targets.specs.Data.{SurroundingsData, TargetData}
+use Rattle.targets.specs.Data.{FactsData, SurroundingsData, TargetData}
 use Rattle.targets.specs.Libraries.{LinkedData, linked, linked_after, linked_of}
 use Rattle.targets.specs.target_edges.Edges.{edges_of, edges_after, all_edges}
 use Rattle.project.specs.Laws.{outputs_of, first_taken, times, all_made, all_inside}
-use Rattle.project.specs.World.{WorldData, reserved, taken_of, known_of, taken_in}
+use Rattle.project.specs.World.{AnswerData, InstallData, TestData, WorldData, new_world, reserved, taken_of, known_of, taken_in}
 use Rattle.project.specs.Earlier.{all_refer_back}
 use Rattle.project.specs.Whole.{targets_in, IsWhole, IsNext}
 use Rattle.project.specs.Adding.{place_answer, with_target, after_answer, unless_taken}
@@ -177,6 +177,36 @@ whole_with_present s ls outputs present now kept more w e =
 
 -- ---- nothing yet
 
+pub world_start : (facts : FactsData) (a b : List Text) (ts : List TargetData) (outputs present absent : List Path) (ds : List AnswerData)
+    (is : List InstallData) (tests : List TestData)
+    → a ≡ [] → b ≡ [] → ts ≡ [] → outputs ≡ [] → present ≡ [] → absent ≡ [] → ds ≡ [] → is ≡ [] → tests ≡ []
+    → new_world facts ≡ record {
+      surroundings = record { facts = facts; arguments = a; link_arguments = b };
+      targets = ts;
+      outputs = outputs;
+      present = present;
+      absent = absent;
+      dependencies = ds;
+      installs = is;
+      tests = tests;
+    }
+world_start facts a b ts outputs present absent ds is tests h i j k l m n o p = rw h (rw i (rw j (rw k (rw l (rw m (rw n (rw o (rw p refl))))))))
+
+pub whole_start : (s : SurroundingsData) (ls : List LinkedData) (outputs present kept : List Path) → ls ≡ [] → outputs ≡ [] → kept ≡ reserved
+    → IsWhole s ls outputs present kept
+whole_start s ls outputs present kept none empty e =
+    let whole : IsWhole s [] [] present kept = record {
+      libraries = refl;
+      paths = λ p. ap (holds p) e;
+      once = once_more [] reserved (λ p. omega arith) refl;
+      made = refl;
+      inside = refl;
+      outputs_inside = refl;
+      writable = refl;
+      back = refl;
+    } in
+    subst (λ x. IsWhole s x outputs present kept) (sym none) (subst (λ x. IsWhole s [] x present kept) (sym empty) whole)
+
 pub whole_same : (s : SurroundingsData) (ls now_ls : List LinkedData) (outputs present kept now : List Path) → IsWhole s ls outputs present kept → now_ls ≡ ls → now ≡ kept → IsWhole s now_ls outputs present now
 whole_same s ls now_ls outputs present kept now w a b = subst (λ x. IsWhole s x outputs present now) (sym a) (subst (λ x. IsWhole s ls outputs present x) (sym b) w)
 
@@ -222,10 +252,18 @@ after_ok r n then_ before e = ap (λ x. after_answer x then_ before) e
 pub after_err : (r : Result ℕ RefusedData) (why : RefusedData) (then_ before : WorldData) → r ≡ Err why → after_answer r then_ before ≡ before
 after_err r why then_ before e = ap (λ x. after_answer x then_ before) e
 
--- what is so anyway is so where it went well
+-- what is so anyway is so where it went well, and where it did not
 pub on_ok : {A E P : Type 0} (r : Result A E) → P → OnOk r P
 on_ok (Ok a) p = p
 on_ok (Err e) p = tt
+
+pub on_err : {A E P : Type 0} (r : Result A E) → P → OnErr r P
+on_err (Ok a) p = tt
+on_err (Err e) p = p
+
+-- what was pushed is taken off again
+pub taken_off : {X : Type 0} (xs pushed new : List X) (x : X) (n : ℕ) → pushed ≡ xs ++ x ∷ [] → n ≡ length xs → new ≡ take n pushed → new ≡ xs
+taken_off xs pushed new x n p l e = e ∙ ap (take n) p ∙ take_at xs (x ∷ []) n (sym l)
 
 pub world_with : (s : SurroundingsData) (ls : List LinkedData) (outputs : List Path) (notes : NotesData) (l : LinkedData) (w : WorldData) → world_of s ls outputs notes ≡ w
     → world_of s (ls ++ l ∷ []) outputs notes ≡ with_target w l.target

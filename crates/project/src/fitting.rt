@@ -217,7 +217,7 @@ fn has_c_in(source: &Source) -> bool
 fn have_c(sources: &[Source]) -> bool
     ensures { result ≡ list_any (λ s. has_c_in (source_view s)) sources.now }
 {
-    sources.iter().any(|source| has_c_in(source))
+    sources.iter().any(has_c_in)
 }
 
 fn bring_c(target: &BuildTarget) -> bool

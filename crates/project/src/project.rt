@@ -19,7 +19,7 @@ ghost use Rattle.targets.specs.edge.Holding.{are_writable};
 ghost use Rattle.paths.specs.Paths.{path_in as path_of};
 ghost use Rattle.targets.specs.Files.{default_paths};
 ghost use Rattle.project.specs.Laws.{AtMostOnce, all_made, Reaches};
-ghost use Rattle.project.specs.World.{new_world, edges_in, known_in, taken_in};
+ghost use Rattle.project.specs.World.{new_world, edges_in, known_in, reserved, taken_in};
 ghost use Rattle.project.specs.Refused.{answer_data};
 ghost use Rattle.targets.specs.target_edges.Claims.{AreClaims};
 ghost use Rattle.targets.specs.target_edges.Edges.{target_edges as target_edges_of, edges_of};
@@ -113,9 +113,7 @@ impl Project {
     pub fn new(alloc: Global, facts: Facts) -> Result<Self, AllocError>
         ensures { IfOk result (λ p. p ≡ new_world (facts_view facts)) }
     {
-        let reserved = strings(alloc, &["all", "build.ninja", "meson-info/introspect.json"])?;
-        let mut taken = new_set(alloc);
-        let _taken = claim(&mut taken, &reserved, &[], true)?;
+        let taken = reserved_paths(alloc)?;
         Ok(Project {
             alloc,
             surroundings: Surroundings {
@@ -431,6 +429,16 @@ impl Project {
     {
         &self.notes.tests
     }
+}
+
+// The set of the paths that are reserved.
+fn reserved_paths(alloc: Global) -> Result<SipSet<String>, AllocError>
+    ensures { IfOk result (λ taken. texts taken.keys ≡ reserved) }
+{
+    let reserved = strings(alloc, &["all", "build.ninja", "meson-info/introspect.json"])?;
+    let mut taken = new_set(alloc);
+    let _taken = claim(&mut taken, &reserved, &[], true)?;
+    Ok(taken)
 }
 
 // Appends copies of the strings, or leaves the list as it was.

@@ -1,6 +1,5 @@
-use Rattle.std.proofs.Common.{◌≡◌, List, [], ◌∷◌, ◌++◌, length, Some, None, Ok, Err, sym, ap, ◌∙◌, subst, rules, arith}
+use Rattle.std.proofs.Common.{◌≡◌, List, [], ◌∷◌, ◌++◌, length, Some, None, Ok, Err, sym, ap, ◌∙◌, subst, rules}
 use Rattle.std.specs.Prelude.{◌&&◌, is_some, not, if◌then◌else◌}
-use Rattle.std.proofs.lemmas.Grind.{common_steps}
 use Rattle.std.proofs.lemmas.List.{length-map}
 use Rattle.std.proofs.lemmas.Result.{IfOk-weaker}
 use Rattle.targets.specs.edge.Texts.{texts}
@@ -17,7 +16,7 @@ use Rattle.project.specs.Adding.{place_answer, with_target}
 use Rattle.project.specs.Refused.{answer_data, refused}
 use Rattle.project.specs.declared.refusal.Refusal.TheVariants.{Limit, Duplicate}
 use Rattle.project.proofs.Placing.{whole_next, whole_same, free_is, place_ok, place_long, place_twice, placed_kept, placed_back}
-use Rattle.project.proofs.Placing.{placed_twice, after_ok, after_err, on_ok, told_none, told_path, world_with}
+use Rattle.project.proofs.Placing.{placed_twice, after_ok, after_err, on_ok, on_err, taken_off, told_none, told_path, world_with}
 use Rattle.project.proofs.Reading.{asked_last, targets_are, views-push}
 use Rattle.project.proofs.project.Project.place.Goals as goal
 
@@ -52,7 +51,7 @@ invariant_of-self-else-within c =
     let given : texts c.args.objects.now ++ texts c.deref.result.now ≡ ps = ap (λ o. texts c.args.objects.now ++ o)
     (ap texts c.deref.ensures.value ∙ asked_last c.self.inside.linked.items c.push.new.self.items c.args.one c.index.result.now c.len-number.result c.in_ok-push.ensures.items (search rules) c.index.ensures) in
     let back : linked_views c.truncate.new.self.items ≡ ls =
-    let is : c.truncate.new.self.items ≡ c.self.inside.linked.items = grind (arith, common_steps) in ap linked_views is in
+    ap linked_views (taken_off c.self.inside.linked.items c.push.new.self.items c.truncate.new.self.items c.args.one c.len-number.result c.in_ok-push.ensures.items (search rules) c.truncate.ensures.items) in
     whole_same s ls (linked_views c.truncate.new.self.items) outputs notes.present kept now c.self.invariant back
     (placed_back kept ps now c.in-Ok-None.field-0 c.args.within (c.in-Ok-None.ensures.added ∙ ap (λ qs. if not (is_some c.in-Ok-None.field-0) && c.args.within then kept ++ qs else kept) given) c.in-Ok-None.field-0-is c.if-within.false)
 
@@ -69,7 +68,7 @@ invariant_of-self-in-Ok-Some c =
     let given : texts c.args.objects.now ++ texts c.deref.result.now ≡ ps = ap (λ o. texts c.args.objects.now ++ o)
     (ap texts c.deref.ensures.value ∙ asked_last c.self.inside.linked.items c.push.new.self.items c.args.one c.index.result.now c.len-number.result c.in_ok-push.ensures.items (search rules) c.index.ensures) in
     let back : linked_views c.truncate-in-Ok-Some.new.self.items ≡ ls =
-    let is : c.truncate-in-Ok-Some.new.self.items ≡ c.self.inside.linked.items = grind (arith, common_steps) in ap linked_views is in
+    ap linked_views (taken_off c.self.inside.linked.items c.push.new.self.items c.truncate-in-Ok-Some.new.self.items c.args.one c.len-number.result c.in_ok-push.ensures.items (search rules) c.truncate-in-Ok-Some.ensures.items) in
     whole_same s ls (linked_views c.truncate-in-Ok-Some.new.self.items) outputs notes.present kept now c.self.invariant back
     (placed_twice kept ps now c.in-Ok-Some.field-0 c.args.within (c.in-Ok-Some.ensures.added ∙ ap (λ qs. if not (is_some c.in-Ok-Some.field-0) && c.args.within then kept ++ qs else kept) given) c.in-Ok-Some.field-0-is)
 
@@ -82,7 +81,7 @@ invariant_of-self-in-Err c =
     let kept = texts c.self.inside.taken.keys in
     let now = texts c.claim.new.paths.keys in
     let back : linked_views c.truncate-in-Err.new.self.items ≡ ls =
-    let is : c.truncate-in-Err.new.self.items ≡ c.self.inside.linked.items = grind (arith, common_steps) in ap linked_views is in
+    ap linked_views (taken_off c.self.inside.linked.items c.push.new.self.items c.truncate-in-Err.new.self.items c.args.one c.len-number.result c.in_ok-push.ensures.items (search rules) c.truncate-in-Err.ensures.items) in
     whole_same s ls (linked_views c.truncate-in-Err.new.self.items) outputs notes.present kept now c.self.invariant back (ap texts c.in-Err.ensures.err)
 
 pub returns-then-within-clause-answer : goal.returns-then-within-clause-answer
@@ -154,7 +153,7 @@ returns-else-within-clause-ok c =
     let free : first_taken (taken_in w) ps ≡ None =
     ap (λ (x : WorldData). first_taken (taken_in x) ps) (sym c.self.view_is) ∙ free_is s ls outputs notes.present kept ps None c.self.invariant (told_none _ (c.in-Ok-None.ensures.tested ∙ ap (first_taken kept) given) c.in-Ok-None.field-0-is) in
     let back : linked_views c.truncate.new.self.items ≡ ls =
-    let is : c.truncate.new.self.items ≡ c.self.inside.linked.items = grind (arith, common_steps) in ap linked_views is in
+    ap linked_views (taken_off c.self.inside.linked.items c.push.new.self.items c.truncate.new.self.items c.args.one c.len-number.result c.in_ok-push.ensures.items (search rules) c.truncate.ensures.items) in
     on_ok c.refuse.result (ap (λ x. world_of s x outputs notes) back ∙ c.self.view_is
     ∙ sym (after_err (place_answer w ps c.args.within) (refused Limit []) (with_target w l.target) w (place_long w ps c.args.within free c.if-within.false)))
 
@@ -190,24 +189,45 @@ returns-in-Ok-Some-clause-ok c =
     let free : first_taken (taken_in w) ps ≡ Some c.in-Ok-Some.path.now =
     ap (λ (x : WorldData). first_taken (taken_in x) ps) (sym c.self.view_is) ∙ free_is s ls outputs notes.present kept ps (Some c.in-Ok-Some.path.now) c.self.invariant (told_path _ (c.in-Ok-Some.ensures.tested ∙ ap (first_taken kept) given) c.in-Ok-Some.field-0-is) in
     let back : linked_views c.truncate-in-Ok-Some.new.self.items ≡ ls =
-    let is : c.truncate-in-Ok-Some.new.self.items ≡ c.self.inside.linked.items = grind (arith, common_steps) in ap linked_views is in
+    ap linked_views (taken_off c.self.inside.linked.items c.push.new.self.items c.truncate-in-Ok-Some.new.self.items c.args.one c.len-number.result c.in_ok-push.ensures.items (search rules) c.truncate-in-Ok-Some.ensures.items) in
     on_ok c.refuse-answer.result (ap (λ x. world_of s x outputs notes) back ∙ c.self.view_is
     ∙ sym (after_err (place_answer w ps c.args.within) (refused Duplicate c.in-Ok-Some.path.now) (with_target w l.target) w (place_twice w ps c.args.within c.in-Ok-Some.path.now free)))
 
 pub returns-then-within-clause-err : goal.returns-then-within-clause-err
-returns-then-within-clause-err c = grind (arith, common_steps)
+returns-then-within-clause-err c = tt
 
 pub returns-else-within-clause-err : goal.returns-else-within-clause-err
-returns-else-within-clause-err c = grind (arith, common_steps)
+returns-else-within-clause-err c =
+    let s = surroundings_view c.self.inside.surroundings in
+    let ls = linked_views c.self.inside.linked.items in
+    let outputs = texts c.self.inside.outputs.items in
+    let notes = notes_view c.self.inside.notes in
+    let back : linked_views c.truncate.new.self.items ≡ ls =
+    ap linked_views (taken_off c.self.inside.linked.items c.push.new.self.items c.truncate.new.self.items c.args.one c.len-number.result c.in_ok-push.ensures.items (search rules) c.truncate.ensures.items) in
+    on_err c.refuse.result (ap (λ x. world_of s x outputs notes) back ∙ c.self.view_is)
 
 pub returns-in-Ok-Some-clause-err : goal.returns-in-Ok-Some-clause-err
-returns-in-Ok-Some-clause-err c = grind (arith, common_steps)
+returns-in-Ok-Some-clause-err c =
+    let s = surroundings_view c.self.inside.surroundings in
+    let ls = linked_views c.self.inside.linked.items in
+    let outputs = texts c.self.inside.outputs.items in
+    let notes = notes_view c.self.inside.notes in
+    let back : linked_views c.truncate-in-Ok-Some.new.self.items ≡ ls =
+    ap linked_views (taken_off c.self.inside.linked.items c.push.new.self.items c.truncate-in-Ok-Some.new.self.items c.args.one c.len-number.result c.in_ok-push.ensures.items (search rules) c.truncate-in-Ok-Some.ensures.items) in
+    on_err c.refuse-answer.result (ap (λ x. world_of s x outputs notes) back ∙ c.self.view_is)
 
 pub returns-in-Err-clause-answer : goal.returns-in-Err-clause-answer
-returns-in-Err-clause-answer c = grind (arith, common_steps)
+returns-in-Err-clause-answer c = tt
 
 pub returns-in-Err-clause-ok : goal.returns-in-Err-clause-ok
-returns-in-Err-clause-ok c = grind (arith, common_steps)
+returns-in-Err-clause-ok c = tt
 
 pub returns-in-Err-clause-err : goal.returns-in-Err-clause-err
-returns-in-Err-clause-err c = grind (arith, common_steps)
+returns-in-Err-clause-err c =
+    let s = surroundings_view c.self.inside.surroundings in
+    let ls = linked_views c.self.inside.linked.items in
+    let outputs = texts c.self.inside.outputs.items in
+    let notes = notes_view c.self.inside.notes in
+    let back : linked_views c.truncate-in-Err.new.self.items ≡ ls =
+    ap linked_views (taken_off c.self.inside.linked.items c.push.new.self.items c.truncate-in-Err.new.self.items c.args.one c.len-number.result c.in_ok-push.ensures.items (search rules) c.truncate-in-Err.ensures.items) in
+    (ap (λ x. world_of s x outputs notes) back ∙ c.self.view_is)

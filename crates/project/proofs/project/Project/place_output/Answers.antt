@@ -1,5 +1,4 @@
-use Rattle.std.proofs.Common.{◌≡◌, true, List, [], ◌∷◌, ◌++◌, Some, Ok, string_bytes, refl, sym, ap, ◌∙◌, subst, arith, rules}
-use Rattle.std.proofs.lemmas.Grind.{common_steps}
+use Rattle.std.proofs.Common.{◌≡◌, true, List, [], ◌∷◌, ◌++◌, Some, Ok, string_bytes, refl, sym, ap, ◌∙◌, subst, rules}
 use Rattle.std.proofs.lemmas.List.{map-append}
 use Rattle.targets.specs.edge.Texts.{Path, texts}
 use Rattle.targets.specs.LinkedViews.{linked_views}
@@ -10,7 +9,7 @@ use Rattle.project.specs.View.{world_of}
 use Rattle.project.specs.Adding.{after_answer, unless_taken, with_output}
 use Rattle.project.specs.NotesView.{notes_view}
 use Rattle.project.specs.Whole.{IsWhole}
-use Rattle.project.proofs.Placing.{whole_with_output, whole_back, placed_kept, placed_twice, told_none, told_path, free_is, on_ok}
+use Rattle.project.proofs.Placing.{whole_with_output, whole_back, placed_kept, placed_twice, told_none, told_path, free_is, on_ok, on_err, taken_off}
 use Rattle.project.proofs.project.Project.place_output.Goals as goal
 
 pub invariant_of-self-in-Ok-None : goal.invariant_of-self-in-Ok-None
@@ -36,7 +35,8 @@ invariant_of-self-in-Ok-Some c =
     let outputs = texts c.self.inside.outputs.items in
     let kept = texts c.self.inside.taken.keys in
     let now = texts c.claim.new.paths.keys in
-    let back : c.truncate.new.self.items ≡ c.self.inside.outputs.items = grind (arith, common_steps) in
+    let back : c.truncate.new.self.items ≡ c.self.inside.outputs.items =
+    taken_off c.self.inside.outputs.items c.push.new.self.items c.truncate.new.self.items c.args.path c.len-number.result c.in_ok-push.ensures.items (search rules) c.truncate.ensures.items in
     whole_back s ls outputs (texts c.truncate.new.self.items) (notes_view c.self.inside.notes).present kept now c.self.invariant (ap texts back)
     (placed_twice kept (string_bytes c.in_ok-clone.field-0 ∷ []) now c.in-Ok-Some.field-0 true c.in-Ok-Some.ensures.added c.in-Ok-Some.field-0-is)
 
@@ -47,7 +47,8 @@ invariant_of-self-in-Err c =
     let outputs = texts c.self.inside.outputs.items in
     let kept = texts c.self.inside.taken.keys in
     let now = texts c.claim.new.paths.keys in
-    let back : c.truncate-in-Err.new.self.items ≡ c.self.inside.outputs.items = grind (arith, common_steps) in
+    let back : c.truncate-in-Err.new.self.items ≡ c.self.inside.outputs.items =
+    taken_off c.self.inside.outputs.items c.push.new.self.items c.truncate-in-Err.new.self.items c.args.path c.len-number.result c.in_ok-push.ensures.items (search rules) c.truncate-in-Err.ensures.items in
     whole_back s ls outputs (texts c.truncate-in-Err.new.self.items) (notes_view c.self.inside.notes).present kept now c.self.invariant (ap texts back) (ap texts c.in-Err.ensures.err)
 
 pub returns-in-Ok-Some-clause-ok : goal.returns-in-Ok-Some-clause-ok
@@ -64,7 +65,8 @@ returns-in-Ok-Some-clause-ok c =
     let told : Some path ≡ first_taken kept (p ∷ []) = told_path _ c.in-Ok-Some.ensures.tested c.in-Ok-Some.field-0-is ∙ ap (λ q. first_taken kept (q ∷ [])) own in
     let twice : first_taken (taken_in w) (p ∷ []) ≡ Some path =
     ap (λ (x : WorldData). first_taken (taken_in x) (p ∷ [])) (sym c.self.view_is) ∙ free_is s ls outputs notes.present kept (p ∷ []) (Some path) c.self.invariant told in
-    let is : c.truncate.new.self.items ≡ c.self.inside.outputs.items = grind (arith, common_steps) in
+    let is : c.truncate.new.self.items ≡ c.self.inside.outputs.items =
+    taken_off c.self.inside.outputs.items c.push.new.self.items c.truncate.new.self.items c.args.path c.len-number.result c.in_ok-push.ensures.items (search rules) c.truncate.ensures.items in
     on_ok c.refuse.result (ap (λ x. world_of s ls (texts x) notes) is ∙ c.self.view_is
     ∙ sym (ap (λ o. after_answer (unless_taken o (Ok tt)) (with_output w p) w) twice))
 
@@ -105,7 +107,19 @@ pub returns-clause-ok : goal.returns-clause-ok
 returns-clause-ok c = search rules
 
 pub returns-in-Ok-Some-clause-err : goal.returns-in-Ok-Some-clause-err
-returns-in-Ok-Some-clause-err c = grind (arith, common_steps)
+returns-in-Ok-Some-clause-err c =
+    let s = surroundings_view c.self.inside.surroundings in
+    let ls = linked_views c.self.inside.linked.items in
+    let notes = notes_view c.self.inside.notes in
+    let is : c.truncate.new.self.items ≡ c.self.inside.outputs.items =
+    taken_off c.self.inside.outputs.items c.push.new.self.items c.truncate.new.self.items c.args.path c.len-number.result c.in_ok-push.ensures.items (search rules) c.truncate.ensures.items in
+    on_err c.refuse.result (ap (λ x. world_of s ls (texts x) notes) is ∙ c.self.view_is)
 
 pub returns-clause-err : goal.returns-clause-err
-returns-clause-err c = grind (arith, common_steps)
+returns-clause-err c =
+    let s = surroundings_view c.self.inside.surroundings in
+    let ls = linked_views c.self.inside.linked.items in
+    let notes = notes_view c.self.inside.notes in
+    let is : c.truncate-in-Err.new.self.items ≡ c.self.inside.outputs.items =
+    taken_off c.self.inside.outputs.items c.push.new.self.items c.truncate-in-Err.new.self.items c.args.path c.len-number.result c.in_ok-push.ensures.items (search rules) c.truncate-in-Err.ensures.items in
+    ap (λ x. world_of s ls (texts x) notes) is ∙ c.self.view_is
