@@ -57,7 +57,6 @@ impl Drop for Value {
 
 /// A list of at most 65,536 items, 64 levels and weight 33,554,432.
 #[cycle(value)]
-#[derive(Drop)]
 pub struct List {
     items: Vec<Value>,
     // of the items alone
@@ -69,13 +68,36 @@ pub struct List {
 
 /// A dictionary, in order of insertion, of at most 65,536 entries, 64 levels and weight 33,554,432.
 #[cycle(value)]
-#[derive(Drop)]
 pub struct Dictionary {
     keys: Keys,
     // the value of each key, at the key's index
     values: Vec<Value>,
     weight: u64,
     depth: u32,
+}
+
+impl Drop for List {
+    #[cycle(value)]
+    fn drop(self) {
+        let List {
+            items: _,
+            weight: _,
+            depth: _,
+            has_disabler: _,
+        } = self;
+    }
+}
+
+impl Drop for Dictionary {
+    #[cycle(value)]
+    fn drop(self) {
+        let Dictionary {
+            keys: _,
+            values: _,
+            weight: _,
+            depth: _,
+        } = self;
+    }
 }
 
 impl Model for List {

@@ -43,6 +43,26 @@ impl Model for DictionaryBuilder {
     ghost invariant = { IsBuilder };
 }
 
+impl Dictionary {
+    fn into_builder(self) -> DictionaryBuilder
+        ensures same { result ≡ self }
+        ensures within { entries_weight result < 2 ^ 61 }
+    {
+        let Dictionary {
+            keys,
+            values,
+            weight,
+            depth,
+        } = self;
+        DictionaryBuilder {
+            keys,
+            values,
+            weight: weight as u128,
+            depth: Some(depth),
+        }
+    }
+}
+
 impl DictionaryBuilder {
     pub fn new(alloc: Global) -> DictionaryBuilder
         ensures { result ≡ no_entries }
@@ -60,18 +80,7 @@ impl DictionaryBuilder {
         ensures same { result ≡ dictionary }
         ensures within { entries_weight result < 2 ^ 61 }
     {
-        let Dictionary {
-            keys,
-            values,
-            weight,
-            depth,
-        } = dictionary;
-        DictionaryBuilder {
-            keys,
-            values,
-            weight: weight as u128,
-            depth: Some(depth),
-        }
+        dictionary.into_builder()
     }
 
     /// Goes on with a copy of a dictionary.
