@@ -17,8 +17,8 @@ use Rattle.grammar.specs.Reading.{Reader, begins, head_is, or_at, token_at}
 use Rattle.grammar.specs.ReadingExpressions.{asks, atom_at, base_at, chain_at, compares, conjunction_at, disjunction_at, ends_expression}
 use Rattle.grammar.specs.ReadingExpressions.{inner_at, links_on, literal_at, name_at, prefix_of, product_at, single_at, single_of, sum_at}
 use Rattle.grammar.specs.ReadingExpressions.{ternary_at, unary_at}
-use Rattle.grammar.proofs.AtomTails.{comparison_alone}
-use Rattle.grammar.proofs.ExpressionTails.{chain_alone, postfix_alone, some_none, some_same, ternary_alone}
+use Rattle.grammar.proofs.ComparisonTails.{comparison_alone}
+use Rattle.grammar.proofs.ExpressionTails.{chain_alone, postfix_alone, some_none, some_same, ternary_alone, unary_postfix}
 use Rattle.grammar.proofs.Laws.{cases_bool}
 use Rattle.grammar.proofs.Starts.{begins-head}
 use Rattle.grammar.proofs.Steps.{cases_option}
@@ -92,7 +92,7 @@ module _ (n : ℕ) (b : Bool) (t : Lexeme) (rest : List Lexeme) (e : ExpressionT
   unary_alone : Alone (unary_at n b)
   unary_alone =
       let w = single_kind n b t.text t.line rest no_call e t.kind single in
-      postfix_alone n b (t ∷ rest) w.1 e rest w.0 (silent links_on refl rest ending)
+      unary_postfix n b (t ∷ rest) w.1 ∙ postfix_alone (inner_at n) b (t ∷ rest) e rest w.0 (silent links_on refl rest ending)
 
   rank_alone : (f : Kind → Option Operator) → Silent (stands_for f) → (r : Reader ExpressionTree) → Alone r → Alone (chain_at f r)
   rank_alone f s r h = chain_alone f r (t ∷ rest) e rest h (silent (stands_for f) s rest ending)

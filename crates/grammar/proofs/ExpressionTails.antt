@@ -10,9 +10,9 @@ use Rattle.grammar.specs.declared.stop.ReadError.{ReadError}
 use Rattle.grammar.specs.declared.stop.ReadError.TheVariants as errors
 use Rattle.lexer.specs.Kinds.{is}
 use Rattle.lexer.specs.Lexeme.{Lexeme, lexemes}
-use Rattle.grammar.specs.ExpressionTree.{ArgumentTree, ChainTree, DictionaryTree, EntryTree, ListTree, entries, expressions, ExpressionTree}
-use Rattle.grammar.specs.ExpressionTree.{FunctionTree, IndexTree, LinkTree, MethodTree, OperandTree, PostfixTree, PrefixTree, TernaryTree}
-use Rattle.grammar.specs.ExpressionTree.{arguments, links, operands}
+use Rattle.grammar.specs.ExpressionTree.{ArgumentTree, ChainTree, ExpressionTree}
+use Rattle.grammar.specs.ExpressionTree.{LinkTree, OperandTree, PostfixTree, TernaryTree}
+use Rattle.grammar.specs.ExpressionTree.{links, operands}
 use Rattle.grammar.specs.declared.tree.Prefix.{Prefix}
 use Rattle.grammar.specs.declared.tree.Prefix.TheVariants as prefixes
 use Rattle.grammar.proofs.Laws.{cases_bool, cases_result}
@@ -20,16 +20,15 @@ use Rattle.grammar.proofs.Gathered.{head_long, many_none}
 use Rattle.grammar.proofs.Loops.{many_some}
 use Rattle.grammar.proofs.Numbers.{is-true}
 use Rattle.grammar.proofs.Starts.{begins-head}
-use Rattle.grammar.specs.Reading.{Reader, ◌>>=◌, Fails, begins, deep_at, head_is, listed_at, optional_at, or_at, token_at, two_begin}
+use Rattle.grammar.specs.Reading.{Reader, ◌>>=◌, Fails, begins, deep_at, head_is, optional_at, or_at, token_at, two_begin}
 use Rattle.grammar.specs.declared.parser.expression.Rank.{Rank}
 use Rattle.grammar.specs.declared.parser.expression.Rank.TheVariants as ranks
 use Rattle.std.specs.Option.{is_some}
 use Rattle.grammar.specs.declared.tree.Operator.{Operator}
-use Rattle.grammar.specs.Expressions.{comparative, is_named, ternary_tree}
-use Rattle.grammar.specs.Form.{same_state}
+use Rattle.grammar.specs.Expressions.{comparative, ternary_tree}
 use Rattle.grammar.specs.Parts.{after_as, first_line, opened_at, stands_for, taken, token_as_at}
 use Rattle.grammar.specs.ReadingExpressions.{argument_at, atom_at, base_at, branches_at, call_at, chain_at, ternary_at}
-use Rattle.grammar.specs.ReadingExpressions.{comparison_operator_at, dictionary_at, disjunction_at, enter_at, entered_at, entry_at}
+use Rattle.grammar.specs.ReadingExpressions.{comparison_operator_at, dictionary_at, disjunction_at, enter_at, entered_at}
 use Rattle.grammar.specs.ReadingExpressions.{group_at, index_at, inner_at, items_at, link_at, list_at, label_at, links_at, links_on}
 use Rattle.grammar.specs.ReadingExpressions.{method_at, name_colon_at, named_at, not_in_at, operand_at, operands_at, plain_comparison_at}
 use Rattle.grammar.specs.ReadingExpressions.{positional_at, postfix_at, prefix_of, prefixed_at, single_at, unary_at, unary_in_at, word_of}
@@ -156,33 +155,46 @@ module _ (u : Bool → Reader ExpressionTree) (b : Bool) (ts : List Lexeme) wher
   ternary_alone a mid h e = test_of ∙ rw (h, e) refl
 
   module _ (a : ExpressionTree) (mid : List Lexeme) (h : disjunction_at (u b) ts ≡ Ok (a, mid)) (e : (b && begins Kinds.Question mid) ≡ true) where
-    pub ternary_question_fails : (d : ReadError) → Fails d (token_at Kinds.Question mid) → Fails d (ternary_at u b ts)
-    unfolding optional_at or_at branches_at
-    ternary_question_fails errors.Memory g = tt
-    ternary_question_fails (errors.Stop f) g = test_of ∙ rw (h, e, g) refl
+    pub ternary_branches_fail : (d : ReadError) → Fails d (branches_at (disjunction_at (u false)) mid) → Fails d (ternary_at u b ts)
+    unfolding optional_at or_at
+    ternary_branches_fail errors.Memory g = tt
+    ternary_branches_fail (errors.Stop f) g = test_of ∙ rw (h, e, g) refl
 
-    module _ (q : Lexeme) (one_from : List Lexeme) (g : token_at Kinds.Question mid ≡ Ok (q, one_from)) where
-      pub ternary_one_fails : (d : ReadError) → Fails d (disjunction_at (u false) one_from) → Fails d (ternary_at u b ts)
-      unfolding optional_at or_at branches_at
-      ternary_one_fails errors.Memory k = tt
-      ternary_one_fails (errors.Stop f) k = test_of ∙ rw (h, e, g, k) refl
+    pub ternary_asks : (one other : ExpressionTree) (rest : List Lexeme) → branches_at (disjunction_at (u false)) mid ≡ Ok ((one, other), rest)
+        → ternary_at u b ts ≡ Ok (TernaryTree a one other (first_line ts), rest)
+    unfolding optional_at or_at
+    ternary_asks one other rest g = test_of ∙ rw (h, e, g) refl
 
-      module _ (one : ExpressionTree) (behind : List Lexeme) (k : disjunction_at (u false) one_from ≡ Ok (one, behind)) where
-        pub ternary_colon_fails : (d : ReadError) → Fails d (token_at Kinds.Colon behind) → Fails d (ternary_at u b ts)
-        unfolding optional_at or_at branches_at
-        ternary_colon_fails errors.Memory m = tt
-        ternary_colon_fails (errors.Stop f) m = test_of ∙ rw (h, e, g, k, m) refl
+-- ---- the branches of a ternary
 
-        module _ (c : Lexeme) (other_from : List Lexeme) (m : token_at Kinds.Colon behind ≡ Ok (c, other_from)) where
-          pub ternary_other_fails : (d : ReadError) → Fails d (disjunction_at (u false) other_from) → Fails d (ternary_at u b ts)
-          unfolding optional_at or_at branches_at
-          ternary_other_fails errors.Memory o = tt
-          ternary_other_fails (errors.Stop f) o = test_of ∙ rw (h, e, g, k, m, o) refl
+module _ (part : Reader ExpressionTree) (ts : List Lexeme) where
+  pub question_fails : (d : ReadError) → Fails d (token_at Kinds.Question ts) → Fails d (branches_at part ts)
+  unfolding branches_at
+  question_fails errors.Memory g = tt
+  question_fails (errors.Stop f) g = rw g refl
 
-          pub ternary_asks : (other : ExpressionTree) (rest : List Lexeme) → disjunction_at (u false) other_from ≡ Ok (other, rest)
-              → ternary_at u b ts ≡ Ok (TernaryTree a one other (first_line ts), rest)
-          unfolding optional_at or_at branches_at
-          ternary_asks other rest o = test_of ∙ rw (h, e, g, k, m, o) refl
+  module _ (q : Lexeme) (one_from : List Lexeme) (g : token_at Kinds.Question ts ≡ Ok (q, one_from)) where
+    pub one_fails : (d : ReadError) → Fails d (part one_from) → Fails d (branches_at part ts)
+    unfolding branches_at
+    one_fails errors.Memory k = tt
+    one_fails (errors.Stop f) k = rw (g, k) refl
+
+    module _ (one : ExpressionTree) (behind : List Lexeme) (k : part one_from ≡ Ok (one, behind)) where
+      pub branches_colon_fails : (d : ReadError) → Fails d (token_at Kinds.Colon behind) → Fails d (branches_at part ts)
+      unfolding branches_at
+      branches_colon_fails errors.Memory m = tt
+      branches_colon_fails (errors.Stop f) m = rw (g, k, m) refl
+
+      module _ (c : Lexeme) (other_from : List Lexeme) (m : token_at Kinds.Colon behind ≡ Ok (c, other_from)) where
+        pub other_fails : (d : ReadError) → Fails d (part other_from) → Fails d (branches_at part ts)
+        unfolding branches_at
+        other_fails errors.Memory o = tt
+        other_fails (errors.Stop f) o = rw (g, k, m, o) refl
+
+        pub branches_read : (other : ExpressionTree) (rest : List Lexeme) → part other_from ≡ Ok (other, rest)
+            → branches_at part ts ≡ Ok ((one, other), rest)
+        unfolding branches_at
+        branches_read other rest o = rw (g, k, m, o) refl
 
 -- ---- what opens a level
 
@@ -228,12 +240,6 @@ module _ (n : ℕ) (b : Bool) (ts : List Lexeme) where
   unfolding base_at or_at
   base_call e = rw e (ap (λ (q : Reader (List ArgumentTree)). call_at q ts) (opened_is Kinds.OpenParenthesis (λ e. items_at e b) n))
 
-  pub call_reads : (t : Lexeme) (mid : List Lexeme) (xs : List ArgumentTree) (rest : List Lexeme) → two_begin Kinds.Name Kinds.OpenParenthesis ts ≡ true
-      → token_at Kinds.Name ts ≡ Ok (t, mid) → entered_at Kinds.OpenParenthesis n (λ e. items_at e b) mid ≡ Ok (xs, rest)
-      → base_at (inner_at n) b ts ≡ Ok (FunctionTree t.text (arguments xs) t.line, rest)
-  unfolding call_at
-  call_reads t mid xs rest e h g = base_call e ∙ rw (h, g) refl
-
   module _ (no_call : two_begin Kinds.Name Kinds.OpenParenthesis ts ≡ false) where
     base_atom : base_at (inner_at n) b ts ≡ atom_at (inner_at n) b ts
     unfolding base_at or_at
@@ -273,19 +279,6 @@ module _ (n : ℕ) (b : Bool) (ts : List Lexeme) where
   unfolding link_at or_at
   link_index e = rw e (opened_entered Kinds.OpenBracket (λ e. index_at e b) n ts)
 
-  pub method_reads : (d : Lexeme) (after : List Lexeme) (t : Lexeme) (mid : List Lexeme) (xs : List ArgumentTree) (rest : List Lexeme) → begins Kinds.Dot ts ≡ true
-      → token_at Kinds.Dot ts ≡ Ok (d, after) → token_at Kinds.Name after ≡ Ok (t, mid)
-      → entered_at Kinds.OpenParenthesis n (λ e. items_at e b) mid ≡ Ok (xs, rest)
-      → link_at (inner_at n) b ts ≡ Ok (MethodTree t.text (arguments xs), rest)
-  unfolding method_at
-  method_reads d after t mid xs rest e h g f = link_method e ∙ rw (h, g, f) refl
-
-  pub index_reads : (o : Lexeme) (m : ℕ) (inside : List Lexeme) (i : ExpressionTree) (mid : List Lexeme) (c : Lexeme) (rest : List Lexeme) → begins Kinds.Dot ts ≡ false
-      → enter_at Kinds.OpenBracket n ts ≡ Ok ((o, m), inside) → ternary_at (unary_at m) b inside ≡ Ok (i, mid) → token_at Kinds.CloseBracket mid ≡ Ok (c, rest)
-      → link_at (inner_at n) b ts ≡ Ok (IndexTree i, rest)
-  unfolding entered_at index_at
-  index_reads o m inside i mid c rest e h g f = link_index e ∙ rw (h, g, f) refl
-
 unary_inner : (n : ℕ) (b : Bool) (ts : List Lexeme) → unary_at n b ts ≡ unary_in_at (inner_at n) b ts
 unfolding unary_at
 unary_inner zero b ts = refl
@@ -304,7 +297,7 @@ module _ (n : ℕ) (b : Bool) (ts : List Lexeme) where
   unfolding unary_in_at or_at
   unary_other e f = unary_inner n b ts ∙ rw (e, f) refl
 
-  unary_prefixed : (p : Prefix) → prefix_of ts ≡ Some p → unary_at n b ts ≡ entered_at (word_of p) n (λ e. prefixed_at p e b) ts
+  pub unary_prefixed : (p : Prefix) → prefix_of ts ≡ Some p → unary_at n b ts ≡ entered_at (word_of p) n (λ e. prefixed_at p e b) ts
   unary_prefixed p e = elim (cases_bool (begins Kinds.Not ts)) [
     | inl y ↦ let same : prefixes.Not ≡ p = some_same _ _ (sym (rw y refl) ∙ e) in
         subst (λ (q : Prefix). unary_at n b ts ≡ entered_at (word_of q) n (λ i. prefixed_at q i b) ts) same (unary_not y)
@@ -315,26 +308,7 @@ module _ (n : ℕ) (b : Bool) (ts : List Lexeme) where
     ]
   ]
 
-  module _ (p : Prefix) (k : Kind) (found : prefix_of ts ≡ Some p) (word : k ≡ word_of p) where
-    prefixed_is : unary_at n b ts ≡ entered_at k n (λ e. prefixed_at p e b) ts
-    prefixed_is = subst (λ (w : Kind). unary_at n b ts ≡ entered_at w n (λ e. prefixed_at p e b) ts) (sym word) (unary_prefixed p found)
-
-    pub prefixed_word_fails : (d : ReadError) → Fails d (enter_at k n ts) → Fails d (unary_at n b ts)
-    unfolding entered_at
-    prefixed_word_fails errors.Memory h = tt
-    prefixed_word_fails (errors.Stop f) h = prefixed_is ∙ rw h refl
-
-    pub prefixed_value_fails : (o : Lexeme) (m : ℕ) (mid : List Lexeme) (d : ReadError) → enter_at k n ts ≡ Ok ((o, m), mid) → Fails d (unary_at m b mid) → Fails d (unary_at n b ts)
-    unfolding entered_at prefixed_at
-    prefixed_value_fails o m mid errors.Memory e h = tt
-    prefixed_value_fails o m mid (errors.Stop f) e h = prefixed_is ∙ rw (e, h) refl
-
-    pub prefixed_reads : (o : Lexeme) (m : ℕ) (mid : List Lexeme) (a : ExpressionTree) (rest : List Lexeme) → enter_at k n ts ≡ Ok ((o, m), mid) → unary_at m b mid ≡ Ok (a, rest)
-        → unary_at n b ts ≡ Ok (PrefixTree p a o.line, rest)
-    unfolding entered_at prefixed_at
-    prefixed_reads o m mid a rest e h = prefixed_is ∙ rw (e, h) refl
-
-  unary_postfix : prefix_of ts ≡ None → unary_at n b ts ≡ postfix_at (inner_at n) b ts
+  pub unary_postfix : prefix_of ts ≡ None → unary_at n b ts ≡ postfix_at (inner_at n) b ts
   unary_postfix e = elim (cases_bool (begins Kinds.Not ts)) [
     | inl y ↦ absurd (some_none prefixes.Not (sym (rw y refl) ∙ e))
     | inr m ↦ elim (cases_bool (begins Kinds.Minus ts)) [
@@ -343,28 +317,30 @@ module _ (n : ℕ) (b : Bool) (ts : List Lexeme) where
     ]
   ]
 
-  module _ (bare : prefix_of ts ≡ None) where
-    pub postfix_base_fails : (d : ReadError) → Fails d (base_at (inner_at n) b ts) → Fails d (unary_at n b ts)
+-- ---- a value and what is asked of it
+
+module _ (u : Option (Bool → Reader ExpressionTree)) (b : Bool) (ts : List Lexeme) where
+  pub postfix_base_fails : (d : ReadError) → Fails d (base_at u b ts) → Fails d (postfix_at u b ts)
+  unfolding postfix_at
+  postfix_base_fails errors.Memory h = tt
+  postfix_base_fails (errors.Stop f) h = rw h refl
+
+  module _ (a : ExpressionTree) (mid : List Lexeme) (h : base_at u b ts ≡ Ok (a, mid)) where
+    pub postfix_alone : head_is links_on mid ≡ false → postfix_at u b ts ≡ Ok (a, mid)
+    unfolding postfix_at links_at
+    postfix_alone e = rw (h, many_none (head_is links_on) (link_at u b) (length mid) mid e) refl
+
+    pub postfix_links_fail : (d : ReadError) → Fails d (links_at u b mid) → Fails d (postfix_at u b ts)
     unfolding postfix_at
-    postfix_base_fails errors.Memory h = tt
-    postfix_base_fails (errors.Stop f) h = unary_postfix bare ∙ rw h refl
+    postfix_links_fail errors.Memory e = tt
+    postfix_links_fail (errors.Stop f) e = rw (h, e) refl
 
-    module _ (a : ExpressionTree) (mid : List Lexeme) (h : base_at (inner_at n) b ts ≡ Ok (a, mid)) where
-      pub postfix_alone : head_is links_on mid ≡ false → unary_at n b ts ≡ Ok (a, mid)
-      unfolding postfix_at links_at
-      postfix_alone e = unary_postfix bare ∙ rw (h, many_none (head_is links_on) (link_at (inner_at n) b) (length mid) mid e) refl
-
-      pub postfix_links_fail : (d : ReadError) → Fails d (links_at (inner_at n) b mid) → Fails d (unary_at n b ts)
-      unfolding postfix_at
-      postfix_links_fail errors.Memory e = tt
-      postfix_links_fail (errors.Stop f) e = unary_postfix bare ∙ rw (h, e) refl
-
-      pub postfix_more : (ls : List LinkTree) (rest : List Lexeme) → head_is links_on mid ≡ true → links_at (inner_at n) b mid ≡ Ok (ls, rest)
-          → unary_at n b ts ≡ Ok (PostfixTree a (links ls) (first_line ts), rest)
-      unfolding postfix_at links_at
-      postfix_more ls rest e g =
-          let w = many_some (head_is links_on) (link_at (inner_at n) b) mid ls rest e (head_long links_on mid e) g in
-          unary_postfix bare ∙ rw (h, g, w.2) refl
+    pub postfix_more : (ls : List LinkTree) (rest : List Lexeme) → head_is links_on mid ≡ true → links_at u b mid ≡ Ok (ls, rest)
+        → postfix_at u b ts ≡ Ok (PostfixTree a (links ls) (first_line ts), rest)
+    unfolding postfix_at links_at
+    postfix_more ls rest e g =
+        let w = many_some (head_is links_on) (link_at u b) mid ls rest e (head_long links_on mid e) g in
+        rw (h, g, w.2) refl
 
 -- ---- arguments
 
@@ -421,81 +397,6 @@ module _ (r : Reader ExpressionTree) (s : Bool) (ts : List Lexeme) where
       → Fails d (argument_at r s ts)
   argument_value_fails o mid errors.Memory h g = tt
   argument_value_fails o mid (errors.Stop f) h g = argument_is ∙ rw (h, g) refl
-
--- ---- what stands in brackets, with commas
-
-module _ (n : ℕ) (b : Bool) (ts : List Lexeme) (o : Lexeme) (m : ℕ) (inside : List Lexeme) (entered : enter_at Kinds.OpenBracket n ts ≡ Ok ((o, m), inside)) where
-  pub list_stops : (d : ReadError) → Fails d (listed_at Kinds.CloseBracket (λ (s : Unit {0}). ternary_at (unary_at m) b) same_state tt inside) → Fails d (entered_at Kinds.OpenBracket n (λ e. list_at e b) ts)
-  unfolding entered_at list_at
-  list_stops errors.Memory h = tt
-  list_stops (errors.Stop f) h = rw (entered, h) refl
-
-  pub list_unclosed : (es : List ExpressionTree) (after : List Lexeme) (d : ReadError) → listed_at Kinds.CloseBracket (λ (s : Unit {0}). ternary_at (unary_at m) b) same_state tt inside ≡ Ok (es, after) → Fails d (token_at Kinds.CloseBracket after)
-      → Fails d (entered_at Kinds.OpenBracket n (λ e. list_at e b) ts)
-  unfolding entered_at list_at
-  list_unclosed es after errors.Memory h c = tt
-  list_unclosed es after (errors.Stop f) h c = rw (entered, h, c) refl
-
-  pub list_reads : (es : List ExpressionTree) (after : List Lexeme) (c : Lexeme) (rest : List Lexeme) → listed_at Kinds.CloseBracket (λ (s : Unit {0}). ternary_at (unary_at m) b) same_state tt inside ≡ Ok (es, after)
-      → token_at Kinds.CloseBracket after ≡ Ok (c, rest) → entered_at Kinds.OpenBracket n (λ e. list_at e b) ts ≡ Ok (ListTree (expressions es) o.line, rest)
-  unfolding entered_at list_at
-  list_reads es after c rest h t = rw (entered, h, t) refl
-
-module _ (r : Reader ExpressionTree) (ts : List Lexeme) where
-  pub entry_key_fails : (d : ReadError) → Fails d (r ts) → Fails d (entry_at r ts)
-  unfolding entry_at
-  entry_key_fails errors.Memory h = tt
-  entry_key_fails (errors.Stop f) h = rw h refl
-
-  module _ (key : ExpressionTree) (mid : List Lexeme) (h : r ts ≡ Ok (key, mid)) where
-    pub entry_colon_fails : (d : ReadError) → Fails d (token_at Kinds.Colon mid) → Fails d (entry_at r ts)
-    unfolding entry_at
-    entry_colon_fails errors.Memory g = tt
-    entry_colon_fails (errors.Stop f) g = rw (h, g) refl
-
-    module _ (c : Lexeme) (after : List Lexeme) (g : token_at Kinds.Colon mid ≡ Ok (c, after)) where
-      pub entry_value_fails : (d : ReadError) → Fails d (r after) → Fails d (entry_at r ts)
-      unfolding entry_at
-      entry_value_fails errors.Memory e = tt
-      entry_value_fails (errors.Stop f) e = rw (h, g, e) refl
-
-      pub entry_reads : (value : ExpressionTree) (rest : List Lexeme) → r after ≡ Ok (value, rest) → entry_at r ts ≡ Ok ((key, value), rest)
-      unfolding entry_at
-      entry_reads value rest e = rw (h, g, e) refl
-
-module _ (n : ℕ) (b : Bool) (ts : List Lexeme) (o : Lexeme) (m : ℕ) (inside : List Lexeme) (entered : enter_at Kinds.OpenBrace n ts ≡ Ok ((o, m), inside)) where
-  pub dictionary_stops : (d : ReadError) → Fails d (listed_at Kinds.CloseBrace (λ (s : Unit {0}). entry_at (ternary_at (unary_at m) b)) same_state tt inside) → Fails d (entered_at Kinds.OpenBrace n (λ e. dictionary_at e b) ts)
-  unfolding entered_at dictionary_at
-  dictionary_stops errors.Memory h = tt
-  dictionary_stops (errors.Stop f) h = rw (entered, h) refl
-
-  pub dictionary_unclosed : (es : List EntryTree) (after : List Lexeme) (d : ReadError) → listed_at Kinds.CloseBrace (λ (s : Unit {0}). entry_at (ternary_at (unary_at m) b)) same_state tt inside ≡ Ok (es, after) → Fails d (token_at Kinds.CloseBrace after)
-      → Fails d (entered_at Kinds.OpenBrace n (λ e. dictionary_at e b) ts)
-  unfolding entered_at dictionary_at
-  dictionary_unclosed es after errors.Memory h c = tt
-  dictionary_unclosed es after (errors.Stop f) h c = rw (entered, h, c) refl
-
-  pub dictionary_reads : (es : List EntryTree) (after : List Lexeme) (c : Lexeme) (rest : List Lexeme) → listed_at Kinds.CloseBrace (λ (s : Unit {0}). entry_at (ternary_at (unary_at m) b)) same_state tt inside ≡ Ok (es, after)
-      → token_at Kinds.CloseBrace after ≡ Ok (c, rest) → entered_at Kinds.OpenBrace n (λ e. dictionary_at e b) ts ≡ Ok (DictionaryTree (entries es) o.line, rest)
-  unfolding entered_at dictionary_at
-  dictionary_reads es after c rest h t = rw (entered, h, t) refl
-
-module _ (n : ℕ) (b : Bool) (ts : List Lexeme) (o : Lexeme) (m : ℕ) (inside : List Lexeme) (entered : enter_at Kinds.OpenParenthesis n ts ≡ Ok ((o, m), inside)) where
-  pub arguments_stops : (d : ReadError) → Fails d (listed_at Kinds.CloseParenthesis (argument_at (ternary_at (unary_at m) b)) is_named false inside) → Fails d (entered_at Kinds.OpenParenthesis n (λ e. items_at e b) ts)
-  unfolding entered_at items_at
-  arguments_stops errors.Memory h = tt
-  arguments_stops (errors.Stop f) h = rw (entered, h) refl
-
-  pub arguments_unclosed : (es : List ArgumentTree) (after : List Lexeme) (d : ReadError) → listed_at Kinds.CloseParenthesis (argument_at (ternary_at (unary_at m) b)) is_named false inside ≡ Ok (es, after) → Fails d (token_at Kinds.CloseParenthesis after)
-      → Fails d (entered_at Kinds.OpenParenthesis n (λ e. items_at e b) ts)
-  unfolding entered_at items_at
-  arguments_unclosed es after errors.Memory h c = tt
-  arguments_unclosed es after (errors.Stop f) h c = rw (entered, h, c) refl
-
-  pub arguments_reads : (es : List ArgumentTree) (after : List Lexeme) (c : Lexeme) (rest : List Lexeme) → listed_at Kinds.CloseParenthesis (argument_at (ternary_at (unary_at m) b)) is_named false inside ≡ Ok (es, after)
-      → token_at Kinds.CloseParenthesis after ≡ Ok (c, rest) → entered_at Kinds.OpenParenthesis n (λ e. items_at e b) ts ≡ Ok (es, rest)
-  unfolding entered_at items_at
-  arguments_reads es after c rest h t = rw (entered, h, t) refl
 
 -- ---- the order of the calls
 

@@ -1,12 +1,12 @@
 pub mod Alike
 pub mod Alone
 pub mod Atoms
-pub mod AtomTails
 pub mod Binding
 pub mod Blocks
 pub mod BlockTails
 pub mod Chain
 pub mod Chains
+pub mod ComparisonTails
 pub mod TernaryLines
 pub mod Ends
 pub mod ExpressionTails
@@ -20,6 +20,7 @@ pub mod Listed
 pub mod Lists
 pub mod Literal
 pub mod Loops
+pub mod Made
 pub mod Named
 pub mod Numbers
 pub mod Operators

@@ -1,7 +1,7 @@
 -- What the functions that read statements answer, case by case.
 use Rattle.std.proofs.Common.{◌++◌, ◌∙◌, subst, ◌≡◌, ℕ, zero, suc, ◌-◌, ◌≤◌, ◌<◌, Bool, true, false, List, [], ◌∷◌, length, Result, Ok, Err}
-use Rattle.std.proofs.Common.{refl, sym, ap, arith, sub-one, Option, Some, None}
-use Rattle.std.proofs.lemmas.List.{append-nil}
+use Rattle.std.proofs.Common.{refl, sym, ap, arith, map, sub-one, Option, Some, None}
+use Rattle.std.proofs.lemmas.List.{append-nil, map_push}
 use Rattle.std.specs.Prelude.{unwrap_or}
 use Rattle.lexer.specs.declared.token.Token.{Token}
 use Rattle.lexer.specs.declared.token.Kind.{Kind}
@@ -13,8 +13,9 @@ use Rattle.grammar.specs.declared.stop.ReadError.{ReadError}
 use Rattle.grammar.specs.declared.stop.ReadError.TheVariants as errors
 use Rattle.grammar.specs.Statements.{given}
 use Rattle.grammar.specs.ExpressionTree.{ExpressionTree}
-use Rattle.grammar.specs.Tree.{StatementTree, AssignTree, AppendTree, BreakTree, ContinueTree, BranchTree}
-use Rattle.grammar.specs.Reading.{Reader, ◌>>=◌, Fails, begins, deep_at, optional_at, or_at, token_at, two_begin}
+use Rattle.grammar.specs.declared.tree.Statement.{Statement}
+use Rattle.grammar.specs.Tree.{StatementTree, AssignTree, AppendTree, BreakTree, ContinueTree, BranchTree, statement_of}
+use Rattle.grammar.specs.Reading.{Reader, ◌>>=◌, Fails, Gives, GoesOn, begins, deep_at, optional_at, or_at, token_at, two_begin}
 use Rattle.grammar.specs.ReadingExpressions.{expr_at}
 use Rattle.grammar.specs.ReadingStatements.{GivesLine, set_at, plain_at, leave_at, simple_at, ends_line, in_line, maybe_at, in_body}
 use Rattle.grammar.specs.ReadingStatements.{ended_line_at, body_at, elif_at, branch_at, parts_at, last_part_at, otherwise_at, foreach_at}
@@ -140,6 +141,15 @@ module _ (r : Reader StatementTree) (before : List StatementTree) (ts : List Lex
 
   pub line_fails : (e : ReadError) → ends_line ts ≡ false → Fails e (r ts) → Fails e (maybe_at r ts)
   line_fails e b h = optional_fails in_line r ts e (rw b refl) h
+
+-- the statement of a line, put behind the others
+pub line_put : {X : Type 0} (r : Reader StatementTree) (ts : List Lexeme) (old new : List Statement) (read : Result Statement ReadError)
+    (put : Result X ReadError) (rest : List Lexeme) → ends_line ts ≡ false → Gives statement_of read rest (r ts)
+    → GoesOn (λ s x. new ≡ old ++ s ∷ []) read put → GivesLine (map statement_of old) (map statement_of new) put rest (maybe_at r ts)
+line_put r ts old new (Ok s) (Ok x) rest b h g = line_some r (map statement_of old) ts x (statement_of s) (map statement_of new) rest b h (rw g (map_push statement_of old s))
+line_put r ts old new (Ok s) (Err e) rest b h g = subst (λ (d : ReadError). Fails d (maybe_at r ts)) (sym g) (tt {0})
+line_put r ts old new (Err f) (Ok x) rest b h g = absurd g
+line_put r ts old new (Err f) (Err e) rest b h g = subst (λ (d : ReadError). Fails d (maybe_at r ts)) (sym g) (line_fails r (map statement_of old) ts f b h)
 
 -- ---- the parts of an `if`
 

@@ -31,6 +31,13 @@ abbrev pub GivesAll : {X Y : Type 0} → (X → Y) → Result X ReadError → Re
 GivesAll view (Ok x) read = read ≡ Ok (view x)
 GivesAll view (Err e) read = Fails e read
 
+-- What was made of what was read: nothing where reading failed, and with the same error, and else that, unless memory ran out.
+abbrev pub GoesOn : {X Z : Type 0} → (X → Z → Type 0) → Result X ReadError → Result Z ReadError → Type 0
+GoesOn made (Ok x) (Ok z) = made x z
+GoesOn made (Ok x) (Err e) = e ≡ errors.Memory
+GoesOn made (Err f) (Ok z) = ⊥
+GoesOn made (Err f) (Err e) = e ≡ f
+
 -- how many tokens are left where reading stops
 abbrev pub tokens_left : Stop → ℕ
 tokens_left (Unexpected n) = n
@@ -66,6 +73,10 @@ or_at first r s ts = if first ts then r ts else s ts
 
 unfoldable pub optional_at : {A : Type 0} → (List Lexeme → Bool) → Reader A → Reader (Option A)
 optional_at first r ts = or_at first (λ us. r us >>= λ x. Ok (Some x.0, x.1)) (λ us. Ok (None, us)) ts
+
+-- what r reads, and a token of this kind behind it
+unfoldable pub ended_at : {A : Type 0} → Kind → Reader A → Reader A
+ended_at k r ts = r ts >>= λ x. token_at k x.1 >>= λ c. Ok (x.0, c.1)
 
 -- what follows an element of a list, where items reads the rest after a comma
 unfoldable pub tail_at : {A : Type 0} → Reader (List A) → Reader (List A)

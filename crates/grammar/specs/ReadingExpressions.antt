@@ -1,5 +1,5 @@
 -- Reading expressions, as functions.
-use Rattle.std.specs.Prelude.{ℕ, zero, suc, Bool, true, false, cond, ◌||◌, if◌then◌else◌, List, length, Ok, Option, Some, None}
+use Rattle.std.specs.Prelude.{ℕ, zero, suc, Bool, true, false, cond, ◌||◌, if◌then◌else◌, List, [], ◌∷◌, length, Ok, Option, Some, None}
 use Rattle.std.specs.Option.{option_map, option_to_list}
 use Rattle.lexer.specs.Lexeme.{Lexeme}
 use Rattle.lexer.specs.Kinds.{is}
@@ -57,6 +57,10 @@ compared_at part ts = do
   o ← comparison_operator_at ts
   e ← part o.1
   Ok ((o.0, e.0), e.1)
+
+-- a comparison as all that a chain has behind its first part
+unfoldable pub one_compared_at : Reader ExpressionTree → Reader (List OperandTree)
+one_compared_at part ts = compared_at part ts >>= λ o. Ok (o.0 ∷ [], o.1)
 
 -- a comparison goes on
 abbrev pub compares : Kind → Bool
@@ -122,6 +126,10 @@ group_at unary b o ts = do
   c ← token_at Kinds.CloseParenthesis e.1
   Ok (e.0, c.1)
 
+-- the elements of a list, up to its bracket
+unfoldable pub elements_at : (Bool → Reader ExpressionTree) → Bool → Reader (List ExpressionTree)
+elements_at unary b ts = listed_at Kinds.CloseBracket (λ s. ternary_at unary b) same_state tt ts
+
 unfoldable pub list_at : (Bool → Reader ExpressionTree) → Bool → Lexeme → Reader ExpressionTree
 list_at unary b o ts = do
   es ← listed_at Kinds.CloseBracket (λ s. ternary_at unary b) same_state tt ts
@@ -134,6 +142,10 @@ entry_at expr ts = do
   c ← token_at Kinds.Colon k.1
   v ← expr c.1
   Ok ((k.0, v.0), v.1)
+
+-- the entries of a dictionary, up to its brace
+unfoldable pub entries_at : (Bool → Reader ExpressionTree) → Bool → Reader (List EntryTree)
+entries_at unary b ts = listed_at Kinds.CloseBrace (λ s. entry_at (ternary_at unary b)) same_state tt ts
 
 unfoldable pub dictionary_at : (Bool → Reader ExpressionTree) → Bool → Lexeme → Reader ExpressionTree
 dictionary_at unary b o ts = do
@@ -193,6 +205,10 @@ name_colon_at ts = do
 unfoldable pub label_at : Bool → Reader (Option (List ℕ))
 label_at true ts = name_colon_at ts >>= λ x. Ok (Some x.0, x.1)
 label_at false ts = optional_at (two_begin Kinds.Name Kinds.Colon) name_colon_at ts
+
+-- the arguments of a call, up to its parenthesis
+unfoldable pub given_at : (Bool → Reader ExpressionTree) → Bool → Reader (List ArgumentTree)
+given_at unary b ts = listed_at Kinds.CloseParenthesis (argument_at (ternary_at unary b)) is_named false ts
 
 unfoldable pub items_at : (Bool → Reader ExpressionTree) → Bool → Lexeme → Reader (List ArgumentTree)
 items_at unary b o ts = do

@@ -155,6 +155,14 @@ otherwise_at stmt ts = do
   last ← optional_at (begins Kinds.Else) (last_part_at stmt) ts
   Ok (unwrap_or last.0 [], last.1)
 
+-- the parts of an `if` that have a condition, and what stands behind `else`, up to the end
+unfoldable pub alternatives_at : Reader ExpressionTree → Reader StatementTree → Reader (List BranchTree × List StatementTree)
+alternatives_at expr stmt ts = do
+  bs ← parts_at expr stmt ts
+  ss ← otherwise_at stmt bs.1
+  end ← token_at Kinds.EndIf ss.1
+  Ok ((bs.0, ss.0), end.1)
+
 unfoldable pub conditional_at : Reader ExpressionTree → Reader StatementTree → Reader StatementTree
 conditional_at expr stmt ts = do
   w ← token_at Kinds.If ts

@@ -4,7 +4,7 @@ ghost use Rattle.std.specs.Prelude.{◌≡◌, ℕ, ◌+◌, ◌++◌, ◌-◌, 
 ghost use Rattle.lexer.specs.Lexeme.{lexeme_of, lexemes};
 ghost use Rattle.lexer.specs.Answers.{Answers};
 ghost use Rattle.grammar.specs.Parsed.{FrontsAreShorter, HasFault, Spells, line_of, located, parsed};
-ghost use Rattle.grammar.specs.Reading.{Gives, GivesAll, all_of, begins, first_of, tokens_left, token_at};
+ghost use Rattle.grammar.specs.Reading.{Gives, GivesAll, GoesOn, all_of, begins, first_of, tokens_left, token_at};
 ghost use Rattle.grammar.specs.ReadingStatements.{file_at};
 ghost use Rattle.grammar.specs.Tree.{FileTree, file_of, statement_of};
 
@@ -18,7 +18,7 @@ use crate::tree::{File, Statement};
 use lexer::fault::{FaultKind, SyntaxError, SyntaxFault};
 use lexer::token::{Kind, Token};
 use lexer::{newlines, tokens};
-use std::alloc::{AllocError, Global};
+use std::alloc::Global;
 
 /// How many levels may be open: brackets, blocks and prefix operators, one inside another.
 pub const LEVELS: u32 = 64;
@@ -33,12 +33,21 @@ struct Parser<'t, 'a> {
     rest: &'t [Token<'a>],
 }
 
-// Puts an item behind the others.
-fn put<T: Drop>(items: &mut Vec<T>, item: T) -> Result<(), AllocError>
-    ensures { IfOk result (λ _. items.new.items ≡ items.old.items ++ item ∷ []) }
+// Puts what was read behind the others.
+fn put<T: Drop>(items: &mut Vec<T>, read: Read<T>) -> Read<()>
+    ensures { GoesOn (λ item _. items.new.items ≡ items.old.items ++ item ∷ []) read result }
 {
+    let item = read?;
     items.push(item)?;
     Ok(())
+}
+
+// What was read, on the heap.
+fn allocate<T: Drop>(alloc: Global, read: Read<T>) -> Read<Box<T>>
+    ensures { GoesOn (λ value b. b.value ≡ value) read result }
+{
+    let value = read?;
+    Ok(Box::new(alloc, value)?)
 }
 
 // The items, in no more memory than they need: a tree stands for long, and most of its lists are short.

@@ -1,13 +1,14 @@
 //! Reads atoms: names, literals, and what stands in brackets.
 
-ghost use Rattle.std.specs.Prelude.{Bool, IfSome, Ok, Some, ℕ, ◌≡◌, ◌-◌, ◌<◌, ◌≤◌, length, OnOk, option_map};
+ghost use Rattle.std.specs.Prelude.{Bool, IfSome, Ok, Some, ℕ, ◌≡◌, ◌-◌, ◌<◌, ◌≤◌, length, map, OnOk, option_map};
 ghost use Rattle.std.specs.Option.{IfNone, OnSome};
 ghost use Rattle.lexer.specs.Lexeme.{lexeme_of, lexemes};
-ghost use Rattle.grammar.specs.ExpressionTree.{expression_of};
+ghost use Rattle.grammar.specs.ExpressionTree.{entry_of, expression_of};
 ghost use Rattle.grammar.specs.Expressions.{literal_of};
 ghost use Rattle.grammar.specs.Reading.{Gives, head_is, more_at};
-ghost use Rattle.grammar.specs.ReadingExpressions.{base_at, dictionary_at, ends_expression, entered_at, inner_at, list_at, single_at};
-ghost use Rattle.grammar.specs.ReadingExpressions.{single_of, ternary_at, unary_at};
+ghost use Rattle.grammar.specs.ReadingExpressions.{base_at, call_at, dictionary_at, elements_at, ends_expression, entered_at, entries_at};
+ghost use Rattle.grammar.specs.ReadingExpressions.{entry_at, group_at, inner_at, items_at, list_at, single_at, single_of, ternary_at};
+ghost use Rattle.grammar.specs.ReadingExpressions.{unary_at};
 
 use super::{Parser, Read, fit, put};
 use crate::tree::{Entry, Expression, Literal};
@@ -113,74 +114,128 @@ impl<'a> Parser<'_, 'a> {
         }
     }
 
+    // The elements of a list, up to its bracket.
+    #[cycle(expression)]
+    fn elements(&mut self, levels: u32, ternaries: bool) -> Read<Vec<Expression<'a>>>
+        ensures read { Gives (λ v. map expression_of v.items) result (lexemes self.new.rest.now)
+            (elements_at (unary_at levels) ternaries (lexemes self.old.rest.now)) }
+        ensures shorter { OnOk result (length self.new.rest.now ≤ length self.old.rest.now) }
+    {
+        let mut items = Vec::new(self.alloc);
+        let mut more = !self.begins(Kind::CloseBracket);
+        while more {
+            let item = self.ternary(levels, ternaries);
+            put(&mut items, item)?;
+            more = self.more(Kind::CloseBracket);
+        }
+        Ok(fit(items))
+    }
+
     // A list.
     #[cycle(expression)]
-    #[tactic(auto, unfolding(crate::specs::ReadingExpressions::entered_at))]
+    #[tactic(auto, unfolding(crate::specs::ReadingExpressions::entered_at, crate::specs::ReadingExpressions::list_at, crate::specs::ReadingExpressions::elements_at))]
     fn list(&mut self, levels: u32, ternaries: bool) -> Read<Expression<'a>>
         ensures read { Gives expression_of result (lexemes self.new.rest.now)
             (entered_at Kind.OpenBracket levels (λ e. list_at e ternaries) (lexemes self.old.rest.now)) }
         ensures shorter { OnOk result (length self.new.rest.now < length self.old.rest.now) }
     {
         let (open, inside) = self.enter(Kind::OpenBracket, levels)?;
-        let mut items = Vec::new(self.alloc);
-        let mut more = !self.begins(Kind::CloseBracket);
-        while more {
-            let item = self.ternary(inside, ternaries)?;
-            put(&mut items, item)?;
-            more = self.more(Kind::CloseBracket);
-        }
-        let items = self.close(Kind::CloseBracket, items)?;
+        let items = self.elements(inside, ternaries)?;
+        self.take(Kind::CloseBracket)?;
         Ok(Expression::List {
-            items: fit(items),
+            items,
             line: open.line as usize,
         })
     }
 
+    // A key, a colon and a value.
+    #[cycle(expression)]
+    #[tactic(auto, unfolding(crate::specs::ReadingExpressions::entry_at, crate::specs::Reading::ended_at))]
+    fn entry(&mut self, levels: u32, ternaries: bool) -> Read<Entry<'a>>
+        ensures read { Gives entry_of result (lexemes self.new.rest.now)
+            (entry_at (ternary_at (unary_at levels) ternaries) (lexemes self.old.rest.now)) }
+        ensures shorter { OnOk result (length self.new.rest.now < length self.old.rest.now) }
+    {
+        let key = self.ended(Kind::Colon, levels, ternaries)?;
+        let value = self.ternary(levels, ternaries)?;
+        Ok(Entry { key, value })
+    }
+
+    // The entries of a dictionary, up to its brace.
+    #[cycle(expression)]
+    fn entries(&mut self, levels: u32, ternaries: bool) -> Read<Vec<Entry<'a>>>
+        ensures read { Gives (λ v. map entry_of v.items) result (lexemes self.new.rest.now)
+            (entries_at (unary_at levels) ternaries (lexemes self.old.rest.now)) }
+        ensures shorter { OnOk result (length self.new.rest.now ≤ length self.old.rest.now) }
+    {
+        let mut entries = Vec::new(self.alloc);
+        let mut more = !self.begins(Kind::CloseBrace);
+        while more {
+            let entry = self.entry(levels, ternaries);
+            put(&mut entries, entry)?;
+            more = self.more(Kind::CloseBrace);
+        }
+        Ok(fit(entries))
+    }
+
     // A dictionary.
     #[cycle(expression)]
-    #[tactic(auto, unfolding(crate::specs::ReadingExpressions::entered_at))]
+    #[tactic(auto, unfolding(crate::specs::ReadingExpressions::entered_at, crate::specs::ReadingExpressions::dictionary_at, crate::specs::ReadingExpressions::entries_at))]
     fn dictionary(&mut self, levels: u32, ternaries: bool) -> Read<Expression<'a>>
         ensures read { Gives expression_of result (lexemes self.new.rest.now)
             (entered_at Kind.OpenBrace levels (λ e. dictionary_at e ternaries) (lexemes self.old.rest.now)) }
         ensures shorter { OnOk result (length self.new.rest.now < length self.old.rest.now) }
     {
         let (open, inside) = self.enter(Kind::OpenBrace, levels)?;
-        let mut entries = Vec::new(self.alloc);
-        let mut more = !self.begins(Kind::CloseBrace);
-        while more {
-            let key = self.ternary(inside, ternaries)?;
-            let key = self.close(Kind::Colon, key)?;
-            let value = self.ternary(inside, ternaries)?;
-            put(&mut entries, Entry { key, value })?;
-            more = self.more(Kind::CloseBrace);
-        }
-        let entries = self.close(Kind::CloseBrace, entries)?;
+        let entries = self.entries(inside, ternaries)?;
+        self.take(Kind::CloseBrace)?;
         Ok(Expression::Dictionary {
-            entries: fit(entries),
+            entries,
             line: open.line as usize,
         })
     }
 
+    // A call of a function.
+    #[cycle(expression)]
+    #[tactic(auto, unfolding(crate::specs::ReadingExpressions::call_at))]
+    fn call(&mut self, levels: u32, ternaries: bool) -> Read<Expression<'a>>
+        ensures read { Gives expression_of result (lexemes self.new.rest.now)
+            (call_at (entered_at Kind.OpenParenthesis levels (λ e. items_at e ternaries)) (lexemes self.old.rest.now)) }
+        ensures shorter { OnOk result (length self.new.rest.now < length self.old.rest.now) }
+    {
+        let name = self.take(Kind::Name)?;
+        let arguments = self.arguments(levels, ternaries)?;
+        Ok(Expression::Call {
+            line: name.line,
+            name: name.text,
+            arguments,
+        })
+    }
+
+    // An expression in parentheses.
+    #[cycle(expression)]
+    #[tactic(auto, unfolding(crate::specs::ReadingExpressions::entered_at, crate::specs::ReadingExpressions::group_at, crate::specs::Reading::ended_at))]
+    fn group(&mut self, levels: u32, ternaries: bool) -> Read<Expression<'a>>
+        ensures read { Gives expression_of result (lexemes self.new.rest.now)
+            (entered_at Kind.OpenParenthesis levels (λ e. group_at e ternaries) (lexemes self.old.rest.now)) }
+        ensures shorter { OnOk result (length self.new.rest.now < length self.old.rest.now) }
+    {
+        let (_, inside) = self.enter(Kind::OpenParenthesis, levels)?;
+        self.ended(Kind::CloseParenthesis, inside, ternaries)
+    }
+
     // A call of a function, or an atom.
     #[cycle(expression)]
-    #[tactic(auto, using(crate::proofs::ExpressionTails::base_call, crate::proofs::ExpressionTails::atom_group, crate::proofs::ExpressionTails::atom_list, crate::proofs::ExpressionTails::atom_dictionary, crate::proofs::ExpressionTails::atom_single), unfolding(crate::specs::ReadingExpressions::call_at, crate::specs::ReadingExpressions::entered_at, crate::specs::ReadingExpressions::group_at))]
+    #[tactic(auto, using(crate::proofs::ExpressionTails::base_call, crate::proofs::ExpressionTails::atom_group, crate::proofs::ExpressionTails::atom_list, crate::proofs::ExpressionTails::atom_dictionary, crate::proofs::ExpressionTails::atom_single))]
     pub(super) fn base(&mut self, levels: u32, ternaries: bool) -> Read<Expression<'a>>
         ensures read { Gives expression_of result (lexemes self.new.rest.now)
             (base_at (inner_at levels) ternaries (lexemes self.old.rest.now)) }
         ensures shorter { OnOk result (length self.new.rest.now < length self.old.rest.now) }
     {
         if self.two_begin(Kind::Name, Kind::OpenParenthesis) {
-            let name = self.take(Kind::Name)?;
-            let arguments = self.arguments(levels, ternaries)?;
-            Ok(Expression::Call {
-                line: name.line,
-                name: name.text,
-                arguments,
-            })
+            self.call(levels, ternaries)
         } else if self.begins(Kind::OpenParenthesis) {
-            let (_, levels) = self.enter(Kind::OpenParenthesis, levels)?;
-            let inner = self.ternary(levels, ternaries)?;
-            Ok(self.close(Kind::CloseParenthesis, inner)?)
+            self.group(levels, ternaries)
         } else if self.begins(Kind::OpenBracket) {
             self.list(levels, ternaries)
         } else if self.begins(Kind::OpenBrace) {

@@ -1,20 +1,20 @@
 //! Reads expressions: ternaries, and chains of operators.
 
-ghost use Rattle.std.specs.Prelude.{true, false, Some, IfOk, ◌≡◌, ◌&&◌, ◌-◌, ◌<◌, ◌≤◌, length, OnOk};
+ghost use Rattle.std.specs.Prelude.{true, false, Ok, Some, IfOk, ◌≡◌, ◌&&◌, ◌-◌, ◌++◌, ◌<◌, ◌≤◌, length, map, OnOk, [], ◌∷◌};
 ghost use Rattle.std.specs.Option.{OnSome};
 ghost use Rattle.lexer.specs.Lexeme.{lexeme_of, lexemes};
-ghost use Rattle.grammar.specs.ExpressionTree.{expression_of};
+ghost use Rattle.grammar.specs.ExpressionTree.{expression_of, operand_of};
 ghost use Rattle.grammar.specs.Expressions.{comparative};
 ghost use Rattle.grammar.specs.Parts.{first_line, stands_for, taken};
-ghost use Rattle.grammar.specs.Reading.{Gives, begins, head_is, two_begin};
-ghost use Rattle.grammar.specs.ReadingExpressions.{chain_at, ternary_at, comparison_at, comparison_operator_at, compares, enter_at};
-ghost use Rattle.grammar.specs.ReadingExpressions.{expr_at, not_in_at, operator_of, part_at, unary_at};
+ghost use Rattle.grammar.specs.Reading.{Gives, GoesOn, begins, ended_at, head_is, two_begin};
+ghost use Rattle.grammar.specs.ReadingExpressions.{branches_at, chain_at, ternary_at, comparison_at, comparison_operator_at, compares};
+ghost use Rattle.grammar.specs.ReadingExpressions.{disjunction_at, enter_at, expr_at, not_in_at, one_compared_at, operands_at};
+ghost use Rattle.grammar.specs.ReadingExpressions.{operator_of, part_at, sum_at, unary_at};
 
-use super::{Parser, Read, fit, put};
+use super::{Parser, Read, allocate, fit};
 use crate::stop::{ReadError, Stop};
 use crate::tree::{Expression, Operand, Operator};
 use lexer::token::{Kind, Token};
-use std::alloc::{AllocError, Global};
 
 /// Which operators stand between the parts of a chain. They bind tighter from the first to the last.
 #[derive(Clone, Copy)]
@@ -70,11 +70,18 @@ fn comparative(kind: Kind) -> Option<Operator>
     }
 }
 
-// A value on the heap.
-pub(super) fn allocate<T: Drop>(alloc: Global, value: T) -> Result<Box<T>, AllocError>
-    ensures { IfOk result (λ b. b.value ≡ value) }
+// Puts an operator and the value behind it, which was read, behind the others.
+fn put_operand<'a>(
+    operands: &mut Vec<Operand<'a>>,
+    operator: Operator,
+    read: Read<Expression<'a>>,
+) -> Read<()>
+    ensures { GoesOn (λ value _. map operand_of operands.new.items ≡ map operand_of operands.old.items
+        ++ (operator, expression_of value) ∷ []) read.entry result }
 {
-    Ok(Box::new(alloc, value)?)
+    let value = read?;
+    operands.push(Operand { operator, value })?;
+    Ok(())
 }
 
 impl<'a> Parser<'_, 'a> {
@@ -215,6 +222,21 @@ impl<'a> Parser<'_, 'a> {
         }
     }
 
+    // Operators of this rank, each with the part behind it.
+    #[cycle(expression)]
+    fn operands(&mut self, levels: u32, ternaries: bool, rank: Rank) -> Read<Vec<Operand<'a>>>
+        ensures read { Gives (λ v. map operand_of v.items) result (lexemes self.new.rest.now)
+            (operands_at (operator_of rank) (part_at rank (unary_at levels ternaries)) (lexemes self.old.rest.now)) }
+        ensures shorter { OnOk result (length self.new.rest.now ≤ length self.old.rest.now) }
+    {
+        let mut others = Vec::new(self.alloc);
+        while let Some(operator) = self.operator(rank) {
+            let value = self.part(levels, ternaries, rank);
+            put_operand(&mut others, operator, value)?;
+        }
+        Ok(fit(others))
+    }
+
     // Parts with operators of this rank between them.
     #[cycle(expression)]
     #[tactic(auto, using(crate::proofs::ExpressionTails::chain_alone), unfolding(crate::specs::ReadingExpressions::chain_at))]
@@ -224,41 +246,12 @@ impl<'a> Parser<'_, 'a> {
         ensures shorter { OnOk result (length self.new.rest.now < length self.old.rest.now) }
     {
         let line = self.first_line();
-        let first = self.part(levels, ternaries, rank)?;
-        if !self.operates(rank) {
-            return Ok(first);
+        let first = self.part(levels, ternaries, rank);
+        if first.is_err() || !self.operates(rank) {
+            return first;
         }
         let first = allocate(self.alloc, first)?;
-        let mut others = Vec::new(self.alloc);
-        while let Some(operator) = self.operator(rank) {
-            let value = self.part(levels, ternaries, rank)?;
-            put(&mut others, Operand { operator, value })?;
-        }
-        Ok(Expression::Chain {
-            first,
-            others: fit(others),
-            line,
-        })
-    }
-
-    // A sum, or two that are compared.
-    #[cycle(expression)]
-    #[tactic(auto, unfolding(crate::specs::ReadingExpressions::comparison_at, crate::specs::ReadingExpressions::compared_at, crate::specs::ReadingExpressions::sum_at, crate::specs::Reading::optional_at, crate::specs::Reading::or_at))]
-    fn comparison(&mut self, levels: u32, ternaries: bool) -> Read<Expression<'a>>
-        ensures read { Gives expression_of result (lexemes self.new.rest.now)
-            (comparison_at (unary_at levels ternaries) (lexemes self.old.rest.now)) }
-        ensures shorter { OnOk result (length self.new.rest.now < length self.old.rest.now) }
-    {
-        let line = self.first_line();
-        let first = self.chain(levels, ternaries, Rank::Sum)?;
-        if !self.compares() {
-            return Ok(first);
-        }
-        let first = allocate(self.alloc, first)?;
-        let operator = self.comparison_operator()?;
-        let value = self.chain(levels, ternaries, Rank::Sum)?;
-        let mut others = Vec::with_capacity(self.alloc, 1)?;
-        put(&mut others, Operand { operator, value })?;
+        let others = self.operands(levels, ternaries, rank)?;
         Ok(Expression::Chain {
             first,
             others,
@@ -266,35 +259,101 @@ impl<'a> Parser<'_, 'a> {
         })
     }
 
-    // An expression, in which a ternary may stand or not.
+    // A comparison and the sum behind it, as all that a chain has.
     #[cycle(expression)]
-    #[tactic(auto, using(crate::proofs::ExpressionTails::ternary_alone), unfolding(crate::specs::ReadingExpressions::disjunction_at))]
-    pub(super) fn ternary(&mut self, levels: u32, ternaries: bool) -> Read<Expression<'a>>
+    fn compared(&mut self, levels: u32, ternaries: bool) -> Read<Vec<Operand<'a>>>
+        ensures read { Gives (λ v. map operand_of v.items) result (lexemes self.new.rest.now)
+            (one_compared_at (sum_at (unary_at levels ternaries)) (lexemes self.old.rest.now)) }
+        ensures shorter { OnOk result (length self.new.rest.now < length self.old.rest.now) }
+    {
+        let operator = self.comparison_operator()?;
+        let value = self.chain(levels, ternaries, Rank::Sum);
+        let mut others = Vec::with_capacity(self.alloc, 1)?;
+        put_operand(&mut others, operator, value)?;
+        Ok(others)
+    }
+
+    // A sum, or two that are compared.
+    #[cycle(expression)]
+    fn comparison(&mut self, levels: u32, ternaries: bool) -> Read<Expression<'a>>
+        ensures read { Gives expression_of result (lexemes self.new.rest.now)
+            (comparison_at (unary_at levels ternaries) (lexemes self.old.rest.now)) }
+        ensures shorter { OnOk result (length self.new.rest.now < length self.old.rest.now) }
+    {
+        let line = self.first_line();
+        let first = self.chain(levels, ternaries, Rank::Sum);
+        if first.is_err() || !self.compares() {
+            return first;
+        }
+        let first = allocate(self.alloc, first)?;
+        let others = self.compared(levels, ternaries)?;
+        Ok(Expression::Chain {
+            first,
+            others,
+            line,
+        })
+    }
+
+    // The branches of a ternary.
+    #[cycle(expression)]
+    fn branches(&mut self, levels: u32) -> Read<(Box<Expression<'a>>, Box<Expression<'a>>)>
+        ensures read { Gives (λ p. (expression_of p.0.value, expression_of p.1.value)) result (lexemes self.new.rest.now)
+            (branches_at (disjunction_at (unary_at levels false)) (lexemes self.old.rest.now)) }
+        ensures shorter { OnOk result (length self.new.rest.now < length self.old.rest.now) }
+    {
+        self.take(Kind::Question)?;
+        let yes = self.chain(levels, false, Rank::Or);
+        let yes = allocate(self.alloc, yes)?;
+        let yes = self.close(Kind::Colon, yes)?;
+        let no = self.chain(levels, false, Rank::Or);
+        let no = allocate(self.alloc, no)?;
+        Ok((yes, no))
+    }
+
+    // An expression of more than one token, in which a ternary may stand or not.
+    #[cycle(expression)]
+    fn choice(&mut self, levels: u32, ternaries: bool) -> Read<Expression<'a>>
         ensures read { Gives expression_of result (lexemes self.new.rest.now)
             (ternary_at (unary_at levels) ternaries (lexemes self.old.rest.now)) }
         ensures shorter { OnOk result (length self.new.rest.now < length self.old.rest.now) }
     {
-        if let Some(alone) = self.alone() {
-            return Ok(alone);
-        }
         let line = self.first_line();
-        let test = self.chain(levels, ternaries, Rank::Or)?;
-        if !self.asks(ternaries) {
-            return Ok(test);
+        let test = self.chain(levels, ternaries, Rank::Or);
+        if test.is_err() || !self.asks(ternaries) {
+            return test;
         }
         let test = allocate(self.alloc, test)?;
-        self.take(Kind::Question)?;
-        let yes = self.chain(levels, false, Rank::Or)?;
-        let yes = self.close(Kind::Colon, yes)?;
-        let yes = allocate(self.alloc, yes)?;
-        let no = self.chain(levels, false, Rank::Or)?;
-        let no = allocate(self.alloc, no)?;
+        let (yes, no) = self.branches(levels)?;
         Ok(Expression::Ternary {
             test,
             yes,
             no,
             line,
         })
+    }
+
+    // An expression, in which a ternary may stand or not.
+    #[cycle(expression)]
+    pub(super) fn ternary(&mut self, levels: u32, ternaries: bool) -> Read<Expression<'a>>
+        ensures read { Gives expression_of result (lexemes self.new.rest.now)
+            (ternary_at (unary_at levels) ternaries (lexemes self.old.rest.now)) }
+        ensures shorter { OnOk result (length self.new.rest.now < length self.old.rest.now) }
+    {
+        match self.alone() {
+            Some(alone) => Ok(alone),
+            None => self.choice(levels, ternaries),
+        }
+    }
+
+    // An expression and the token of this kind behind it.
+    #[cycle(expression)]
+    pub(super) fn ended(&mut self, kind: Kind, levels: u32, ternaries: bool) -> Read<Expression<'a>>
+        ensures read { Gives expression_of result (lexemes self.new.rest.now)
+            (ended_at kind (ternary_at (unary_at levels) ternaries) (lexemes self.old.rest.now)) }
+        ensures shorter { OnOk result (length self.new.rest.now < length self.old.rest.now) }
+    {
+        let value = self.ternary(levels, ternaries)?;
+        self.close(kind, value)
     }
 
     // An expression, where so many levels may still be opened.

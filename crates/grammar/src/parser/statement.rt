@@ -4,15 +4,14 @@ ghost use Rattle.std.specs.Prelude.{◌≡◌, ◌<◌, ◌≤◌, length, map, 
 ghost use Rattle.std.specs.Option.{option_map};
 ghost use Rattle.lexer.specs.Lexeme.{lexemes};
 ghost use Rattle.grammar.specs.ExpressionTree.{expression_of};
-ghost use Rattle.grammar.specs.Reading.{Gives, begins, optional_at};
+ghost use Rattle.grammar.specs.Reading.{Gives, begins, ended_at, optional_at};
 ghost use Rattle.grammar.specs.ReadingExpressions.{expr_at};
-ghost use Rattle.grammar.specs.ReadingStatements.{GivesLine, begins_block, body_at, branch_at, conditional_at, ends_line, foreach_at};
-ghost use Rattle.grammar.specs.ReadingStatements.{in_body, leave_at, leave_tree, leave_word, maybe_at, names_at, otherwise_at, parts_at};
-ghost use Rattle.grammar.specs.ReadingStatements.{plain_at, second_at, set_at, set_tree, sign_of, simple_at, stmt_at};
+ghost use Rattle.grammar.specs.ReadingStatements.{GivesLine, alternatives_at, begins_block, body_at, branch_at, conditional_at};
+ghost use Rattle.grammar.specs.ReadingStatements.{ends_line, foreach_at, in_body, leave_at, leave_tree, leave_word, maybe_at, names_at};
+ghost use Rattle.grammar.specs.ReadingStatements.{otherwise_at, parts_at, plain_at, second_at, set_at, set_tree, sign_of, simple_at, stmt_at};
 ghost use Rattle.grammar.specs.Tree.{branch_of, statement_of};
 
-use super::expression::allocate;
-use super::{Parser, Read, fit, put};
+use super::{Parser, Read, allocate, fit, put};
 use crate::stop::{ReadError, Stop};
 use crate::tree::{Branch, Expression, Statement};
 use lexer::token::{Kind, Token};
@@ -92,7 +91,7 @@ impl<'a> Parser<'_, 'a> {
     {
         let name = self.take(Kind::Name)?;
         self.take(if adds { Kind::PlusAssign } else { Kind::Assign })?;
-        let value = self.expression(levels)?;
+        let value = self.expression(levels);
         let value = allocate(self.alloc, value)?;
         Ok(set(name, adds, value))
     }
@@ -199,9 +198,22 @@ impl<'a> Parser<'_, 'a> {
         Ok((first.text, second))
     }
 
+    // The list of a `foreach` and the statements of a round, up to `endforeach`.
+    #[cycle(statement)]
+    #[tactic(auto, unfolding(crate::specs::Reading::ended_at))]
+    fn round(&mut self, levels: u32) -> Read<Box<Branch<'a>>>
+        ensures read { Gives (λ b. branch_of b.value) result (lexemes self.new.rest.now)
+            (ended_at Kind.EndForeach (branch_at (expr_at levels) (stmt_at true levels)) (lexemes self.old.rest.now)) }
+        ensures shorter { OnOk result (length self.new.rest.now < length self.old.rest.now) }
+    {
+        let round = self.branch(true, levels);
+        let round = allocate(self.alloc, round)?;
+        self.close(Kind::EndForeach, round)
+    }
+
     // A `foreach`, up to its `endforeach`.
     #[cycle(statement)]
-    #[tactic(auto, unfolding(crate::specs::ReadingStatements::foreach_at))]
+    #[tactic(auto, unfolding(crate::specs::ReadingStatements::foreach_at, crate::specs::Reading::ended_at))]
     fn foreach(&mut self, levels: u32) -> Read<Statement<'a>>
         ensures read { Gives statement_of result (lexemes self.new.rest.now)
             (foreach_at (expr_at levels) (stmt_at true levels) (lexemes self.old.rest.now)) }
@@ -209,9 +221,7 @@ impl<'a> Parser<'_, 'a> {
     {
         let word = self.take(Kind::Foreach)?;
         let (first, second) = self.names()?;
-        let round = self.branch(true, levels)?;
-        let round = self.close(Kind::EndForeach, round)?;
-        let round = allocate(self.alloc, round)?;
+        let round = self.round(levels)?;
         Ok(Statement::Foreach {
             line: word.line as usize,
             first,
@@ -220,18 +230,33 @@ impl<'a> Parser<'_, 'a> {
         })
     }
 
+    // The parts of an `if` and what stands behind `else`, up to `endif`.
+    #[cycle(statement)]
+    #[tactic(auto, unfolding(crate::specs::ReadingStatements::alternatives_at))]
+    fn alternatives(
+        &mut self,
+        inside: bool,
+        levels: u32,
+    ) -> Read<(Vec<Branch<'a>>, Vec<Statement<'a>>)>
+        ensures read { Gives (λ p. (map branch_of p.0.items, map statement_of p.1.items)) result (lexemes self.new.rest.now)
+            (alternatives_at (expr_at levels) (stmt_at inside levels) (lexemes self.old.rest.now)) }
+        ensures shorter { OnOk result (length self.new.rest.now < length self.old.rest.now) }
+    {
+        let branches = self.parts(inside, levels)?;
+        let otherwise = self.otherwise(inside, levels)?;
+        self.close(Kind::EndIf, (branches, otherwise))
+    }
+
     // An `if`, up to its `endif`.
     #[cycle(statement)]
-    #[tactic(auto, unfolding(crate::specs::ReadingStatements::conditional_at))]
+    #[tactic(auto, unfolding(crate::specs::ReadingStatements::conditional_at, crate::specs::ReadingStatements::alternatives_at))]
     fn conditional(&mut self, inside: bool, levels: u32) -> Read<Statement<'a>>
         ensures read { Gives statement_of result (lexemes self.new.rest.now)
             (conditional_at (expr_at levels) (stmt_at inside levels) (lexemes self.old.rest.now)) }
         ensures shorter { OnOk result (length self.new.rest.now < length self.old.rest.now) }
     {
         let word = self.take(Kind::If)?;
-        let branches = self.parts(inside, levels)?;
-        let otherwise = self.otherwise(inside, levels)?;
-        let (branches, otherwise) = self.close(Kind::EndIf, (branches, otherwise))?;
+        let (branches, otherwise) = self.alternatives(inside, levels)?;
         Ok(Statement::If {
             line: word.line as usize,
             branches,
@@ -241,15 +266,14 @@ impl<'a> Parser<'_, 'a> {
 
     // A condition, or what a `foreach` goes over, and the statements behind it.
     #[cycle(statement)]
-    #[tactic(auto, unfolding(crate::specs::ReadingStatements::branch_at))]
+    #[tactic(auto, unfolding(crate::specs::ReadingStatements::branch_at, crate::specs::Reading::ended_at, crate::specs::ReadingExpressions::expr_at))]
     fn branch(&mut self, inside: bool, levels: u32) -> Read<Branch<'a>>
         ensures read { Gives branch_of result (lexemes self.new.rest.now)
             (branch_at (expr_at levels) (stmt_at inside levels) (lexemes self.old.rest.now)) }
         ensures shorter { OnOk result (length self.new.rest.now < length self.old.rest.now) }
     {
         let line = self.first_line();
-        let condition = self.expression(levels)?;
-        let condition = self.close(Kind::Newline, condition)?;
+        let condition = self.ended(Kind::Newline, levels, true)?;
         let body = self.body(inside, levels)?;
         Ok(Branch {
             condition,
@@ -266,11 +290,11 @@ impl<'a> Parser<'_, 'a> {
         ensures shorter { OnOk result (length self.new.rest.now < length self.old.rest.now) }
     {
         let mut parts = Vec::new(self.alloc);
-        let first = self.branch(inside, levels)?;
+        let first = self.branch(inside, levels);
         put(&mut parts, first)?;
         while self.begins(Kind::Elif) {
             self.take(Kind::Elif)?;
-            let other = self.branch(inside, levels)?;
+            let other = self.branch(inside, levels);
             put(&mut parts, other)?;
         }
         Ok(fit(parts))
@@ -323,8 +347,7 @@ impl<'a> Parser<'_, 'a> {
         if self.ends_line() {
             return Ok(());
         }
-        let statement = self.statement(inside, levels)?;
-        put(statements, statement)?;
-        Ok(())
+        let statement = self.statement(inside, levels);
+        put(statements, statement)
     }
 }

@@ -24,11 +24,17 @@ decreases-otherwise l = 10 * l.levels + 6
 abbrev pub decreases-parts : goal.decreases-parts
 decreases-parts l = 10 * l.levels + 6
 
+abbrev pub decreases-round : goal.decreases-round
+decreases-round l = 10 * l.levels + 6
+
 abbrev pub decreases-foreach : goal.decreases-foreach
 decreases-foreach l = 10 * l.levels + 7
 
+abbrev pub decreases-alternatives : goal.decreases-alternatives
+decreases-alternatives l = 10 * l.levels + 7
+
 abbrev pub decreases-conditional : goal.decreases-conditional
-decreases-conditional l = 10 * l.levels + 7
+decreases-conditional l = 10 * l.levels + 8
 
 abbrev pub invariant-body-loop-self : goal.invariant-body-loop-self
 invariant-body-loop-self l =
