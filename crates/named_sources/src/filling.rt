@@ -1,5 +1,5 @@
 //! Texts with placeholders.
-ghost use Rattle.std.specs.Prelude.{◌≡◌, ◌==◌, map, IfOk, option_map, string_bytes};
+ghost use Rattle.std.specs.Prelude.{◌≡◌, ◌==◌, ◌++◌, map, IfOk, OnOk, None, Some, option_map, string_bytes, if◌then◌else◌};
 ghost use Rattle.std.specs.List.{slice_split};
 ghost use Rattle.named_sources.specs.Holes.{meaning, behind_text, filled_behind, filled_parts, filled};
 ghost use Rattle.named_sources.specs.HolesView.{place_view};
@@ -15,47 +15,70 @@ fn pieces<'a>(alloc: Global, text: &'a str) -> Result<Vec<&'a str>, AllocError>
     text.split('@').collect(alloc)
 }
 
-// The text so far, and behind it the parts behind an `@`, with the values of their placeholders.
+// Appends two texts.
+fn push_both(made: &mut String, first: &str, second: &str) -> Result<(), AllocError>
+    ensures { OnOk result (string_bytes made.new ≡ (string_bytes made.old ++ first.now) ++ second.now) }
+{
+    made.push_str(first)?;
+    made.push_str(second)
+}
+
+// Appends the parts behind an `@`, with the values of their placeholders. Answers whether each of these stands for something.
 fn fill_behind(
     alloc: Global,
     scope: Scope,
     place: &Place<'_>,
-    mut made: String,
+    made: &mut String,
     parts: &[&str],
-) -> Result<Option<String>, AllocError>
-    ensures { IfOk result (λ r. option_map string_bytes r
-        ≡ behind_text (string_bytes made) (filled_behind (meaning scope (place_view place.now)) (map (λ s. s.now) parts.now))) }
+) -> Result<bool, AllocError>
+    ensures { IfOk result (λ done. (if done then Some (string_bytes made.new) else None)
+        ≡ behind_text (string_bytes made.old) (filled_behind (meaning scope (place_view place.now)) (map (λ s. s.now) parts.now))) }
 {
     let mut i = 0;
     while i < parts.len() {
         let name = parts[i];
         if i + 1 == parts.len() {
-            made.push_str("@")?;
-            made.push_str(name)?;
-            return Ok(Some(made));
+            push_both(made, "@", name)?;
+            return Ok(true);
         }
         let text = parts[i + 1];
         let behind = i + 2;
         match meaning_of(alloc, scope, place, name)? {
             Meaning::Stays => {
-                made.push_str("@")?;
-                made.push_str(name)?;
+                push_both(made, "@", name)?;
                 i += 1;
             }
-            Meaning::Refused => return Ok(None),
+            Meaning::Refused => return Ok(false),
             Meaning::Lent(value) => {
-                made.push_str(value)?;
-                made.push_str(text)?;
+                push_both(made, value, text)?;
                 i = behind;
             }
             Meaning::Made(value) => {
-                made.push_str(&value)?;
-                made.push_str(text)?;
+                push_both(made, &value, text)?;
                 i = behind;
             }
         }
     }
-    Ok(Some(made))
+    Ok(true)
+}
+
+// The text so far, and behind it the parts behind an `@`, with the values of their placeholders.
+fn filled_behind(
+    alloc: Global,
+    scope: Scope,
+    place: &Place<'_>,
+    first: &str,
+    parts: &[&str],
+) -> Result<Option<String>, AllocError>
+    ensures { IfOk result (λ r. option_map string_bytes r
+        ≡ behind_text first.now (filled_behind (meaning scope (place_view place.now)) (map (λ s. s.now) parts.now))) }
+{
+    let mut made = String::from_str(alloc, first)?;
+    if fill_behind(alloc, scope, place, &mut made, parts)? {
+        Ok(Some(made))
+    } else {
+        Ok(None)
+    }
 }
 
 // The parts of a text, with the values of the placeholders.
@@ -70,13 +93,7 @@ fn fill_parts(
 {
     match parts {
         [] => Ok(Some(String::new(alloc))),
-        [first, behind @ ..] => fill_behind(
-            alloc,
-            scope,
-            place,
-            String::from_str(alloc, first)?,
-            behind,
-        ),
+        [first, behind @ ..] => filled_behind(alloc, scope, place, first, behind),
     }
 }
 

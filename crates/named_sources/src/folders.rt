@@ -1,10 +1,13 @@
 //! The folders that the keyword `include_directories` names.
-ghost use Rattle.std.specs.Prelude.{◌≡◌, ◌++◌, IfOk, map, option_map, string_bytes};
+ghost use Rattle.std.specs.Prelude.{◌≡◌, ◌++◌, ◌∷◌, [], IfOk, OnOk, None, Some, map, option_map, string_bytes, if◌then◌else◌};
+ghost use Rattle.arguments.specs.Each.{all_said};
 ghost use Rattle.arguments.specs.Refused.{said_data};
+ghost use Rattle.arguments.specs.declared.rule.Rule.TheVariants as rules;
 ghost use Rattle.data.specs.Prelude.{data_of};
 ghost use Rattle.paths.specs.Folder.{strings_of};
 ghost use Rattle.paths.specs.Paths.{folder_path};
 ghost use Rattle.named_sources.specs.Folders.{folders_in, folders_of, of_object, one_path};
+ghost use Rattle.named_sources.specs.Unnamed.{named_by};
 
 use crate::unnamed::refuse_unnamed;
 use arguments::{Refused, Rule};
@@ -12,68 +15,112 @@ use data::{Object, Text, Value};
 use paths::folder_path;
 use std::alloc::{AllocError, Global};
 
+// Appends a text as a string of its own.
+pub(crate) fn push_string(
+    alloc: Global,
+    strings: &mut Vec<String>,
+    text: &str,
+) -> Result<(), AllocError>
+    ensures { OnOk result (map string_bytes strings.new.items ≡ map string_bytes strings.old.items ++ text.now ∷ []) }
+{
+    strings.push(String::from_str(alloc, text)?)?;
+    Ok(())
+}
+
+// Appends texts as strings of their own.
+pub(crate) fn push_strings(
+    alloc: Global,
+    strings: &mut Vec<String>,
+    texts: &[Text],
+) -> Result<(), AllocError>
+    ensures { OnOk result (map string_bytes strings.new.items ≡ map string_bytes strings.old.items ++ texts.now) }
+{
+    for text in texts {
+        push_string(alloc, strings, text.as_str())?;
+    }
+    Ok(())
+}
+
 /// Texts as strings of their own.
 pub fn strings(alloc: Global, texts: &[Text]) -> Result<Vec<String>, AllocError>
     ensures { IfOk result (λ v. map string_bytes v.items ≡ texts.now) }
 {
     let mut strings = Vec::new(alloc);
-    for text in texts {
-        strings.push(String::from_str(alloc, text.as_str())?)?;
-    }
+    push_strings(alloc, &mut strings, texts)?;
     Ok(strings)
 }
 
-fn of_object(alloc: Global, object: &Object) -> Result<Option<Vec<String>>, AllocError>
-    ensures { IfOk result (λ ps. option_map strings_of ps ≡ of_object object.now) }
+// Appends the folders that an object names. Answers whether it is one that names folders.
+fn push_of_object(
+    alloc: Global,
+    paths: &mut Vec<String>,
+    object: &Object,
+) -> Result<bool, AllocError>
+    ensures { IfOk result (λ is_named. (if is_named then Some (strings_of paths.new) else None)
+        ≡ option_map (λ more. strings_of paths.old ++ more) (of_object object.now)) }
 {
     match object {
-        Object::IncludeDirectories(paths) => Ok(Some(strings(alloc, paths.as_slice())?)),
-        _ => Ok(None),
-    }
-}
-
-fn of_text(
-    alloc: Global,
-    source_root: &str,
-    folder: &str,
-    text: &str,
-) -> Result<Option<Vec<String>>, AllocError>
-    ensures { IfOk result (λ ps. option_map strings_of ps
-        ≡ one_path (folder_path source_root.now folder.now text.now)) }
-{
-    match folder_path(alloc, source_root, folder, text)? {
-        Some(path) => {
-            let mut paths = Vec::new(alloc);
-            paths.push(path)?;
-            Ok(Some(paths))
+        Object::IncludeDirectories(folders) => {
+            push_strings(alloc, paths, folders.as_slice())?;
+            Ok(true)
         }
-        None => Ok(None),
+        _ => Ok(false),
     }
 }
 
-// The folders that a value names.
-fn folders_in(
+// Appends a path, where there is one. Answers whether there is.
+fn push_path(paths: &mut Vec<String>, path: Option<String>) -> Result<bool, AllocError>
+    ensures { IfOk result (λ is_named. (if is_named then Some (strings_of paths.new) else None)
+        ≡ option_map (λ more. strings_of paths.old ++ more) (one_path (option_map string_bytes path))) }
+{
+    match path {
+        None => Ok(false),
+        Some(path) => {
+            paths.push(path)?;
+            Ok(true)
+        }
+    }
+}
+
+// Appends the folders that a value names. Answers whether it names any.
+fn push_folders_in(
     alloc: Global,
     source_root: &str,
     folder: &str,
     value: &Value,
-) -> Result<Option<Vec<String>>, AllocError>
-    ensures { IfOk result (λ ps. option_map strings_of ps ≡ folders_in source_root.now folder.now (data_of value.now)) }
+    paths: &mut Vec<String>,
+) -> Result<bool, AllocError>
+    ensures { IfOk result (λ is_named. (if is_named then Some (strings_of paths.new) else None)
+        ≡ option_map (λ more. strings_of paths.old ++ more) (folders_in source_root.now folder.now (data_of value.now))) }
 {
     match value {
-        Value::Text(text) => of_text(alloc, source_root, folder, text.as_str()),
-        Value::Object(object) => of_object(alloc, object),
-        _ => Ok(None),
+        Value::Text(text) => {
+            let path = folder_path(alloc, source_root, folder, text.as_str())?;
+            push_path(paths, path)
+        }
+        Value::Object(object) => push_of_object(alloc, paths, object),
+        _ => Ok(false),
     }
 }
 
-fn push_each(paths: &mut Vec<String>, more: Vec<String>) -> Result<(), AllocError>
-    ensures { IfOk result (λ _. map string_bytes paths.new.items ≡ map string_bytes paths.old.items ++ map string_bytes more.items) }
+// Appends the folders that values name, up to the first that names none.
+fn push_folders_of(
+    alloc: Global,
+    source_root: &str,
+    folder: &str,
+    values: &[&Value],
+    paths: &mut Vec<String>,
+) -> Result<Result<(), Refused>, AllocError>
+    ensures { IfOk result (λ r. said_data (λ _. strings_of paths.new) r
+        ≡ all_said (named_by rules.NamesFolder (folders_in source_root.now folder.now)) (strings_of paths.old)
+        (map (λ v. data_of v.now) values.now)) }
 {
-    for path in more {
-        paths.push(path)?;
+    for value in values {
+        if !push_folders_in(alloc, source_root, folder, value, paths)? {
+            return Ok(Err(refuse_unnamed(alloc, Rule::NamesFolder, value)?));
+        }
     }
-    Ok(())
+    Ok(Ok(()))
 }
 
 /// The paths of the folders that values, their lists opened, name in a definition file of a folder, the root's being empty. One that is
@@ -88,11 +135,8 @@ pub fn folders_of(
         ≡ folders_of source_root.now folder.now (map (λ v. data_of v.now) values.now)) }
 {
     let mut paths = Vec::new(alloc);
-    for value in values {
-        match folders_in(alloc, source_root, folder, value)? {
-            Some(more) => push_each(&mut paths, more)?,
-            None => return Ok(Err(refuse_unnamed(alloc, Rule::NamesFolder, value)?)),
-        }
+    match push_folders_of(alloc, source_root, folder, values, &mut paths)? {
+        Ok(()) => Ok(Ok(paths)),
+        Err(refused) => Ok(Err(refused)),
     }
-    Ok(Ok(paths))
 }

@@ -74,7 +74,8 @@ fn are_digits(text: &str) -> bool
     text.as_bytes().iter().all(|byte| byte.is_ascii_digit())
 }
 
-fn is_number(text: &str) -> bool
+// Whether a text is digits, at least one.
+pub(crate) fn is_number(text: &str) -> bool
     ensures { result ≡ is_number text.now }
 {
     !text.is_empty() && are_digits(text)

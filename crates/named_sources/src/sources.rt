@@ -1,11 +1,14 @@
 //! The sources that a call names.
 ghost use Rattle.std.specs.Prelude.{◌≡◌, ◌++◌, IfOk, None, codes, nat_eq, map, option_map, if◌then◌else◌};
 ghost use Rattle.std.specs.List.{ends_with};
+ghost use Rattle.arguments.specs.Each.{each_said};
 ghost use Rattle.arguments.specs.Refused.{said_data};
+ghost use Rattle.arguments.specs.declared.rule.Rule.TheVariants as rules;
 ghost use Rattle.data.specs.Prelude.{data_of};
 ghost use Rattle.named_sources.specs.Sources.{ends_in, ends_in_name, of_object, source_of, sources_of, tree};
 ghost use Rattle.paths.specs.Paths.{tree_path};
 ghost use Rattle.named_sources.specs.SourcesView.{named_view, named_views};
+ghost use Rattle.named_sources.specs.Unnamed.{named_by};
 
 use crate::unnamed::refuse_unnamed;
 use arguments::{Refused, Rule};
@@ -103,6 +106,27 @@ fn source_of(
     }
 }
 
+// Appends the sources that values name, up to the first that names none.
+fn push_sources(
+    alloc: Global,
+    source_root: &str,
+    folder: &str,
+    values: &[&Value],
+    sources: &mut Vec<NamedSource>,
+) -> Result<Result<(), Refused>, AllocError>
+    ensures { IfOk result (λ r. said_data (λ _. named_views sources.new) r
+        ≡ each_said (named_by rules.NamesFile (source_of source_root.now folder.now)) (named_views sources.old)
+        (map (λ v. data_of v.now) values.now)) }
+{
+    for value in values {
+        match source_of(alloc, source_root, folder, value)? {
+            Some(source) => sources.push(source)?,
+            None => return Ok(Err(refuse_unnamed(alloc, Rule::NamesFile, value)?)),
+        }
+    }
+    Ok(Ok(()))
+}
+
 /// The sources that values, their lists opened, name in a definition file of a folder, in order. One that is no text, file, custom target
 /// or output of one, or a text that names no file of the tree, breaks `Rule::NamesFile`.
 pub fn sources_of(
@@ -115,11 +139,8 @@ pub fn sources_of(
         ≡ sources_of source_root.now folder.now (map (λ v. data_of v.now) values.now)) }
 {
     let mut sources = Vec::with_capacity(alloc, values.len())?;
-    for value in values {
-        match source_of(alloc, source_root, folder, value)? {
-            Some(source) => sources.push(source)?,
-            None => return Ok(Err(refuse_unnamed(alloc, Rule::NamesFile, value)?)),
-        }
+    match push_sources(alloc, source_root, folder, values, &mut sources)? {
+        Ok(()) => Ok(Ok(sources)),
+        Err(refused) => Ok(Err(refused)),
     }
-    Ok(Ok(sources))
 }

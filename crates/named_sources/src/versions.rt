@@ -1,22 +1,10 @@
 //! The keyword `version` of a shared library.
 ghost use Rattle.std.specs.Prelude.{◌≡◌, IfOk, map, ◌==◌};
-ghost use Rattle.std.specs.Char.{is_ascii_digit};
 ghost use Rattle.std.specs.List.{list_all, slice_split};
 ghost use Rattle.named_sources.specs.Versions.{are_numbers, is_library_version, is_number};
 
+use crate::holes::is_number;
 use std::alloc::{AllocError, Global};
-
-fn are_digits(bytes: &[u8]) -> bool
-    ensures { result ≡ list_all is_ascii_digit bytes.now }
-{
-    bytes.iter().all(|byte| byte.is_ascii_digit())
-}
-
-fn is_number(part: &str) -> bool
-    ensures { result ≡ is_number part.now }
-{
-    !part.is_empty() && are_digits(part.as_bytes())
-}
 
 fn all_numbers(parts: &[&str]) -> bool
     ensures { result ≡ list_all is_number (map (λ p. p.now) parts.now) }

@@ -1,6 +1,6 @@
 //! What a call says beside a question that it asks of the machine file.
 
-ghost use Rattle.std.specs.Prelude.{◌≡◌, ◌++◌, ◌∷◌, [], IfOk, OnOk, map};
+ghost use Rattle.std.specs.Prelude.{◌≡◌, ◌++◌, IfOk, OnOk, map};
 ghost use Rattle.arguments.specs.Arguments.{arguments_data};
 ghost use Rattle.arguments.specs.Given.{keyword};
 ghost use Rattle.data.specs.Data.{object};
@@ -9,8 +9,9 @@ ghost use Rattle.machine.specs.machine_file.QuestionsView.{asides_in, question_i
 ghost use Rattle.machine.specs.machine_file.View.{strings_in};
 ghost use Rattle.named_sources.specs.resources.Beside.{aside_of, asides_named, call_question, state_word, words_in, words_of};
 
+use crate::folders::{push_string, push_strings};
 use arguments::Arguments;
-use data::{Feature, Object, Text, Value, open_up};
+use data::{Feature, Object, Value, open_up};
 use machine::machine_file::{Aside, Question, Topic};
 use std::alloc::{AllocError, Global};
 
@@ -35,32 +36,14 @@ fn state_word(feature: Feature) -> &'static str
     }
 }
 
-// Puts a word behind others.
-fn put_word(alloc: Global, words: &mut Vec<String>, word: &str) -> Result<(), AllocError>
-    ensures { OnOk result (strings_in words.new.items ≡ strings_in words.old.items ++ word.now ∷ []) }
-{
-    words.push(String::from_str(alloc, word)?)?;
-    Ok(())
-}
-
-// Puts texts behind words.
-fn put_texts(alloc: Global, words: &mut Vec<String>, texts: &[Text]) -> Result<(), AllocError>
-    ensures { OnOk result (strings_in words.new.items ≡ strings_in words.old.items ++ texts.now) }
-{
-    for text in texts {
-        put_word(alloc, words, text.as_str())?;
-    }
-    Ok(())
-}
-
 // Puts the words that an object tells behind others.
 fn put_object(alloc: Global, words: &mut Vec<String>, thing: &Object) -> Result<(), AllocError>
     ensures { OnOk result (strings_in words.new.items ≡ strings_in words.old.items ++ words_of (object thing.now)) }
 {
     match thing {
-        Object::Feature(feature) => put_word(alloc, words, state_word(*feature)),
-        Object::Dependency(dependency) => put_word(alloc, words, dependency.name.as_str()),
-        Object::IncludeDirectories(folders) => put_texts(alloc, words, folders.as_slice()),
+        Object::Feature(feature) => push_string(alloc, words, state_word(*feature)),
+        Object::Dependency(dependency) => push_string(alloc, words, dependency.name.as_str()),
+        Object::IncludeDirectories(folders) => push_strings(alloc, words, folders.as_slice()),
         _ => Ok(()),
     }
 }
@@ -70,8 +53,8 @@ fn put_words(alloc: Global, words: &mut Vec<String>, value: &Value) -> Result<()
     ensures { OnOk result (strings_in words.new.items ≡ strings_in words.old.items ++ words_of (data_of value.now)) }
 {
     match value {
-        Value::Text(text) => put_word(alloc, words, text.as_str()),
-        Value::Boolean(is_so) => put_word(alloc, words, if *is_so { "true" } else { "false" }),
+        Value::Text(text) => push_string(alloc, words, text.as_str()),
+        Value::Boolean(is_so) => push_string(alloc, words, if *is_so { "true" } else { "false" }),
         Value::Object(thing) => put_object(alloc, words, thing),
         _ => Ok(()),
     }

@@ -13,7 +13,7 @@ loop-i-preserved-in-Stays c =
     let d : Bor (List ℕ) = record { ref_ptr = (0, 0); now = [] } in
     let m = meaning c.args.scope (place_view c.args.place.now) in
     let made = string_bytes c.loop-i.made in
-    let new = string_bytes c.push_str-in-Stays-2.new.self in
+    let new = string_bytes c.push_both-in-Stays.new.made in
     let name = (get_or xs i d).now in
     let text = (get_or xs (i + 1) d).now in
     let others = now_of (drop (i + 2) xs) in
@@ -24,7 +24,7 @@ loop-i-preserved-in-Stays c =
       filled =
           ap (λ l. behind_text new (filled_behind m l)) (one_at xs (i + 1) (i + 2) d more (omega arith))
           ∙ stays_step m made new name text others (sym c.in_ok-meaning_of.ensures ∙ ap meaning_view c.in-Stays.is)
-          (c.in_ok-push_str-in-Stays-2.ensures.bytes ∙ ap (λ x. x ++ name) c.in_ok-push_str-in-Stays.ensures.bytes)
+          c.in_ok-push_both-in-Stays.ensures
           ∙ ap (λ l. behind_text made (filled_behind m l)) (sym (two_at xs i d more))
           ∙ c.loop-i.invariant.filled;
     }
@@ -36,7 +36,7 @@ loop-i-preserved-in-Lent c =
     let d : Bor (List ℕ) = record { ref_ptr = (0, 0); now = [] } in
     let m = meaning c.args.scope (place_view c.args.place.now) in
     let made = string_bytes c.loop-i.made in
-    let new = string_bytes c.push_str-in-Lent-2.new.self in
+    let new = string_bytes c.push_both-in-Lent.new.made in
     let name = (get_or xs i d).now in
     let text = (get_or xs (i + 1) d).now in
     let value = c.in-Lent.value.now in
@@ -47,7 +47,7 @@ loop-i-preserved-in-Lent c =
       within = omega arith;
       filled =
           means_step m made new name text others value (sym c.in_ok-meaning_of.ensures ∙ ap meaning_view c.in-Lent.is)
-          (c.in_ok-push_str-in-Lent-2.ensures.bytes ∙ ap (λ x. x ++ text) (c.in_ok-push_str-in-Lent.ensures.bytes))
+          c.in_ok-push_both-in-Lent.ensures
           ∙ ap (λ l. behind_text made (filled_behind m l)) (sym (two_at xs i d more))
           ∙ c.loop-i.invariant.filled;
     }
@@ -59,7 +59,7 @@ loop-i-preserved c =
     let d : Bor (List ℕ) = record { ref_ptr = (0, 0); now = [] } in
     let m = meaning c.args.scope (place_view c.args.place.now) in
     let made = string_bytes c.loop-i.made in
-    let new = string_bytes c.push_str-in-Made-2.new.self in
+    let new = string_bytes c.push_both-in-Made.new.made in
     let name = (get_or xs i d).now in
     let text = (get_or xs (i + 1) d).now in
     let value = string_bytes c.in-Made.value in
@@ -70,7 +70,7 @@ loop-i-preserved c =
       within = omega arith;
       filled =
           means_step m made new name text others value (sym c.in_ok-meaning_of.ensures ∙ ap meaning_view c.in-Made.is)
-          (c.in_ok-push_str-in-Made-2.ensures.bytes ∙ ap (λ x. x ++ text) (c.in_ok-push_str-in-Made.ensures.bytes ∙ ap (λ v. made ++ v) c.deref.ensures))
+          (c.in_ok-push_both-in-Made.ensures ∙ ap (λ v. (made ++ v) ++ text) c.deref.ensures)
           ∙ ap (λ l. behind_text made (filled_behind m l)) (sym (two_at xs i d more))
           ∙ c.loop-i.invariant.filled;
     }

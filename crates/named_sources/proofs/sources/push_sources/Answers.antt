@@ -1,6 +1,6 @@
 use Rattle.std.proofs.Common.{arith}
 use Rattle.std.proofs.lemmas.Grind.{common_steps}
-use Rattle.named_sources.proofs.folders.folders_of.Goals as goal
+use Rattle.named_sources.proofs.sources.push_sources.Goals as goal
 
 pub loop-value-init : goal.loop-value-init
 loop-value-init c = grind (arith, common_steps)

@@ -1,6 +1,6 @@
 use Rattle.std.proofs.Common.{arith}
 use Rattle.std.proofs.lemmas.Grind.{common_steps}
-use Rattle.named_sources.proofs.resources.beside.put_texts.Goals as goal
+use Rattle.named_sources.proofs.folders.push_strings.Goals as goal
 
 pub loop-text-init : goal.loop-text-init
 loop-text-init c = grind (arith, common_steps)
