@@ -7,7 +7,6 @@ use crate::node::{Node, StatementNode};
 
 /// A definition file, kept flat. An expression is named by its number among `nodes` and a statement by its number among `statements`;
 /// each stands after its parts, so a walk over parts ends. Names are numbers of a table of names.
-#[derive(Drop)]
 pub struct Code {
     pub nodes: Vec<Node>,
     pub statements: Vec<StatementNode>,
@@ -18,4 +17,16 @@ pub struct Code {
     pub ghost ordered: { IsTrue (all_within names 0 nodes.items) },
     pub ghost placed: { IsTrue (all_placed names (length nodes.items) 0 statements.items) },
     pub ghost whole: { IsTrue (are_below (length statements.items) body.items) },
+}
+
+// So no crate proves again how each kind of node is let go.
+impl Drop for Code {
+    fn drop(self) {
+        let Code {
+            nodes: _,
+            statements: _,
+            body: _,
+            names: _,
+        } = self;
+    }
 }
