@@ -3,6 +3,7 @@
 ghost use Rattle.std.specs.Prelude.{◌≡◌, IfOk, string_bytes};
 ghost use Rattle.machine.specs.machine_file.MisfitView.{misfit_in};
 ghost use Rattle.machine.specs.machine_file.Misfits.{expected_words, key_is, misfit_of, section_is, takes_words, value_words, words_of};
+ghost use Rattle.machine.specs.machine_file.Misfits.{NoSign};
 ghost use Rattle.machine.specs.machine_file.View.{value_in};
 
 use crate::machine_file::section::{Expected, SectionKind};
@@ -89,6 +90,27 @@ fn takes_words(
     format!(in alloc; "takes {expected}, and got {got}")
 }
 
+// A key of a section takes one value, and this one was given.
+fn key_takes(
+    alloc: Global,
+    section: &str,
+    key: &str,
+    expected: Expected,
+    value: &MachineValue,
+) -> Result<String, AllocError>
+    ensures { IfOk result (λ text. string_bytes text ≡ key_is section.now key.now (takes_words expected (value_in value.now))) }
+{
+    let words = takes_words(alloc, expected, value)?;
+    key_is(alloc, section, key, &words)
+}
+
+// A line of a section has no `=`.
+fn without_sign(alloc: Global, section: &str) -> Result<String, AllocError>
+    ensures { IfOk result (λ text. string_bytes text ≡ words_of (NoSign section.now)) }
+{
+    format!(in alloc; "[{section}] line: has no '='")
+}
+
 impl<'m> Misfit<'m> {
     /// What is wrong with a key and a value that a section of this name and kind does not take.
     pub fn of_value(
@@ -119,12 +141,11 @@ impl<'m> Misfit<'m> {
             Misfit::NoSection(name) => section_is(alloc, name, "there is none"),
             Misfit::SectionTwice(name) => section_is(alloc, name, "stands twice"),
             Misfit::Outside => String::from_str(alloc, "line: stands in no section"),
-            Misfit::NoSign(section) => format!(in alloc; "[{section}] line: has no '='"),
+            Misfit::NoSign(section) => without_sign(alloc, section),
             Misfit::NoValue(section, key) => key_is(alloc, section, key, "has no value"),
             Misfit::NoKey(section, key) => key_is(alloc, section, key, "there is none"),
             Misfit::OtherValue(section, key, expected, value) => {
-                let words = takes_words(alloc, expected, value)?;
-                key_is(alloc, section, key, &words)
+                key_takes(alloc, section, key, expected, value)
             }
             Misfit::KeyTwice(section, key) => key_is(alloc, section, key, "stands twice"),
         }

@@ -8,6 +8,7 @@ ghost use Rattle.machine.specs.option_values.View.{value_in};
 use crate::option_values::choices::Choices;
 use crate::option_values::kind::{FeatureState, OptionKind, OptionValue};
 use basics::tables::{SipMap, new_map};
+use basics::text_lists::strings;
 use std::alloc::{AllocError, Global};
 
 /// The choices of a combo.
@@ -125,34 +126,23 @@ pub fn is_built_in(name: &str) -> bool
     built_ins().iter().any(|row| name == row.name)
 }
 
-// These texts, owned.
-fn texts(alloc: Global, texts: &[&str]) -> Result<Vec<String>, AllocError>
-    ensures { IfOk result (λ v. strings_in v.items ≡ map (λ t. t.now) texts.now) }
-{
-    let mut owned = Vec::new(alloc);
-    for text in texts {
-        owned.push(String::from_str(alloc, text)?)?;
-    }
-    Ok(owned)
-}
-
 fn to_list(alloc: Global, choices: ChoiceList) -> Result<Vec<String>, AllocError>
     ensures { IfOk result (λ v. strings_in v.items ≡ list_in choices) }
 {
     match choices {
-        ChoiceList::BuildTypes => texts(
+        ChoiceList::BuildTypes => strings(
             alloc,
             &["plain", "debug", "debugoptimized", "release", "minsize"],
         ),
-        ChoiceList::Levels => texts(alloc, &["plain", "0", "g", "1", "2", "3", "s"]),
-        ChoiceList::Warnings => texts(alloc, &["0", "1", "2", "3"]),
-        ChoiceList::Standards => texts(
+        ChoiceList::Levels => strings(alloc, &["plain", "0", "g", "1", "2", "3", "s"]),
+        ChoiceList::Warnings => strings(alloc, &["0", "1", "2", "3"]),
+        ChoiceList::Standards => strings(
             alloc,
             &[
                 "none", "c89", "c99", "c11", "c17", "gnu89", "gnu99", "gnu11", "gnu17",
             ],
         ),
-        ChoiceList::Libraries => texts(alloc, &["shared", "static"]),
+        ChoiceList::Libraries => strings(alloc, &["shared", "static"]),
     }
 }
 
@@ -209,8 +199,7 @@ fn put_kind_of(
     ensures { OnOk result (kinds_in kinds.new.entries ≡ add_kind (kinds_in kinds.old.entries) (row_in row.now)) }
 {
     let kind = kind_of(alloc, row.form)?;
-    put_kind(alloc, kinds, row.name, kind)?;
-    Ok(())
+    put_kind(alloc, kinds, row.name, kind)
 }
 
 /// The options with what each takes.

@@ -1,27 +1,35 @@
-use Rattle.std.proofs.Common.{arith}
-use Rattle.std.proofs.lemmas.Grind.{common_steps, elements}
+use Rattle.std.proofs.Common.{◌≡◌, IfOk, Result, String, Global, string_bytes, sym, subst}
+use Rattle.std.specs.declared.alloc.AllocError.{AllocError}
+use Rattle.machine.specs.declared.machine_file.misfit.Misfit.{Misfit}
+use Rattle.machine.specs.machine_file.MisfitView.{misfit_in}
+use Rattle.machine.specs.machine_file.Misfits.{words_of}
 use Rattle.machine.proofs.machine_file.misfit.Misfit.words.Goals as goal
 
+-- the words are those of what is wrong
+abbrev Tells : Result (String Global) AllocError → Misfit → Type 0
+Tells r m = IfOk r (λ text. string_bytes text ≡ words_of (misfit_in m))
+
 pub returns-in-NoSection : goal.returns-in-NoSection
-returns-in-NoSection c = grind (arith, common_steps)
+returns-in-NoSection c = subst (Tells c.section_is.result) (sym c.in-NoSection.is) c.section_is.ensures
 
 pub returns-in-SectionTwice : goal.returns-in-SectionTwice
-returns-in-SectionTwice c = grind (arith, common_steps)
+returns-in-SectionTwice c =
+    subst (Tells c.section_is-in-SectionTwice.result) (sym c.in-SectionTwice.is) c.section_is-in-SectionTwice.ensures
 
 pub returns-in-Outside : goal.returns-in-Outside
-returns-in-Outside c = grind (arith, common_steps)
+returns-in-Outside c = subst (Tells c.from_str.result) (sym c.in-Outside.is) c.from_str.ensures.ok
 
 pub returns-in-NoSign : goal.returns-in-NoSign
-returns-in-NoSign c = grind (arith, elements)
+returns-in-NoSign c = subst (Tells c.without_sign.result) (sym c.in-NoSign.is) c.without_sign.ensures
 
 pub returns-in-NoValue : goal.returns-in-NoValue
-returns-in-NoValue c = grind (arith, elements)
+returns-in-NoValue c = subst (Tells c.key_is.result) (sym c.in-NoValue.is) c.key_is.ensures
 
 pub returns-in-NoKey : goal.returns-in-NoKey
-returns-in-NoKey c = grind (arith, elements)
+returns-in-NoKey c = subst (Tells c.key_is-in-NoKey.result) (sym c.in-NoKey.is) c.key_is-in-NoKey.ensures
 
-pub returns-in_ok-words-in-OtherValue : goal.returns-in_ok-words-in-OtherValue
-returns-in_ok-words-in-OtherValue c = grind (arith, common_steps)
+pub returns-in-OtherValue : goal.returns-in-OtherValue
+returns-in-OtherValue c = subst (Tells c.key_takes.result) (sym c.in-OtherValue.is) c.key_takes.ensures
 
 pub returns-in-KeyTwice : goal.returns-in-KeyTwice
-returns-in-KeyTwice c = grind (arith, common_steps)
+returns-in-KeyTwice c = subst (Tells c.key_is-in-KeyTwice.result) (sym c.in-KeyTwice.is) c.key_is-in-KeyTwice.ensures
