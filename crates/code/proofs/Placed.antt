@@ -207,10 +207,7 @@ module _ (s : Statement) (line : ℕ) where
   pub continue_made : s ≡ Variants.Continue line → ContinueTree line ≡ statement_of s
   continue_made is = sym (ap statement_of is ∙ ap statement_of (sym (Variants.rolls-Continue line)) ∙ fold-roll-Statement StatementTree BranchTree statement_step branch_step (Open.Continue line))
 
-  pub each_made : (first : Bor (List ℕ)) (second : Option (Bor (List ℕ))) (round : Box Branch Global) (xs : List Statement) (ys : List StatementTree)
-      → s ≡ Variants.Foreach line first second round → xs ≡ round.value.body.items → ys ≡ map statement_of xs
-      → ForeachTree line first.now (option_map (λ n. n.now) second) (expression_of round.value.condition) round.value.line (statements ys) ≡ statement_of s
-  each_made first second round xs ys is same wanted =
-      ap (λ l. ForeachTree line first.now (option_map (λ n. n.now) second) (expression_of round.value.condition) round.value.line (statements l)) (wanted ∙ ap (map statement_of) same)
-      ∙ ap (λ (b : BranchTree). ForeachTree line first.now (option_map (λ n. n.now) second) b.0 b.1 b.2) (sym (branch_is round.value))
-      ∙ sym (ap statement_of is ∙ ap statement_of (sym (Variants.rolls-Foreach line first second round)) ∙ fold-roll-Statement StatementTree BranchTree statement_step branch_step (Open.Foreach line first second round))
+  pub each_made : (first : Bor (List ℕ)) (second : Option (Bor (List ℕ))) (round : Box Branch Global) → s ≡ Variants.Foreach line first second round
+      → ForeachTree line first.now (option_map (λ n. n.now) second) (branch_of round.value).0 (branch_of round.value).1 (branch_of round.value).2
+      ≡ statement_of s
+  each_made first second round is = sym (ap statement_of is ∙ ap statement_of (sym (Variants.rolls-Foreach line first second round)) ∙ fold-roll-Statement StatementTree BranchTree statement_step branch_step (Open.Foreach line first second round))

@@ -1,6 +1,7 @@
 //! Code as it is made: nodes are put at the end, each after its parts.
-ghost use Rattle.std.specs.Prelude.{◌≡◌, [], IsTrue, IfOk, length, nat_lt, slice_index_or};
+ghost use Rattle.std.specs.Prelude.{◌≡◌, [], IsTrue, IfOk, length, nat_lt, option_map, slice_index_or};
 ghost use Rattle.code.specs.Nodes.{all_within, within, tree_of};
+ghost use Rattle.code.specs.Statements.{name_at, second_within};
 
 use crate::names::Names;
 use crate::node::Node;
@@ -48,5 +49,35 @@ impl Draft {
         ensures is { IfOk result (λ number. slice_index_or self.new.names number [] ≡ name.now) }
     {
         self.names.put(name)
+    }
+
+    // The number of a name, where there is one.
+    fn second_name(&mut self, name: Option<&str>) -> Result<Option<usize>, AllocError>
+        ensures grows { Grows self.old self.new }
+        ensures trees { trees_in self.new ≡ trees_in self.old }
+        ensures within { IfOk result (λ number. IsTrue (second_within (length self.new.names) number)) }
+        ensures is { IfOk result (λ number. option_map (name_at self.new.names) number ≡ option_map (λ n. n.now) name.entry) }
+    {
+        match name {
+            Some(name) => Ok(Some(self.name(name)?)),
+            None => Ok(None),
+        }
+    }
+
+    /// The numbers of the names of a loop, which may be new. The second may be missing.
+    pub fn loop_names(
+        &mut self,
+        first: &str,
+        second: Option<&str>,
+    ) -> Result<(usize, Option<usize>), AllocError>
+        ensures grows { Grows self.old self.new }
+        ensures within { IfOk result (λ p. IsTrue (nat_lt p.0 (length self.new.names))) }
+        ensures is { IfOk result (λ p. name_at self.new.names p.0 ≡ first.now) }
+        ensures second_within { IfOk result (λ p. IsTrue (second_within (length self.new.names) p.1)) }
+        ensures second_is { IfOk result (λ p. option_map (name_at self.new.names) p.1 ≡ option_map (λ n. n.now) second.entry) }
+    {
+        let first = self.name(first)?;
+        let second = self.second_name(second)?;
+        Ok((first, second))
     }
 }

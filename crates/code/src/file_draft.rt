@@ -1,7 +1,7 @@
 //! The code of a file as it is made.
-ghost use Rattle.std.specs.Prelude.{◌≡◌, [], IsTrue, IfOk, length, nat_lt};
+ghost use Rattle.std.specs.Prelude.{◌≡◌, [], IsTrue, IfOk, length, nat_lt, option_map};
 ghost use Rattle.grammar.specs.ExpressionTree.{expression_of};
-ghost use Rattle.code.specs.Statements.{all_placed, statement_within, statement_tree, name_at};
+ghost use Rattle.code.specs.Statements.{all_placed, statement_within, statement_tree, name_at, second_within};
 
 use crate::draft::Draft;
 use crate::names::Names;
@@ -38,6 +38,21 @@ impl FileDraft {
         ensures is { IfOk result (λ number. name_at self.new.draft.names number ≡ name.now) }
     {
         self.draft.name(name)
+    }
+
+    /// The numbers of the names of a loop, which may be new. The second may be missing.
+    pub fn loop_names(
+        &mut self,
+        first: &str,
+        second: Option<&str>,
+    ) -> Result<(usize, Option<usize>), AllocError>
+        ensures extends { Extends self.old self.new }
+        ensures within { IfOk result (λ p. IsTrue (nat_lt p.0 (length self.new.draft.names))) }
+        ensures is { IfOk result (λ p. name_at self.new.draft.names p.0 ≡ first.now) }
+        ensures second_within { IfOk result (λ p. IsTrue (second_within (length self.new.draft.names) p.1)) }
+        ensures second_is { IfOk result (λ p. option_map (name_at self.new.draft.names) p.1 ≡ option_map (λ n. n.now) second.entry) }
+    {
+        self.draft.loop_names(first, second)
     }
 
     /// Puts the nodes of an expression, and answers the number of its own.

@@ -5,7 +5,7 @@ ghost use Rattle.grammar.specs.ExpressionTree.{expression_of};
 ghost use Rattle.grammar.specs.ReadingStatements.{set_tree};
 ghost use Rattle.grammar.specs.Tree.{ValueTree, ForeachTree, IfTree, statement_of, branch_of, branches as branch_trees, statements};
 ghost use Rattle.code.specs.Nodes.{are_below};
-ghost use Rattle.code.specs.Statements.{statement_at, name_at, second_within, set_node};
+ghost use Rattle.code.specs.Statements.{statement_at, set_node};
 
 use crate::file_draft::FileDraft;
 use crate::node::{BranchNode, ForeachNode, IfNode, StatementNode};
@@ -57,27 +57,6 @@ impl FileDraft {
         self.push(StatementNode::Expression { value, line })
     }
 
-    // The second name of a `foreach`, where it has one.
-    fn second_name(&mut self, name: Option<&str>) -> Result<Option<usize>, AllocError>
-        ensures extends { Extends self.old self.new }
-        ensures within { IfOk result (λ number. IsTrue (second_within (length self.new.draft.names) number)) }
-        ensures is { IfOk result (λ number. option_map (name_at self.new.draft.names) number ≡ option_map (λ n. n.now) name.entry) }
-    {
-        match name {
-            Some(name) => Ok(Some(self.name(name)?)),
-            None => Ok(None),
-        }
-    }
-
-    // Puts the names of a loop into the table, so that the f-strings of its body find them there.
-    fn put_names(&mut self, first: &str, second: Option<&str>) -> Result<(), AllocError>
-        ensures { Extends self.old self.new }
-    {
-        self.name(first)?;
-        self.second_name(second)?;
-        Ok(())
-    }
-
     // `foreach first, second : list`, over a body that is there.
     fn foreach(
         &mut self,
@@ -95,8 +74,7 @@ impl FileDraft {
             (statements (map (statement_at (statements_in self.old)) body.items)))) }
     {
         let list = self.expression(list)?;
-        let first = self.name(first)?;
-        let second = self.second_name(second)?;
+        let (first, second) = self.loop_names(first, second)?;
         let node = ForeachNode {
             line,
             first,
@@ -131,13 +109,26 @@ impl FileDraft {
                 first,
                 second,
                 round,
-            } => {
-                let round: &Branch<'_> = round;
-                self.put_names(first, *second)?;
-                let body = self.body(&round.body)?;
-                self.foreach(*line, first, *second, &round.condition, round.line, body)
-            }
+            } => self.repeated(*line, first, *second, round),
         }
+    }
+
+    // `foreach`: the statements of its body, and then its own. Its names come before, so that the f-strings of its body find them.
+    #[cycle(flatten_statement)]
+    fn repeated(
+        &mut self,
+        line: usize,
+        first: &str,
+        second: Option<&str>,
+        round: &Branch<'_>,
+    ) -> Result<usize, AllocError>
+        ensures extends { Extends self.old self.new }
+        ensures is { IfOk result (λ i. IsStatement self.new i (ForeachTree line first.now (option_map (λ n. n.now) second.entry)
+            (branch_of round.now).0 (branch_of round.now).1 (branch_of round.now).2)) }
+    {
+        self.loop_names(first, second)?;
+        let body = self.body(&round.body)?;
+        self.foreach(line, first, second, &round.condition, round.line, body)
     }
 
     // `if`, its parts with a condition, and what stands behind `else`.

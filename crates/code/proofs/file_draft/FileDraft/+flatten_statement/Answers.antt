@@ -3,7 +3,7 @@ use Rattle.std.specs.List.{list_all}
 use Rattle.grammar.specs.ExpressionTree.{ExpressionTree, expression_of}
 use Rattle.grammar.specs.declared.tree.Expression.{Expression}
 use Rattle.grammar.specs.declared.tree.Branch.{Branch}
-use Rattle.grammar.specs.Tree.{AssignTree, AppendTree, ForeachTree, IfTree, branches, statement_of, branch_of, statements}
+use Rattle.grammar.specs.Tree.{AssignTree, AppendTree, BranchTree, ForeachTree, IfTree, branches, statement_of, branch_of, statements}
 use Rattle.code.specs.declared.node.StatementNode.TheVariants as flat
 use Rattle.code.specs.Draft.{trees_in}
 use Rattle.code.specs.Statements.{statement_at, statement_tree, branch_within}
@@ -137,29 +137,39 @@ statement-returns-in-Continue-clause-is t c = statement_as c.push-in-Continue.re
 pub statement-returns-in-If-clause-extends : goal.statement-returns-in-If-clause-extends
 statement-returns-in-If-clause-extends t c = c.conditional.ensures.extends
 
-pub statement-returns-in_err-put_names-in-Foreach-clause-extends : goal.statement-returns-in_err-put_names-in-Foreach-clause-extends
-statement-returns-in_err-put_names-in-Foreach-clause-extends t c = c.put_names.ensures
+pub statement-returns-in-Foreach-clause-extends : goal.statement-returns-in-Foreach-clause-extends
+statement-returns-in-Foreach-clause-extends t c = c.repeated.ensures.extends
 
-pub statement-returns-in_err-body-in-Foreach-clause-extends : goal.statement-returns-in_err-body-in-Foreach-clause-extends
-statement-returns-in_err-body-in-Foreach-clause-extends t c =
-    extends_trans c.args.self.now c.put_names.new.self c.body.new.self c.put_names.ensures c.body.ensures.extends
+pub statement-returns-in-Foreach-clause-is : goal.statement-returns-in-Foreach-clause-is
+statement-returns-in-Foreach-clause-is t c = statement_as c.repeated.result c.repeated.new.self _ (statement_of c.args.statement.now) c.repeated.ensures.is
+    (ap (λ (b : Branch). ForeachTree c.in-Foreach.line c.in-Foreach.first.now (option_map (λ n. n.now) c.in-Foreach.second)
+    (branch_of b).0 (branch_of b).1 (branch_of b).2) c.deref-in-Foreach.ensures
+    ∙ each_made c.args.statement.now c.in-Foreach.line c.in-Foreach.first c.in-Foreach.second c.in-Foreach.round c.in-Foreach.is)
 
-pub statement-foreach-requires : goal.statement-foreach-requires
-statement-foreach-requires t c = c.in_ok-body-in-Foreach.ensures.are.within
+pub repeated-returns-in_err-loop_names-clause-extends : goal.repeated-returns-in_err-loop_names-clause-extends
+repeated-returns-in_err-loop_names-clause-extends t c = c.loop_names.ensures.extends
 
-pub statement-returns-in_ok-body-in-Foreach-clause-extends : goal.statement-returns-in_ok-body-in-Foreach-clause-extends
-statement-returns-in_ok-body-in-Foreach-clause-extends t c =
+pub repeated-returns-in_err-body-clause-extends : goal.repeated-returns-in_err-body-clause-extends
+repeated-returns-in_err-body-clause-extends t c =
+    extends_trans c.args.self.now c.loop_names.new.self c.body.new.self c.loop_names.ensures.extends c.body.ensures.extends
+
+pub repeated-foreach-requires : goal.repeated-foreach-requires
+repeated-foreach-requires t c = c.in_ok-body.ensures.are.within
+
+pub repeated-returns-clause-extends : goal.repeated-returns-clause-extends
+repeated-returns-clause-extends t c =
     extends_trans c.args.self.now c.body.new.self c.foreach.new.self
-    (extends_trans c.args.self.now c.put_names.new.self c.body.new.self c.put_names.ensures c.body.ensures.extends)
+    (extends_trans c.args.self.now c.loop_names.new.self c.body.new.self c.loop_names.ensures.extends c.body.ensures.extends)
     c.foreach.ensures.extends
 
-pub statement-returns-in_ok-body-in-Foreach-clause-is : goal.statement-returns-in_ok-body-in-Foreach-clause-is
-statement-returns-in_ok-body-in-Foreach-clause-is t c = statement_as c.foreach.result c.foreach.new.self _ (statement_of c.args.statement.now) c.foreach.ensures.is
-    (ap (λ (b : Branch). ForeachTree c.in-Foreach.line c.in-Foreach.first.now (option_map (λ n. n.now) c.in-Foreach.second) (expression_of b.condition) b.line
-    (statements (map (statement_at (statements_in c.body.new.self)) c.in_ok-body-in-Foreach.body.items))) c.deref-round.ensures
-    ∙ each_made c.args.statement.now c.in-Foreach.line c.in-Foreach.first c.in-Foreach.second c.in-Foreach.round
-    c.deref-in-Foreach.result.now (map (statement_at (statements_in c.body.new.self)) c.in_ok-body-in-Foreach.body.items) c.in-Foreach.is
-    (c.deref-in-Foreach.ensures.value ∙ ap (λ (b : Branch). b.body.items) c.deref-round.ensures) c.in_ok-body-in-Foreach.ensures.are.are)
+pub repeated-returns-clause-is : goal.repeated-returns-clause-is
+repeated-returns-clause-is t c =
+    let r = c.args.round.now in
+    let second = option_map (λ n. n.now) c.args.second in
+    statement_as c.foreach.result c.foreach.new.self _ _ c.foreach.ensures.is
+    (ap (λ l. ForeachTree c.args.line c.args.first.now second (expression_of r.condition) r.line (statements l))
+    (c.in_ok-body.ensures.are.are ∙ ap (map statement_of) c.deref.ensures.value)
+    ∙ ap (λ (b : BranchTree). ForeachTree c.args.line c.args.first.now second b.0 b.1 b.2) (sym (branch_is r)))
 
 pub body-returns-in_err-number-clause-extends : goal.body-returns-in_err-number-clause-extends
 body-returns-in_err-number-clause-extends t c =

@@ -16,6 +16,9 @@ decreases-body l = 3 * goal.size-body l + 1
 abbrev pub decreases-branches : goal.decreases-branches
 decreases-branches l = 3 * goal.size-branches l + 1
 
+abbrev pub decreases-repeated : goal.decreases-repeated
+decreases-repeated l = 3 * goal.size-repeated l + 1
+
 abbrev pub decreases-conditional : goal.decreases-conditional
 decreases-conditional l = 3 * max (most (λ x. size-Branch x) l.branches.now) (most (λ x. size-Statement x) l.otherwise.now) + 2
 
