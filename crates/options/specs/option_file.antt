@@ -14,3 +14,4 @@ pub mod Names
 pub mod Numbers
 pub mod Entries
 pub mod View
+pub mod FirstName

@@ -5,6 +5,7 @@ ghost use Rattle.options.specs.option_file.View.{given_in};
 ghost use Rattle.machine.specs.option_values.Given.{boolean_text};
 ghost use Rattle.machine.specs.option_values.View.{kind_in};
 ghost use Rattle.options.specs.MisfitView.{misfit_in, written_in};
+ghost use Rattle.options.specs.Misfits.{NoSign};
 ghost use Rattle.options.specs.Misfits.{default_words, given_words, in_quotes, option_is, refusal_of, takes, words_of, written_words};
 ghost use Rattle.machine.specs.machine_file.View.{value_in as machine_value_in};
 
@@ -108,6 +109,39 @@ fn takes(alloc: Global, name: &str, kind: &OptionKind, got: &str) -> Result<Stri
     format!(in alloc; "option '{name}': takes {kind}, and got {got}")
 }
 
+// A text has no `=`.
+fn without_sign(alloc: Global, text: &str) -> Result<String, AllocError>
+    ensures { IfOk result (λ words. string_bytes words ≡ words_of (NoSign text.now)) }
+{
+    format!(in alloc; "'{text}': has no '='")
+}
+
+// An option does not take what a place gives it.
+fn not_taken(
+    alloc: Global,
+    name: &str,
+    kind: &OptionKind,
+    what: Written<'_>,
+) -> Result<String, AllocError>
+    ensures { IfOk result (λ text. string_bytes text ≡ takes name.now (kind_in kind.now) (written_words (written_in what.entry))) }
+{
+    let got = written_words(alloc, what)?;
+    takes(alloc, name, kind, &got)
+}
+
+// An option does not take the default of its declaration.
+fn default_not_taken(
+    alloc: Global,
+    name: &str,
+    kind: &OptionKind,
+    value: &Option<Given>,
+) -> Result<String, AllocError>
+    ensures { IfOk result (λ text. string_bytes text ≡ takes name.now (kind_in kind.now) (default_words (option_map given_in value.now))) }
+{
+    let got = default_words(alloc, value)?;
+    takes(alloc, name, kind, &got)
+}
+
 impl<'a> Misfit<'a> {
     /// What it is refused as: E15, or E23 where it is left out by name.
     pub fn refusal(self) -> Refusal
@@ -125,16 +159,10 @@ impl<'a> Misfit<'a> {
     {
         match self {
             Misfit::NoOption(name) => option_is(alloc, name, "there is none"),
-            Misfit::NoSign(text) => format!(in alloc; "'{text}': has no '='"),
+            Misfit::NoSign(text) => without_sign(alloc, text),
             Misfit::Both => option_is(alloc, "default_library", "'both' is left out"),
-            Misfit::NoValue(name, kind, what) => {
-                let got = written_words(alloc, what)?;
-                takes(alloc, name, kind, &got)
-            }
-            Misfit::NoDefault(name, kind, value) => {
-                let got = default_words(alloc, value)?;
-                takes(alloc, name, kind, &got)
-            }
+            Misfit::NoValue(name, kind, what) => not_taken(alloc, name, kind, what),
+            Misfit::NoDefault(name, kind, value) => default_not_taken(alloc, name, kind, value),
         }
     }
 }

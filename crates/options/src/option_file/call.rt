@@ -2,14 +2,17 @@
 
 ghost use Rattle.std.specs.Prelude.{◌≡◌, ◌++◌, [], ◌∷◌, IfOk, IsTrue, false, map, not, string_bytes};
 ghost use Rattle.std.specs.List.{list_any};
-ghost use Rattle.std.specs.Option.{option_map};
+ghost use Rattle.std.specs.Option.{option_and_then, option_map};
 ghost use Rattle.grammar.specs.ExpressionTree.{argument_of, argument_trees};
 ghost use Rattle.basics.specs.Among.{is_among};
 ghost use Rattle.machine.specs.option_values.View.{strings_in};
 ghost use Rattle.options.specs.option_file.Calls.{stands_key, with_key, gives_twice, is_left_out_key, is_free_name, name_in, with_argument};
 ghost use Rattle.options.specs.option_file.Calls.{first_left_out, first_twice, key_said, keywords_from, option_of, call_declares};
-ghost use Rattle.options.specs.option_file.Keywords.{nothing_given};
-ghost use Rattle.options.specs.option_file.KeywordsView.{keywords_in};
+ghost use Rattle.options.specs.option_file.FirstName.{first_name};
+ghost use Rattle.options.specs.option_file.Keywords.{asked_by, nothing_given};
+ghost use Rattle.options.specs.option_file.KeywordsView.{asked_in, keywords_in};
+ghost use Rattle.options.specs.option_file.MisfitView.{refused_in};
+ghost use Rattle.options.specs.option_file.Misfits.{Twice, refused_as};
 ghost use Rattle.options.specs.option_file.View.{given_in, entry_in, call_in};
 
 use crate::option_file::declaration::{Declaration, Given};
@@ -20,7 +23,7 @@ use crate::option_file::names::is_name;
 use crate::option_file::unfit::unfit;
 use basics::tables::{SipSet, new_set};
 use grammar::tree::Argument;
-use machine::option_values::is_built_in;
+use machine::option_values::{OptionKind, is_built_in};
 use std::alloc::{AllocError, Global};
 
 // Puts a key behind the others; false where it stands among them.
@@ -171,6 +174,30 @@ pub(crate) fn keywords_from(
     Ok(Some(keywords))
 }
 
+// The name that the first argument gives, which has no keyword.
+fn first_name(alloc: Global, first: &Argument<'_>) -> Result<Option<String>, AllocError>
+    ensures { IfOk result (λ name. option_map string_bytes name ≡ first_name (argument_of first.now)) }
+{
+    if first.is_named() {
+        return Ok(None);
+    }
+    Ok(name_in(read_given(alloc, first.value())?))
+}
+
+// What the option with these keywords takes, and its default.
+fn asked_by(
+    alloc: Global,
+    others: &[Argument<'_>],
+) -> Result<Option<(OptionKind, Option<Given>)>, AllocError>
+    ensures { IfOk result (λ asked. option_map asked_in asked
+        ≡ option_and_then asked_by (keywords_from nothing_given (argument_trees others.now))) }
+{
+    match keywords_from(alloc, others)? {
+        Some(keywords) => Ok(keywords.finish()),
+        None => Ok(None),
+    }
+}
+
 // The option that these arguments declare on this line: its name, and then keywords.
 fn option_of(
     alloc: Global,
@@ -182,19 +209,20 @@ fn option_of(
     let Some((first, others)) = arguments.split_first() else {
         return Ok(None);
     };
-    if first.is_named() {
+    let Some(name) = first_name(alloc, first)? else {
         return Ok(None);
+    };
+    match asked_by(alloc, others)? {
+        Some((kind, value)) => Ok(Some((name, Declaration { kind, value, line }))),
+        None => Ok(None),
     }
-    let Some(name) = name_in(read_given(alloc, first.value())?) else {
-        return Ok(None);
-    };
-    let Some(keywords) = keywords_from(alloc, others)? else {
-        return Ok(None);
-    };
-    let Some((kind, value)) = keywords.finish() else {
-        return Ok(None);
-    };
-    Ok(Some((name, Declaration { kind, value, line })))
+}
+
+fn refuse_twice(alloc: Global, arguments: &[Argument<'_>]) -> Result<Refused, AllocError>
+    ensures { IfOk result (λ r. refused_in r ≡ refused_as (Twice (first_twice [] (map argument_of arguments.now)))) }
+{
+    let key = first_twice(alloc, arguments)?;
+    Misfit::Twice(key).refuse(alloc)
 }
 
 /// The option that a call of `option` declares, with its name, or what is wrong with the call: a keyword that comes twice is
@@ -207,9 +235,7 @@ pub fn call_declares(
     ensures { IfOk result (λ option. call_in option ≡ call_declares line (argument_trees arguments.now)) }
 {
     if gives_twice(alloc, arguments)? {
-        let key = first_twice(alloc, arguments)?;
-        let refused = Misfit::Twice(key).refuse(alloc)?;
-        return Ok(Err(refused));
+        return Ok(Err(refuse_twice(alloc, arguments)?));
     }
     if gives_left_out(arguments) {
         let key = first_left_out(arguments);

@@ -2,7 +2,7 @@
 
 ghost use Rattle.std.specs.Prelude.{◌≡◌, IfOk, string_bytes};
 ghost use Rattle.options.specs.option_file.MisfitView.{misfit_in, refused_in};
-ghost use Rattle.options.specs.option_file.Misfits.{keyword_is, refusal_of, refused_as, text_is, words_of};
+ghost use Rattle.options.specs.option_file.Misfits.{Again, keyword_is, refusal_of, refused_as, text_is, words_of};
 
 use basics::faults::Refusal;
 use std::alloc::{AllocError, Global};
@@ -62,6 +62,13 @@ fn keyword_is(alloc: Global, key: &str, words: &str) -> Result<String, AllocErro
     format!(in alloc; "keyword '{key}': {words}")
 }
 
+// An option of this name was declared before.
+fn stands_twice(alloc: Global, name: &str) -> Result<String, AllocError>
+    ensures { IfOk result (λ s. string_bytes s ≡ words_of (Again name.now)) }
+{
+    format!(in alloc; "option '{name}': stands twice")
+}
+
 impl<'m> Misfit<'m> {
     fn refusal(self) -> Refusal
         ensures { result ≡ refusal_of (misfit_in self.entry) }
@@ -79,7 +86,7 @@ impl<'m> Misfit<'m> {
             Misfit::NoCall => String::from_str(alloc, "statement: is no call of option"),
             Misfit::Twice(key) => keyword_is(alloc, key, "stands twice"),
             Misfit::LeftOut(key) => keyword_is(alloc, key, "is left out"),
-            Misfit::Again(name) => format!(in alloc; "option '{name}': stands twice"),
+            Misfit::Again(name) => stands_twice(alloc, name),
             Misfit::Nameless => String::from_str(alloc, "arguments: needs the name of an option"),
             Misfit::NoName(text) => text_is(alloc, text, "is no name of an option"),
             Misfit::BuiltIn(name) => text_is(alloc, name, "is the name of a built-in option"),

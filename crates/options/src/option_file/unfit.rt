@@ -5,6 +5,7 @@ ghost use Rattle.std.specs.Option.{option_map};
 ghost use Rattle.grammar.specs.ExpressionTree.{argument_of};
 ghost use Rattle.options.specs.option_file.Calls.{keywords_from, others_unfit, unfit};
 ghost use Rattle.options.specs.option_file.MisfitView.{misfit_in, refused_in};
+ghost use Rattle.options.specs.option_file.FirstName.{first_argument_refused};
 ghost use Rattle.options.specs.option_file.Unfit.{argument_refused, first_refused, given_refused, lacking};
 ghost use Rattle.options.specs.option_file.Unfit.{name_refused, needed_by, noted_refused, plain_refused, unless};
 ghost use Rattle.options.specs.option_file.KeywordsView.{keywords_in};
@@ -49,6 +50,16 @@ fn refuse_given(alloc: Global, given: &Option<Given>) -> Result<Option<Refused>,
         Some(Given::Text(name)) => name_refused(alloc, name),
         _ => unless(alloc, false, Misfit::Nameless),
     }
+}
+
+fn refuse_first(alloc: Global, first: &Argument<'_>) -> Result<Option<Refused>, AllocError>
+    ensures { IfOk result (λ r. option_map refused_in r ≡ first_argument_refused (argument_of first.now)) }
+{
+    if first.is_named() {
+        return unless(alloc, false, Misfit::Nameless);
+    }
+    let given = read_given(alloc, first.value())?;
+    refuse_given(alloc, &given)
 }
 
 // ---- the others, each by its keyword
@@ -155,11 +166,7 @@ pub fn unfit(alloc: Global, arguments: &[Argument<'_>]) -> Result<Refused, Alloc
     let Some((first, others)) = arguments.split_first() else {
         return Misfit::Nameless.refuse(alloc);
     };
-    if first.is_named() {
-        return Misfit::Nameless.refuse(alloc);
-    }
-    let given = read_given(alloc, first.value())?;
-    match refuse_given(alloc, &given)? {
+    match refuse_first(alloc, first)? {
         Some(refused) => Ok(refused),
         None => others_unfit(alloc, others),
     }

@@ -1,0 +1,17 @@
+-- The name that an option is given.
+use Rattle.std.specs.Prelude.{ℕ, List, Option, Some, None}
+use Rattle.grammar.specs.ExpressionTree.{ArgumentTree}
+use Rattle.options.specs.option_file.Calls.{name_in}
+use Rattle.options.specs.option_file.Given.{given}
+use Rattle.options.specs.option_file.Misfits.{RefusedData, Nameless, refused_as}
+use Rattle.options.specs.option_file.Unfit.{given_refused}
+
+-- by the first argument, which has no keyword
+abbrev pub first_name : ArgumentTree → Option (List ℕ)
+first_name (None, e) = name_in (given e)
+first_name (Some key, e) = None
+
+-- what is wrong with it
+abbrev pub first_argument_refused : ArgumentTree → Option RefusedData
+first_argument_refused (None, e) = given_refused (given e)
+first_argument_refused (Some key, e) = Some (refused_as Nameless)
