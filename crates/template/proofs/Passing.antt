@@ -289,6 +289,10 @@ pub whole_kept : (line moved : List ℕ) (start end to : ℕ) → to ≡ end - s
     → take (end - start) (drop start line) ≡ moved
 whole_kept line moved start end to count kept full = sym kept ∙ ap (λ k. take k moved) (sym count ∙ full) ∙ take-length moved
 
+pub lacks_whole : (line moved : List ℕ) (start end to : ℕ) → to ≡ end - start → take (end - start) moved ≡ take (end - start) (drop start line) → to ≡ length moved
+    → Lacks 10 (take (end - start) (drop start line)) → Lacks 10 moved
+lacks_whole line moved start end to count kept full h = subst (Lacks 10) (whole_kept line moved start end to count kept full) h
+
 -- nothing is left of the file
 pub file_over : (file : List ℕ) (at size : ℕ) (more : Bool) → (size ≡ length file → more ≡ nat_lt at size) → more ≡ false → size ≡ length file → drop at file ≡ []
 file_over file at size more is none same =

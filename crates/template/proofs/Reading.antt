@@ -209,6 +209,10 @@ pub buffer_kept : (line moved now : List ℕ) (start end to : ℕ) → to ≡ en
     → take (end - start) (drop start line) ≡ take to now
 buffer_kept line moved now start end to count kept same = sym kept ∙ ap (λ k. take k moved) (sym count) ∙ sym same
 
+pub lacks_kept : (line moved now : List ℕ) (start end to : ℕ) → to ≡ end - start → take (end - start) moved ≡ take (end - start) (drop start line) → take to now ≡ take to moved
+    → Lacks 10 (take (end - start) (drop start line)) → Lacks 10 (take to now)
+lacks_kept line moved now start end to count kept same h = subst (Lacks 10) (buffer_kept line moved now start end to count kept same) h
+
 -- and with some bytes more
 pub buffer_more : (line moved now : List ℕ) (start end to n : ℕ) → to ≡ end - start → take (end - start) moved ≡ take (end - start) (drop start line) → take to now ≡ take to moved
     → take (end - start) (drop start line) ++ take n (drop to now) ≡ take (to + n - 0) (drop 0 now)

@@ -1,22 +1,33 @@
+ghost use Rattle.std.specs.Prelude.{◌++◌, codes};
 ghost use Rattle.ports.specs.Endings.{ended};
-ghost use Rattle.ports.specs.Outputs.{IsOpen, Writes};
+ghost use Rattle.ports.specs.Outputs.{IsOpen, Writes, puts};
+ghost use Rattle.template.specs.ConfigData.{content_of};
 ghost use Rattle.template.specs.Header.{header_steps};
+ghost use Rattle.template.specs.Line.{definition};
 
-use crate::ConfigData;
 use crate::replace::put_key;
+use crate::{ConfigData, ConfigValue};
 use ports::{DeviceFault, Outputs, put_all};
+
+// Writes the line of a name.
+#[tactic(auto, using(ports::proofs::Sending::sending))]
+fn put_line<O: Outputs>(name: &str, value: &ConfigValue, out: &mut O) -> Result<(), DeviceFault>
+    requires { IsOpen (O.seen out.old) }
+    ensures { Writes (O.seen out.old) (definition name.now (content_of value.now) ++ puts (codes "\n")) (ended result) (O.seen out.new) }
+{
+    put_key(name.as_bytes(), value, out)?;
+    put_all(out, b"\n")
+}
 
 /// Writes the header that `configure_file` of the Meson Reference manual makes without a template: a head, and a line
 /// `#define` or `#undef` for each name, by the order of their bytes. Takes no memory. Fails where a device does.
-#[tactic(auto, using(ports::proofs::Going::going))]
 pub fn header<O: Outputs>(config: &ConfigData, out: &mut O) -> Result<(), DeviceFault>
     requires { IsOpen (O.seen out.old) }
     ensures { Writes (O.seen out.old) (header_steps config.now.entries) (ended result) (O.seen out.new) }
 {
     put_all(out, b"/* Generated. Do not edit. */\n#pragma once\n\n")?;
     for (name, value) in &config.entries {
-        put_key(name.as_bytes(), value, out)?;
-        put_all(out, b"\n")?;
+        put_line(name.as_str(), value, out)?;
     }
     Ok(())
 }

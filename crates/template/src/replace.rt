@@ -1,6 +1,6 @@
-ghost use Rattle.std.specs.Prelude.{MatchOption, length, None, ◌≡◌, ◌≤◌, IfSome};
+ghost use Rattle.std.specs.Prelude.{MatchOption, length, None, ◌≡◌, ◌≤◌, ◌++◌, IfSome, codes, decimal};
 ghost use Rattle.ports.specs.Endings.{HasRoom, ended};
-ghost use Rattle.ports.specs.Outputs.{IsOpen, Writes, puts};
+ghost use Rattle.ports.specs.Outputs.{IsOpen, Writes, logs, puts};
 ghost use Rattle.std.specs.List.{prefix_len, list_all, AllPass};
 ghost use Rattle.template.specs.Config.{value_of, printed};
 ghost use Rattle.template.specs.ConfigData.{content_of};
@@ -90,7 +90,6 @@ fn find_sign(rest: &[u8]) -> Option<Sign>
 }
 
 /// Puts the line with its names replaced.
-#[tactic(auto, using(ports::proofs::Going::going))]
 fn put_replaced<O: Outputs>(
     config: &ConfigData,
     path: &str,
@@ -159,6 +158,18 @@ fn log_no_value<O: Outputs>(name: &[u8], out: &mut O) -> Result<(), DeviceFault>
     log_all(out, b"\n")
 }
 
+// Logs the number of a line, and that a name there has no value.
+#[tactic(auto, using(ports::proofs::Sending::sending))]
+fn log_numbered<O: Outputs>(number: u64, name: &[u8], out: &mut O) -> Result<(), DeviceFault>
+    requires { HasRoom (O.seen out.old).failures }
+    ensures { let run = logs (codes ":") ++ (logs (decimal number) ++ no_value name.now) in
+        Writes (O.seen out.old) run (ended result) (O.seen out.new) }
+{
+    log_all(out, b":")?;
+    log_all(out, Buffer::new().format(number).as_bytes())?;
+    log_no_value(name, out)
+}
+
 /// Logs that a name has no value.
 #[tactic(auto, using(ports::proofs::Sending::sending), unfolding(crate::specs::Line::warning))]
 fn log_warning<O: Outputs>(
@@ -170,12 +181,9 @@ fn log_warning<O: Outputs>(
     requires { HasRoom (O.seen out.old).failures }
     ensures { Writes (O.seen out.old) (warning path.now number name.now) (ended result) (O.seen out.new) }
 {
-    let mut buffer = Buffer::new();
     log_all(out, b"WARNING: ")?;
     log_all(out, path.as_bytes())?;
-    log_all(out, b":")?;
-    log_all(out, buffer.format(number).as_bytes())?;
-    log_no_value(name, out)
+    log_numbered(number, name, out)
 }
 
 /// How many bytes stand before a line's end.
@@ -271,6 +279,16 @@ fn defined_name<'a>(word: &[u8], rest: &'a [u8]) -> Option<&'a [u8]>
     }
 }
 
+/// Puts a word, and a name behind it.
+#[tactic(auto, using(ports::proofs::Sending::sending))]
+fn put_behind<O: Outputs>(word: &[u8], name: &[u8], out: &mut O) -> Result<(), DeviceFault>
+    requires { IsOpen (O.seen out.old) }
+    ensures { Writes (O.seen out.old) (puts word.now ++ puts name.now) (ended result) (O.seen out.new) }
+{
+    put_all(out, word)?;
+    put_all(out, name)
+}
+
 /// Puts the line of a key, without its end.
 #[tactic(auto, using(ports::proofs::Sending::sending), unfolding(crate::specs::Line::definition_or_comment, crate::specs::Line::definition))]
 fn put_define<O: Outputs>(config: &ConfigData, name: &[u8], out: &mut O) -> Result<(), DeviceFault>
@@ -281,8 +299,7 @@ fn put_define<O: Outputs>(config: &ConfigData, name: &[u8], out: &mut O) -> Resu
 {
     match config.value_at(name) {
         None => {
-            put_all(out, b"/* undef ")?;
-            put_all(out, name)?;
+            put_behind(b"/* undef ", name, out)?;
             put_all(out, b" */")
         }
         Some(value) => put_key(name, value, out),
@@ -300,17 +317,10 @@ pub(crate) fn put_key<O: Outputs>(
     ensures { Writes (O.seen out.old) (definition name.now (content_of value.now)) (ended result) (O.seen out.new) }
 {
     match value {
-        ConfigValue::Boolean(true) => {
-            put_all(out, b"#define ")?;
-            put_all(out, name)
-        }
-        ConfigValue::Boolean(false) => {
-            put_all(out, b"#undef ")?;
-            put_all(out, name)
-        }
+        ConfigValue::Boolean(true) => put_behind(b"#define ", name, out),
+        ConfigValue::Boolean(false) => put_behind(b"#undef ", name, out),
         ConfigValue::Integer(_) | ConfigValue::Text(_) => {
-            put_all(out, b"#define ")?;
-            put_all(out, name)?;
+            put_behind(b"#define ", name, out)?;
             put_all(out, b" ")?;
             put_value(value, out)
         }

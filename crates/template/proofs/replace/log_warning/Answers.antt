@@ -15,41 +15,11 @@ returns-in_err-log_all-2 g c =
     let path = rw c.as_bytes.ensures.value at c.in_err-log_all-2.ensures in
     writes_exit _ c.from_residual-in_err-log_all-2.ensures.0 (writes_then c.in_ok-log_all.ensures (writes_stop _ path))
 
-pub log_all-requires-3 : goal.log_all-requires-3
-log_all-requires-3 g c = rw (c.in_ok-log_all-2.ensures.failures, c.in_ok-log_all.ensures.failures) c.requires
-
-pub returns-in_err-log_all-3 : goal.returns-in_err-log_all-3
-unfolding warning
-returns-in_err-log_all-3 g c =
-    let path = rw c.as_bytes.ensures.value at c.in_ok-log_all-2.ensures in
-    writes_exit _ c.from_residual-in_err-log_all-3.ensures.0
-    (writes_then c.in_ok-log_all.ensures (writes_then path (writes_stop _ c.in_err-log_all-3.ensures)))
-
-pub log_all-requires-4 : goal.log_all-requires-4
-log_all-requires-4 g c =
-    rw (c.in_ok-log_all-3.ensures.failures, c.in_ok-log_all-2.ensures.failures, c.in_ok-log_all.ensures.failures) c.requires
-
-pub returns-in_err-log_all-4 : goal.returns-in_err-log_all-4
-unfolding warning
-returns-in_err-log_all-4 g c =
-    let path = rw c.as_bytes.ensures.value at c.in_ok-log_all-2.ensures in
-    let number = rw (c.as_bytes-2.ensures.value, c.format.ensures.text) at c.in_err-log_all-4.ensures in
-    writes_exit _ c.from_residual-in_err-log_all-4.ensures.0
-    (writes_then c.in_ok-log_all.ensures (writes_then path (writes_then c.in_ok-log_all-3.ensures (writes_stop _ number))))
-
-pub log_no_value-requires : goal.log_no_value-requires
-log_no_value-requires g c =
-    rw (
-      c.in_ok-log_all-4.ensures.failures,
-      c.in_ok-log_all-3.ensures.failures,
-      c.in_ok-log_all-2.ensures.failures,
-      c.in_ok-log_all.ensures.failures,
-    ) c.requires
+pub log_numbered-requires : goal.log_numbered-requires
+log_numbered-requires g c = rw (c.in_ok-log_all-2.ensures.failures, c.in_ok-log_all.ensures.failures) c.requires
 
 pub returns : goal.returns
 unfolding warning
 returns g c =
     let path = rw c.as_bytes.ensures.value at c.in_ok-log_all-2.ensures in
-    let number = rw (c.as_bytes-2.ensures.value, c.format.ensures.text) at c.in_ok-log_all-4.ensures in
-    writes_then c.in_ok-log_all.ensures
-    (writes_then path (writes_then c.in_ok-log_all-3.ensures (writes_then number c.log_no_value.ensures)))
+    writes_then c.in_ok-log_all.ensures (writes_then path c.log_numbered.ensures)

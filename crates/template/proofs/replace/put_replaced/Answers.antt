@@ -1,5 +1,6 @@
-use Rattle.ports.proofs.Sending.{writes_exit}
-use Rattle.ports.proofs.Going.{going_on, going_stop}
+use Rattle.std.proofs.Common.{arith}
+use Rattle.ports.proofs.Sending.{open_after, writes_exit}
+use Rattle.ports.proofs.Going.{going_on, going_open, going_start, going_stop}
 use Rattle.template.proofs.Scan.{sign_text, sign_text_stop, name_on, name_stop, alone_going, plain_last, sign_at, sign_name, sign_named}
 use Rattle.template.specs.Line.{replaced}
 use Rattle.template.proofs.replace.put_replaced.Goals as goal
@@ -44,3 +45,21 @@ returns g c = plain_last {run = replaced c.args.config.now.entries c.args.path.n
 
 pub put_in_place-requires-clause-named : goal.put_in_place-requires-clause-named
 put_in_place-requires-clause-named g c = let s = c.in-Some.sign in sign_named c.args.line.now c.loop-sign.from s.text s.at s.name c.in-Some.ensures
+
+pub loop-sign-init : goal.loop-sign-init
+loop-sign-init g c = record {
+  in_range = omega arith;
+  going = going_start _ _;
+}
+
+pub put_all-requires : goal.put_all-requires
+put_all-requires g c = going_open c.loop-sign.invariant.going c.requires
+
+pub put_in_place-requires-clause-out : goal.put_in_place-requires-clause-out
+put_in_place-requires-clause-out g c = open_after c.in_ok-put_all.ensures (going_open c.loop-sign.invariant.going c.requires)
+
+pub put_all-requires-else-sign-gt0 : goal.put_all-requires-else-sign-gt0
+put_all-requires-else-sign-gt0 g c = open_after c.in_ok-put_all.ensures (going_open c.loop-sign.invariant.going c.requires)
+
+pub put_all-requires-2 : goal.put_all-requires-2
+put_all-requires-2 g c = going_open c.loop-sign.invariant.going c.requires

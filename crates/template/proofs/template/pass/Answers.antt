@@ -1,12 +1,11 @@
-use Rattle.std.proofs.Common.{arith, rules, ◌≡◌, ◌+◌, ◌-◌, ◌≤◌, ◌<◌, [], take, drop, length, refl, sym, append-nil, ◌++◌, ap, subst, ◌∙◌}
+use Rattle.std.proofs.Common.{arith, ◌≡◌, ◌+◌, ◌-◌, ◌≤◌, ◌<◌, [], take, drop, length, refl, sym, append-nil, ◌++◌, ap, ◌∙◌}
 use Rattle.std.proofs.Common.{unwrap_or, Err}
 use Rattle.ports.specs.Tree.{bytes_at, file_at}
 use Rattle.ports.proofs.Sending.{sends_none}
-use Rattle.template.specs.Template.{Lacks}
 use Rattle.template.proofs.Passing.{cut_at, file_goes_on, file_over, whole_kept, passing_fault, passing_as, passing_last, passing_line}
 use Rattle.template.proofs.Passing.{passing_long, passing_start, passing_stop, size_is, exit_sends, exit_same, filled_more, filled_last}
-use Rattle.template.proofs.Passing.{buffer_len, stays_then, file_past}
-use Rattle.template.proofs.Reading.{before, buffer_kept, buffer_more, piece_length, piece_none, piece_some, reading_as, reading_last}
+use Rattle.template.proofs.Passing.{buffer_len, lacks_whole, stays_then, file_past}
+use Rattle.template.proofs.Reading.{before, buffer_kept, buffer_more, lacks_kept, piece_length, piece_none, piece_some, reading_as, reading_last}
 use Rattle.template.proofs.Reading.{reading_line, reading_long, reading_more, reading_start, reading_stop}
 use Rattle.template.proofs.Scan.{lacks_all}
 use Rattle.template.proofs.template.pass.Goals as goal
@@ -18,16 +17,16 @@ pub lines-init : goal.lines-init
 lines-init g c = record {
   ends = omega arith;
   in_line = omega arith;
-  line_len = search rules;
+  line_len = c.requires.line_len;
   in_file = omega arith;
   counted = omega arith;
   size = λ steady. c.unwrap_or-size.ensures ∙ ap (λ o. unwrap_or o 0) (c.in_ok-size.ensures.size steady) ∙ size_is (file_at (g.T.Tree.seen c.args.tree.now).files c.args.path.now);
   passing = λ steady. passing_start _ _ _ _;
   reading = reading_start g.T.Tree.tells_size g.T.Tree.gives c.args.config.now.entries c.args.path.now c.args.tree.now (g.O.Outputs.seen c.args.out.now) _ _ _ c.in_ok-size.ensures.tells c.unwrap_or-size.ensures;
-  stays = search rules;
-  tree_failures = search rules;
-  name = search rules;
-  out_failures = search rules;
+  stays = c.in_ok-size.ensures.asks.stays;
+  tree_failures = c.in_ok-size.ensures.asks.failures;
+  name = refl;
+  out_failures = refl;
 }
 
 pub returns-in_err-replace_line-in-Some-clause-events : goal.returns-in_err-replace_line-in-Some-clause-events
@@ -65,8 +64,8 @@ lines-preserved-in-Some g c =
           (rw cut.whole at c.in_ok-replace_line-in-Some.ensures.writes) (rw cut.whole at c.in_ok-replace_line-in-Some.ensures.fault);
       stays = inv.stays;
       tree_failures = inv.tree_failures;
-      name = search rules;
-      out_failures = search rules;
+      name = c.in_ok-replace_line-in-Some.ensures.writes.name ∙ inv.name;
+      out_failures = c.in_ok-replace_line-in-Some.ensures.writes.failures ∙ inv.out_failures;
     }
 
 pub returns-in_err-has_more-in-None-clause-events : goal.returns-in_err-has_more-in-None-clause-events
@@ -105,10 +104,8 @@ returns-then-branch-clause-fault g c = λ steady.
 
 pub put_last-requires-clause-lacks : goal.put_last-requires-clause-lacks
 put_last-requires-clause-lacks g c =
-    let inv = c.lines.invariant in
-    let moved = c.keep_rest-end.new.line in
-    let kept = whole_kept c.lines.line moved c.lines.start c.lines.end _ c.keep_rest-end.ensures.count c.keep_rest-end.ensures.rest c.if-end-line.true in
-    subst (Lacks 10) kept (lacks_all 10 _ c.in-None.ensures)
+    lacks_whole c.lines.line c.keep_rest-end.new.line c.lines.start c.lines.end c.keep_rest-end.result c.keep_rest-end.ensures.count
+    c.keep_rest-end.ensures.rest c.if-end-line.true (lacks_all 10 _ c.in-None.ensures)
 
 pub returns-then-end-line-clause-events : goal.returns-then-end-line-clause-events
 returns-then-end-line-clause-events g c = λ steady.
@@ -138,9 +135,8 @@ returns-in_err-count-in-None-clause-events g c = λ steady.
 
 pub put_last-requires-then-count-eq0-clause-lacks : goal.put_last-requires-then-count-eq0-clause-lacks
 put_last-requires-then-count-eq0-clause-lacks g c =
-    let moved = c.keep_rest-end.new.line in
-    let kept = sym c.keep_rest-end.ensures.rest ∙ ap (λ k. take k moved) (sym c.keep_rest-end.ensures.count) ∙ sym c.in_ok-count-in-None.ensures.kept in
-    subst (Lacks 10) kept (lacks_all 10 _ c.in-None.ensures)
+    lacks_kept c.lines.line c.keep_rest-end.new.line c.fill.new.line c.lines.start c.lines.end c.keep_rest-end.result
+    c.keep_rest-end.ensures.count c.keep_rest-end.ensures.rest c.in_ok-count-in-None.ensures.kept (lacks_all 10 _ c.in-None.ensures)
 
 pub returns-then-count-eq0-clause-events : goal.returns-then-count-eq0-clause-events
 returns-then-count-eq0-clause-events g c = λ steady.
@@ -195,9 +191,9 @@ lines-preserved g c =
           (reading_more g.T.Tree.tells_size g.T.Tree.gives c.args.config.now.entries c.args.path.now c.args.tree.now (g.O.Outputs.seen c.args.out.now) (take n (drop to now)) n inv.reading (c.in_ok-count-in-None.ensures.given room) (piece_length now to n within))
           (buffer_more c.lines.line c.keep_rest-end.new.line now c.lines.start c.lines.end to n c.keep_rest-end.ensures.count c.keep_rest-end.ensures.rest c.in_ok-count-in-None.ensures.kept);
       stays = stays_then inv.stays c.in_ok-count-in-None.ensures.asks.stays;
-      tree_failures = search rules;
-      name = search rules;
-      out_failures = search rules;
+      tree_failures = c.in_ok-count-in-None.ensures.asks.failures ∙ inv.tree_failures;
+      name = inv.name;
+      out_failures = inv.out_failures;
     }
 
 pub returns-in_err-replace_line-in-Some-clause-given : goal.returns-in_err-replace_line-in-Some-clause-given
@@ -241,3 +237,47 @@ returns-then-count-eq0-clause-given g c =
     let same = buffer_kept c.lines.line c.keep_rest-end.new.line now c.lines.start c.lines.end to c.keep_rest-end.ensures.count c.keep_rest-end.ensures.rest c.in_ok-count-in-None.ensures.kept in
     reading_last g.T.Tree.tells_size g.T.Tree.gives c.args.config.now.entries c.args.path.now c.args.tree.now (g.O.Outputs.seen c.args.out.now) (take to now) (take n (drop to now)) c.put_last-then-count-eq0.result (reading_as g.T.Tree.tells_size g.T.Tree.gives c.args.config.now.entries c.args.path.now c.args.tree.now (g.O.Outputs.seen c.args.out.now) inv.reading same) inv.in_file (ap (λ m. take m (drop to now)) c.if-count-eq0.true)
     (c.in_ok-count-in-None.ensures.given room) c.put_last-then-count-eq0.ensures.writes c.put_last-then-count-eq0.ensures.fault
+
+-- ---- what stays
+
+pub returns-in_err-size-clause-name : goal.returns-in_err-size-clause-name
+returns-in_err-size-clause-name g c = refl
+
+pub returns-in_err-size-clause-stays : goal.returns-in_err-size-clause-stays
+returns-in_err-size-clause-stays g c = c.in_err-size.ensures.asks.stays
+
+pub returns-in_err-replace_line-in-Some-clause-name : goal.returns-in_err-replace_line-in-Some-clause-name
+returns-in_err-replace_line-in-Some-clause-name g c = c.in_err-replace_line-in-Some.ensures.writes.name ∙ c.lines.invariant.name
+
+pub returns-in_err-replace_line-in-Some-clause-stays : goal.returns-in_err-replace_line-in-Some-clause-stays
+returns-in_err-replace_line-in-Some-clause-stays g c = c.lines.invariant.stays
+
+pub returns-in_err-has_more-in-None-clause-name : goal.returns-in_err-has_more-in-None-clause-name
+returns-in_err-has_more-in-None-clause-name g c = c.lines.invariant.name
+
+pub returns-in_err-has_more-in-None-clause-stays : goal.returns-in_err-has_more-in-None-clause-stays
+returns-in_err-has_more-in-None-clause-stays g c = stays_then c.lines.invariant.stays c.in_err-has_more-in-None.ensures.asks.stays
+
+pub returns-then-branch-clause-name : goal.returns-then-branch-clause-name
+returns-then-branch-clause-name g c = c.lines.invariant.name
+
+pub returns-then-branch-clause-stays : goal.returns-then-branch-clause-stays
+returns-then-branch-clause-stays g c = stays_then c.lines.invariant.stays c.in_ok-has_more-in-None.ensures.asks.stays
+
+pub returns-then-end-line-clause-name : goal.returns-then-end-line-clause-name
+returns-then-end-line-clause-name g c = c.put_last.ensures.writes.name ∙ c.lines.invariant.name
+
+pub returns-then-end-line-clause-stays : goal.returns-then-end-line-clause-stays
+returns-then-end-line-clause-stays g c = stays_then c.lines.invariant.stays c.in_ok-has_more-in-None.ensures.asks.stays
+
+pub returns-in_err-count-in-None-clause-name : goal.returns-in_err-count-in-None-clause-name
+returns-in_err-count-in-None-clause-name g c = c.lines.invariant.name
+
+pub returns-in_err-count-in-None-clause-stays : goal.returns-in_err-count-in-None-clause-stays
+returns-in_err-count-in-None-clause-stays g c = stays_then c.lines.invariant.stays c.in_err-count-in-None.ensures.asks.stays
+
+pub returns-then-count-eq0-clause-name : goal.returns-then-count-eq0-clause-name
+returns-then-count-eq0-clause-name g c = c.put_last-then-count-eq0.ensures.writes.name ∙ c.lines.invariant.name
+
+pub returns-then-count-eq0-clause-stays : goal.returns-then-count-eq0-clause-stays
+returns-then-count-eq0-clause-stays g c = stays_then c.lines.invariant.stays c.in_ok-count-in-None.ensures.asks.stays
