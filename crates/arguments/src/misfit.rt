@@ -3,7 +3,7 @@ ghost use Rattle.std.specs.Prelude.{◌≡◌, IfOk, string_bytes};
 ghost use Rattle.arguments.specs.Refused.{refused_data};
 ghost use Rattle.data.specs.Prelude.{data_of};
 ghost use Rattle.arguments.specs.MisfitView.{misfit_data};
-ghost use Rattle.arguments.specs.Misfits.{Place, keyword_is, refusal_of, refused_as, takes, words_of};
+ghost use Rattle.arguments.specs.Misfits.{Keyword, Place, TooFew, TooMany, keyword_is, refusal_of, refused_as, takes, words_of};
 
 use crate::refused::Refused;
 use crate::row::Kind;
@@ -57,6 +57,25 @@ fn place_is(alloc: Global, place: usize, kind: Kind, value: &Value) -> Result<St
     format!(in alloc; "argument {number}: {takes}")
 }
 
+fn value_is(alloc: Global, name: &str, kind: Kind, value: &Value) -> Result<String, AllocError>
+    ensures { IfOk result (λ text. string_bytes text ≡ words_of (Keyword name.now kind (data_of value.now))) }
+{
+    let takes = takes(alloc, kind, value)?;
+    keyword_is(alloc, name, takes.as_str())
+}
+
+fn too_few(alloc: Global, needed: usize, given: usize) -> Result<String, AllocError>
+    ensures { IfOk result (λ text. string_bytes text ≡ words_of (TooFew needed given)) }
+{
+    format!(in alloc; "arguments: needs {needed}, and got {given}")
+}
+
+fn too_many(alloc: Global, most: usize) -> Result<String, AllocError>
+    ensures { IfOk result (λ text. string_bytes text ≡ words_of (TooMany most)) }
+{
+    format!(in alloc; "arguments: takes {most}, and got more")
+}
+
 impl<'a> Misfit<'a> {
     fn refusal(&self) -> Refusal
         ensures { result ≡ refusal_of (misfit_data self.now) }
@@ -75,15 +94,11 @@ impl<'a> Misfit<'a> {
         match *self {
             Misfit::Twice(name) => keyword_is(alloc, name, "stands twice"),
             Misfit::LeftOut(name) => keyword_is(alloc, name, "is left out"),
-            Misfit::TooFew(needed, given) => {
-                format!(in alloc; "arguments: needs {needed}, and got {given}")
-            }
-            Misfit::TooMany(most) => format!(in alloc; "arguments: takes {most}, and got more"),
+            Misfit::TooFew(needed, given) => too_few(alloc, needed, given),
+            Misfit::TooMany(most) => too_many(alloc, most),
             Misfit::Place(place, kind, value) => place_is(alloc, place, kind, value),
             Misfit::Unknown(name) => keyword_is(alloc, name, "there is none"),
-            Misfit::Keyword(name, kind, value) => {
-                keyword_is(alloc, name, takes(alloc, kind, value)?.as_str())
-            }
+            Misfit::Keyword(name, kind, value) => value_is(alloc, name, kind, value),
             Misfit::Missing(name) => keyword_is(alloc, name, "is missing, and is needed"),
         }
     }
