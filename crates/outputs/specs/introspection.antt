@@ -1,5 +1,4 @@
 pub mod Document
-pub mod Fields
 pub mod MembersView
 pub mod Questions
 pub mod QuestionsView

@@ -1,19 +1,21 @@
 //! The document, part by part.
-ghost use Rattle.std.specs.Prelude.{◌≡◌, ◌≤◌, ◌++◌, IfOk, map, false, fold, string_bytes, Some};
+ghost use Rattle.std.specs.Prelude.{◌≡◌, ◌≤◌, ◌++◌, IfOk, OnOk, map, false, fold, string_bytes, Some};
 ghost use Rattle.serde_json.specs.Data.{depth, object, no_members};
 ghost use Rattle.serde_json.specs.Read.{max_depth, read};
-ghost use Rattle.serde_json.specs.View.{view};
+ghost use Rattle.serde_json.specs.View.{members_view, view};
+ghost use Rattle.targets.specs.View.{facts_view};
 ghost use Rattle.serde_json.specs.Written.{compact_text, has_float};
 ghost use Rattle.project.specs.View.{install_view};
 ghost use Rattle.outputs.specs.introspection.Document.{build_options, dependencies, document_of, document_text, installed_files};
-ghost use Rattle.outputs.specs.introspection.Document.{project_info, targets, tests, with_installed};
+ghost use Rattle.outputs.specs.introspection.Document.{project_entry, project_info, targets, tests, with_installed};
 ghost use Rattle.outputs.specs.introspection.Pieces.{files_text, whole_text, PartsRead, Reads};
 
-use crate::introspection::shown::{Shown, list_of, object_of, strings};
+use crate::introspection::shown::{list_of, put_text, put_texts};
 use crate::introspection::writing::{push_list, push_strings};
 use project::{Install, Project};
 use serde_json::{Map, Value, put};
 use std::alloc::{AllocError, Global};
+use targets::Facts;
 
 fn build_options(alloc: Global, project: &Project) -> Result<Value, AllocError>
     ensures { IfOk result (λ v. view v ≡ build_options project.now) }
@@ -45,19 +47,25 @@ fn installed_files(alloc: Global, project: &Project) -> Result<Value, AllocError
     destinations(alloc, project.installs())
 }
 
+fn put_info(
+    members: &mut Map<String, Value>,
+    alloc: Global,
+    facts: &Facts,
+) -> Result<(), AllocError>
+    requires { members_view members.old.entries ≡ no_members }
+    ensures { OnOk result (object (members_view members.new.entries) ≡ project_entry (facts_view facts.now)) }
+{
+    put_texts(members, alloc, "license", &facts.license)?;
+    put_text(members, alloc, "name", &facts.name)?;
+    put_text(members, alloc, "version", &facts.version)
+}
+
 fn project_info(alloc: Global, project: &Project) -> Result<Value, AllocError>
     ensures { IfOk result (λ v. view v ≡ project_info project.now) }
 {
-    let facts = project.facts();
-    let license = strings(alloc, &facts.license)?;
-    object_of(
-        alloc,
-        vec![in alloc;
-            ("license", license),
-            ("name", facts.name.value(alloc)?),
-            ("version", facts.version.value(alloc)?),
-        ]?,
-    )
+    let mut members = Map::new(alloc);
+    put_info(&mut members, alloc, project.facts())?;
+    Ok(Value::from(members))
 }
 
 fn tests(alloc: Global, project: &Project) -> Result<Value, AllocError>

@@ -1,7 +1,8 @@
 //! What each part of the document shows of one option, dependency, target or test.
-ghost use Rattle.std.specs.Prelude.{◌≡◌, ◌++◌, IfOk, string_bytes, take};
+ghost use Rattle.std.specs.Prelude.{◌≡◌, ◌++◌, IfOk, OnOk, string_bytes, take};
 ghost use Rattle.targets.specs.edge.Texts.{texts};
-ghost use Rattle.serde_json.specs.View.{view};
+ghost use Rattle.serde_json.specs.Data.{no_members, object};
+ghost use Rattle.serde_json.specs.View.{members_view, view};
 ghost use Rattle.serde_json.specs.Written.{compact_text};
 ghost use Rattle.targets.specs.Data.{Build, Custom};
 ghost use Rattle.targets.specs.Files.{default_paths};
@@ -12,11 +13,11 @@ ghost use Rattle.outputs.specs.introspection.Pieces.{entry_text};
 ghost use Rattle.outputs.specs.introspection.Questions.{json_text};
 ghost use Rattle.outputs.specs.introspection.Document.{kind_name, option_entry, option_value, target_entry, test_entry, type_name};
 
-use crate::introspection::shown::{Shown, object_of, strings};
+use crate::introspection::shown::{Shown, put_text, put_texts, strings};
 use crate::introspection::writing::{Written, push_string, push_strings, truth_text};
 use paths::path_in;
 use project::{Answer, Test};
-use serde_json::Value;
+use serde_json::{Map, Value, put};
 use std::alloc::{AllocError, Global};
 use targets::{
     BuildTarget, CustomTarget, Kind, Linked, OptionEntry, OptionType, OptionValue, Target,
@@ -46,55 +47,72 @@ fn option_value(alloc: Global, value: &OptionValue) -> Result<Value, AllocError>
     }
 }
 
+fn put_option(
+    members: &mut Map<String, Value>,
+    alloc: Global,
+    option: &OptionEntry,
+) -> Result<(), AllocError>
+    requires { members_view members.old.entries ≡ no_members }
+    ensures { OnOk result (object (members_view members.new.entries) ≡ option_entry (option_entry_view option.now)) }
+{
+    put_text(members, alloc, "name", &option.name)?;
+    put_text(members, alloc, "type", type_name(option.kind))?;
+    let value = option_value(alloc, &option.value)?;
+    put(members, alloc, "value", value)
+}
+
 impl Shown for OptionEntry {
     ghost shown = { λ o. option_entry (option_entry_view o) };
 
     fn value(&self, alloc: Global) -> Result<Value, AllocError> {
-        let value = option_value(alloc, &self.value)?;
-        object_of(
-            alloc,
-            vec![in alloc;
-                ("name", self.name.value(alloc)?),
-                ("type", Value::try_from_str(alloc, type_name(self.kind))?),
-                ("value", value),
-            ]?,
-        )
+        let mut members = Map::new(alloc);
+        put_option(&mut members, alloc, self)?;
+        Ok(Value::from(members))
     }
+}
+
+fn put_answer(
+    members: &mut Map<String, Value>,
+    alloc: Global,
+    answer: &Answer,
+) -> Result<(), AllocError>
+    requires { members_view members.old.entries ≡ no_members }
+    ensures { OnOk result (object (members_view members.new.entries) ≡ dependency_entry (answer_view answer.now)) }
+{
+    put(members, alloc, "found", Value::from(answer.is_found))?;
+    put_text(members, alloc, "name", &answer.name)?;
+    put_text(members, alloc, "version", &answer.version)
 }
 
 impl Shown for Answer {
     ghost shown = { λ a. dependency_entry (answer_view a) };
 
     fn value(&self, alloc: Global) -> Result<Value, AllocError> {
-        object_of(
-            alloc,
-            vec![in alloc;
-                ("found", Value::from(self.is_found)),
-                ("name", self.name.value(alloc)?),
-                ("version", self.version.value(alloc)?),
-            ]?,
-        )
+        let mut members = Map::new(alloc);
+        put_answer(&mut members, alloc, self)?;
+        Ok(Value::from(members))
     }
+}
+
+fn put_test(members: &mut Map<String, Value>, alloc: Global, test: &Test) -> Result<(), AllocError>
+    requires { members_view members.old.entries ≡ no_members }
+    ensures { OnOk result (object (members_view members.new.entries) ≡ test_entry (test_view test.now)) }
+{
+    put_texts(members, alloc, "cmd", &test.command)?;
+    put_texts(members, alloc, "env", &test.environment)?;
+    put_text(members, alloc, "name", &test.name)?;
+    put(members, alloc, "should_fail", Value::from(test.should_fail))?;
+    put_texts(members, alloc, "suite", &test.suites)?;
+    put(members, alloc, "timeout", Value::from(test.timeout))
 }
 
 impl Shown for Test {
     ghost shown = { λ t. test_entry (test_view t) };
 
     fn value(&self, alloc: Global) -> Result<Value, AllocError> {
-        let command = strings(alloc, &self.command)?;
-        let environment = strings(alloc, &self.environment)?;
-        let suites = strings(alloc, &self.suites)?;
-        object_of(
-            alloc,
-            vec![in alloc;
-                ("cmd", command),
-                ("env", environment),
-                ("name", self.name.value(alloc)?),
-                ("should_fail", Value::from(self.should_fail)),
-                ("suite", suites),
-                ("timeout", Value::from(self.timeout)),
-            ]?,
-        )
+        let mut members = Map::new(alloc);
+        put_test(&mut members, alloc, self)?;
+        Ok(Value::from(members))
     }
 }
 

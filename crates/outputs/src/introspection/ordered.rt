@@ -6,6 +6,7 @@ ghost use Rattle.outputs.specs.introspection.MembersView.{member_in};
 ghost use Rattle.outputs.specs.introspection.Questions.{json_text, object_text, texts_text};
 
 use crate::introspection::shown::strings;
+use crate::introspection::writing::push_string;
 use serde_json::Value;
 use std::alloc::{AllocError, Global};
 
@@ -39,8 +40,7 @@ fn push_member(
     if is_later {
         text.push_str(",")?;
     }
-    let key = json_text(alloc, key)?;
-    text.push_str(key.as_str())?;
+    push_string(text, alloc, key)?;
     text.push_str(":")?;
     text.push_str(value)?;
     Ok(())

@@ -4,7 +4,8 @@ ghost use Rattle.serde_json.specs.View.{view};
 ghost use Rattle.machine.specs.machine_file.QuestionsView.{asides_in, question_in};
 ghost use Rattle.machine.specs.machine_file.Questions.{answer_to};
 ghost use Rattle.machine.specs.machine_file.View.{entries_of, machine_in, strings_in, value_in};
-ghost use Rattle.outputs.specs.introspection.Questions.{beside_text, entry_member, key_text, label_text, line_text, lines_of, object_text};
+ghost use Rattle.outputs.specs.introspection.Questions.{beside_text, entry_member, json_text, key_text, label_text, line_text};
+ghost use Rattle.outputs.specs.introspection.Questions.{lines_of, object_text};
 ghost use Rattle.outputs.specs.introspection.Questions.{option_line, reply_text, shown_value, value_text};
 ghost use Rattle.outputs.specs.introspection.QuestionsView.{line_in, reply_in};
 
@@ -170,28 +171,48 @@ fn beside_text(alloc: Global, asides: &[Aside]) -> Result<String, AllocError>
     object_text(alloc, members)
 }
 
+// The texts of what a line tells wherever it is asked.
+#[derive(Drop)]
+struct Told {
+    section: String,
+    key: String,
+    answer: String,
+    beside: String,
+}
+
 impl QuestionLine<'_> {
+    fn told(&self, alloc: Global) -> Result<Told, AllocError>
+        ensures section { IfOk result (λ t. string_bytes t.section ≡ json_text (line_in self.now).section) }
+        ensures key { IfOk result (λ t. string_bytes t.key ≡ key_text (line_in self.now).key) }
+        ensures answer { IfOk result (λ t. string_bytes t.answer ≡ reply_text (line_in self.now).reply) }
+        ensures beside { IfOk result (λ t. string_bytes t.beside ≡ beside_text (line_in self.now).asides) }
+    {
+        Ok(Told {
+            section: json_text(alloc, self.section)?,
+            key: key_text(alloc, self.key)?,
+            answer: reply_text(alloc, self.reply)?,
+            beside: beside_text(alloc, self.asides)?,
+        })
+    }
+
     /// The text of this line, asked in the definition file `file` at the line `place` of it, from 1: a JSON object, without a newline.
     #[tactic(auto, unfolding(crate::specs::introspection::Questions::line_text))]
     pub fn text(&self, alloc: Global, file: &str, place: usize) -> Result<String, AllocError>
         ensures { IfOk result (λ s. string_bytes s ≡ line_text (line_in self.now) file.now place) }
     {
-        let section = json_text(alloc, self.section)?;
-        let key = key_text(alloc, self.key)?;
-        let answer = reply_text(alloc, self.reply)?;
+        let told = self.told(alloc)?;
         let file = json_text(alloc, file)?;
         let number = Value::from(place);
         let number = number.to_string(alloc)?;
-        let beside = beside_text(alloc, self.asides)?;
         object_text(
             alloc,
             vec![in alloc;
-                ("section", section),
-                ("key", key),
-                ("answer", answer),
+                ("section", told.section),
+                ("key", told.key),
+                ("answer", told.answer),
                 ("file", file),
                 ("line", number),
-                ("beside", beside),
+                ("beside", told.beside),
             ]?,
         )
     }
@@ -201,17 +222,14 @@ impl QuestionLine<'_> {
     pub fn label(&self, alloc: Global) -> Result<String, AllocError>
         ensures { IfOk result (λ s. string_bytes s ≡ label_text (line_in self.now)) }
     {
-        let section = json_text(alloc, self.section)?;
-        let key = key_text(alloc, self.key)?;
-        let answer = reply_text(alloc, self.reply)?;
-        let beside = beside_text(alloc, self.asides)?;
+        let told = self.told(alloc)?;
         object_text(
             alloc,
             vec![in alloc;
-                ("section", section),
-                ("key", key),
-                ("answer", answer),
-                ("beside", beside),
+                ("section", told.section),
+                ("key", told.key),
+                ("answer", told.answer),
+                ("beside", told.beside),
             ]?,
         )
     }

@@ -1,10 +1,9 @@
 //! What can be shown as a JSON value, and lists of it.
-ghost use Rattle.std.specs.Prelude.{◌≡◌, IfOk, map, string_bytes};
+ghost use Rattle.std.specs.Prelude.{◌≡◌, IfOk, OnOk, map, string_bytes};
 ghost use Rattle.serde_json.specs.Data.{Data, string};
-ghost use Rattle.serde_json.specs.View.{view};
+ghost use Rattle.serde_json.specs.View.{members_view, view};
 ghost use Rattle.targets.specs.edge.Texts.{texts};
-ghost use Rattle.outputs.specs.introspection.Fields.{field_view};
-ghost use Rattle.outputs.specs.introspection.Document.{fields, list, strings};
+ghost use Rattle.outputs.specs.introspection.Document.{list, strings, with_field};
 
 use serde_json::{Map, Value, put};
 use std::alloc::{AllocError, Global};
@@ -44,13 +43,29 @@ pub fn strings(alloc: Global, items: &[String]) -> Result<Value, AllocError>
     list_of(alloc, items)
 }
 
-/// The object of these keys with their values. It stands for `json!`, since no proof is found where that has six members.
-pub fn object_of(alloc: Global, parts: Vec<(&str, Value)>) -> Result<Value, AllocError>
-    ensures { IfOk result (λ v. view v ≡ fields (map field_view parts.entry.items)) }
+/// Puts a key with this text.
+pub fn put_text(
+    members: &mut Map<String, Value>,
+    alloc: Global,
+    key: &str,
+    text: &str,
+) -> Result<(), AllocError>
+    ensures { OnOk result (members_view members.new.entries ≡ with_field (members_view members.old.entries) (key.now, string text.now)) }
 {
-    let mut members = Map::new(alloc);
-    for (key, value) in parts {
-        put(&mut members, alloc, key, value)?;
-    }
-    Ok(Value::from(members))
+    let value = Value::try_from_str(alloc, text)?;
+    put(members, alloc, key, value)
+}
+
+/// Puts a key with the list of these texts.
+pub fn put_texts(
+    members: &mut Map<String, Value>,
+    alloc: Global,
+    key: &str,
+    items: &[String],
+) -> Result<(), AllocError>
+    ensures { OnOk result (members_view members.new.entries
+        ≡ with_field (members_view members.old.entries) (key.now, strings (texts items.now))) }
+{
+    let value = strings(alloc, items)?;
+    put(members, alloc, key, value)
 }
