@@ -1,6 +1,6 @@
 //! The methods of booleans: the type `bool` of the page "Reference manual".
 
-ghost use Rattle.std.specs.Prelude.{map};
+ghost use Rattle.std.specs.Prelude.{[], map};
 ghost use Rattle.data.specs.Prelude.{data_of};
 ghost use Rattle.operations.specs.methods.Steps.{Gives};
 ghost use Rattle.operations.specs.methods.Booleans.{to_int, to_string, answer};
@@ -34,14 +34,19 @@ fn to_int(boolean: bool, arguments: &[Value]) -> Result<Value, Stop>
     Ok(Value::Integer(if boolean { 1 } else { 0 }))
 }
 
+// The word that stands for a boolean.
+fn plain_word(alloc: Global, boolean: bool) -> Result<Value, Stop>
+    ensures { Gives (to_string boolean []) result }
+{
+    let word = if boolean { "true" } else { "false" };
+    Ok(Value::of_str(alloc, word)??)
+}
+
 fn to_string(alloc: Global, boolean: bool, arguments: &[Value]) -> Result<Value, Stop>
     ensures { Gives (to_string boolean (map data_of arguments.now)) result }
 {
     match arguments {
-        [] => {
-            let word = if boolean { "true" } else { "false" };
-            Ok(Value::of_str(alloc, word)??)
-        }
+        [] => plain_word(alloc, boolean),
         [Value::Text(yes), Value::Text(no)] => {
             let word = if boolean { yes } else { no };
             Ok(Value::Text(word.clone()?))

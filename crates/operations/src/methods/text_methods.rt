@@ -1,9 +1,10 @@
 //! The methods of texts: the type `str` of the page "Reference manual".
 
-ghost use Rattle.std.specs.Prelude.{map, string_bytes};
+ghost use Rattle.std.specs.Prelude.{[], ◌∷◌, map, string_bytes};
 ghost use Rattle.data.specs.Data.{text as text_data};
 ghost use Rattle.data.specs.Prelude.{data_of, within};
 ghost use Rattle.operations.specs.methods.Steps.{Gives};
+ghost use Rattle.operations.specs.operators.TextLists.{text_list};
 ghost use Rattle.operations.specs.methods.TextMethods.{answer, contains, starts_with, ends_with, format, join, replace, split};
 ghost use Rattle.operations.specs.methods.TextMethods.{split_lines, strip, substring, to_int, to_lower, to_upper, underscorify};
 ghost use Rattle.operations.specs.methods.TextMethods.{version_compare};
@@ -94,12 +95,23 @@ fn split(alloc: Global, text: &str, arguments: &[Value]) -> Result<Value, Stop>
     ensures { Gives (split text.now (map data_of arguments.now)) result }
 {
     if arguments.is_empty() {
-        let words = data::texts::split_blank(alloc, text)??;
-        return Ok(text_list(alloc, &words)??);
+        return split_blank(alloc, text);
     }
-    let separator = one_text(arguments)?;
+    split_at(alloc, text, one_text(arguments)?)
+}
+
+fn split_blank(alloc: Global, text: &str) -> Result<Value, Stop>
+    ensures { Gives (split text.now []) result }
+{
+    let words = data::texts::split_blank(alloc, text)??;
+    value_of_list(alloc, &words)
+}
+
+fn split_at(alloc: Global, text: &str, separator: &Text) -> Result<Value, Stop>
+    ensures { Gives (split text.now (text_data separator.now ∷ [])) result }
+{
     let parts = data::texts::split_at(alloc, text, separator.as_str())??;
-    Ok(text_list(alloc, &parts)??)
+    value_of_list(alloc, &parts)
 }
 
 fn split_lines(alloc: Global, text: &str, arguments: &[Value]) -> Result<Value, Stop>
@@ -107,7 +119,7 @@ fn split_lines(alloc: Global, text: &str, arguments: &[Value]) -> Result<Value, 
 {
     none(arguments)?;
     let lines = data::texts::split_lines(alloc, text)??;
-    Ok(text_list(alloc, &lines)??)
+    value_of_list(alloc, &lines)
 }
 
 fn strip(alloc: Global, text: &str, arguments: &[Value]) -> Result<Value, Stop>
@@ -175,6 +187,12 @@ fn value_of(alloc: Global, string: String) -> Result<Value, Stop>
 {
     let value = Value::of_string(alloc, string)??;
     Ok(value)
+}
+
+fn value_of_list(alloc: Global, texts: &[&str]) -> Result<Value, Stop>
+    ensures { Gives (text_list (map (λ t. t.now) texts.now)) result }
+{
+    Ok(text_list(alloc, texts)??)
 }
 
 fn value_of_slice(alloc: Global, text: &str) -> Result<Value, Stop>
