@@ -118,9 +118,9 @@ impl<'a, T: Tree, O: Outputs, L: Ledger> Context<'a, T, O, L> {
             }
             Meaning::Format(format) => {
                 let format: &FormatString = format;
-                Ok(self.fill(line, &format.parts)?)
+                self.fill(line, &format.parts)
             }
-            Meaning::Source(text) => Ok(self.unread(line, node.literal, text.as_str())?),
+            Meaning::Source(text) => self.unread(line, node.literal, text.as_str()),
         }
     }
 }

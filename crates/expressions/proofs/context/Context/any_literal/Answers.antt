@@ -12,7 +12,7 @@ use Rattle.data.specs.declared.texts.placed.Places.TheVariants as places
 use Rattle.data.specs.texts.Segments.{segments}
 use Rattle.world.specs.Plan.{answered}
 use Rattle.expressions.specs.Forms.{filled, literal_value}
-use Rattle.expressions.proofs.Evaluating.{given_as, given_give, given_none, given_same}
+use Rattle.expressions.proofs.Evaluating.{given_as, given_give, given_none}
 use Rattle.expressions.proofs.Meanings.{stands, of_boolean, of_integer, of_text, of_format, of_source}
 use Rattle.expressions.proofs.context.Context.any_literal.Goals as goal
 
@@ -55,31 +55,18 @@ of_parts line n f box h is =
     ap (filled line []) (f.split ∙ ap (λ (x : FormatString). segments places.Names (written x.parts.items)) is)
     ∙ of_format line (spelled n.source.value) n.literal (written box.value.parts.items) h
 
-pub returns-in_err-fill-in-Format-clause-gives : goal.returns-in_err-fill-in-Format-clause-gives
-returns-in_err-fill-in-Format-clause-gives g c = λ files h.
+pub returns-in-Format-clause-gives : goal.returns-in-Format-clause-gives
+returns-in-Format-clause-gives g c = λ files h.
     let n = c.args.node.now in
     given_as (ap (λ ps. filled c.args.line [] (map part_data ps)) c.deref.ensures.value ∙ of_parts c.args.line n c.deref-format.result.now c.in-Format.format (stands n (meanings.Format c.in-Format.format) c.in-Format.is) c.deref-format.ensures)
-    (given_same (c.in_err-fill-in-Format.ensures.gives files h) c.from_residual-in_err-fill-in-Format.ensures.1)
+    (c.fill.ensures.gives files h)
 
-pub returns-in_ok-fill-in-Format-clause-gives : goal.returns-in_ok-fill-in-Format-clause-gives
-returns-in_ok-fill-in-Format-clause-gives g c = λ files h.
-    let n = c.args.node.now in
-    given_as (ap (λ ps. filled c.args.line [] (map part_data ps)) c.deref.ensures.value ∙ of_parts c.args.line n c.deref-format.result.now c.in-Format.format (stands n (meanings.Format c.in-Format.format) c.in-Format.is) c.deref-format.ensures)
-    (c.in_ok-fill-in-Format.ensures.gives files h)
-
-pub returns-in_err-unread-in-Source-clause-gives : goal.returns-in_err-unread-in-Source-clause-gives
-returns-in_err-unread-in-Source-clause-gives g c = λ files h.
+pub returns-in-Source-clause-gives : goal.returns-in-Source-clause-gives
+returns-in-Source-clause-gives g c = λ files h.
     let n = c.args.node.now in
     given_as (ap (literal_value c.args.line n.literal) (c.as_str.ensures.value ∙ ap string_bytes c.deref-in-Source.ensures)
     ∙ (of_source c.args.line (spelled n.source.value) n.literal (string_bytes c.in-Source.text.value) (stands n (meanings.Source c.in-Source.text) c.in-Source.is)).1)
-    (given_same (c.in_err-unread-in-Source.ensures.gives files h) c.from_residual-in_err-unread-in-Source.ensures.1)
-
-pub returns-in_ok-unread-in-Source-clause-gives : goal.returns-in_ok-unread-in-Source-clause-gives
-returns-in_ok-unread-in-Source-clause-gives g c = λ files h.
-    let n = c.args.node.now in
-    given_as (ap (literal_value c.args.line n.literal) (c.as_str.ensures.value ∙ ap string_bytes c.deref-in-Source.ensures)
-    ∙ (of_source c.args.line (spelled n.source.value) n.literal (string_bytes c.in-Source.text.value) (stands n (meanings.Source c.in-Source.text) c.in-Source.is)).1)
-    (c.in_ok-unread-in-Source.ensures.gives files h)
+    (c.unread.ensures.gives files h)
 
 pub unread-requires : goal.unread-requires
 unread-requires g c =

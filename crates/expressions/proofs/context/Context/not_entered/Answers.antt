@@ -19,6 +19,10 @@ returns-then-folders_entered-lt-FOLDERS-clause-gives g c = λ files h.
     given_need _ refusals.Subdir (broken rules.IsNew c.args.text.now) (ap not (ap (λ f. list_any (bytes_eq f) c.args.self.now.store.now.entered) (sym c.deref.ensures) ∙ sym c.is_entered.ensures ∙ c.if-is_entered.false))
     (given_need _ refusals.Limit [] (ap (λ n. nat_lt n 4096) (sym c.folders_entered.ensures) ∙ lt-ltb c.folders_entered.result 4096 c.if-folders_entered-lt-FOLDERS.true) (given_give h refl))
 
+pub returns-then-folders_entered-lt-FOLDERS-clause-new : goal.returns-then-folders_entered-lt-FOLDERS-clause-new
+returns-then-folders_entered-lt-FOLDERS-clause-new g c =
+    ap (λ f. list_any (bytes_eq f) c.args.self.now.store.now.entered) (sym c.deref.ensures) ∙ sym c.is_entered.ensures ∙ c.if-is_entered.false
+
 pub returns-else-folders_entered-lt-FOLDERS-clause-gives : goal.returns-else-folders_entered-lt-FOLDERS-clause-gives
 returns-else-folders_entered-lt-FOLDERS-clause-gives g c = λ files h.
     given_need _ refusals.Subdir (broken rules.IsNew c.args.text.now) (ap not (ap (λ f. list_any (bytes_eq f) c.args.self.now.store.now.entered) (sym c.deref.ensures) ∙ sym c.is_entered.ensures ∙ c.if-is_entered.false))
