@@ -14,6 +14,12 @@ returns-in_err-reach-clause-names c =
     subst (λ k. IsFront k.names c.put.new.self) c.self.view_is
     (subst (λ n. IsFront s.names n) (sym c.in_ok-number.ensures.names) (begins_with_name c.args.name.now s.names))
 
+pub returns-clause-names : goal.returns-clause-names
+returns-clause-names c =
+    let s = c.self.inside in
+    subst (λ k. IsFront k.names c.put.new.self) c.self.view_is
+    (subst (λ n. IsFront s.names n) (sym c.in_ok-number.ensures.names) (begins_with_name c.args.name.now s.names))
+
 pub invariant_of-self-2 : goal.invariant_of-self-2
 invariant_of-self-2 c =
     let s = c.self.inside in
