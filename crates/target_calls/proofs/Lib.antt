@@ -1,3 +1,4 @@
 pub mod Noting
 pub mod InputAlone
 pub mod Saying
+pub mod Names

@@ -1,5 +1,6 @@
 //! The command of a custom target.
 ghost use Rattle.std.specs.Prelude.{◌≡◌, ◌∷◌, [], IfOk, None, Some, map, option_map, string_bytes, if◌then◌else◌};
+ghost use Rattle.targets.specs.edge.Paths.{source_path as path_from};
 ghost use Rattle.targets.specs.edge.Texts.{texts};
 ghost use Rattle.named_sources.specs.HolesView.{place_view};
 ghost use Rattle.named_sources.specs.ThingsView.{thing_view};
@@ -10,7 +11,7 @@ ghost use Rattle.target_calls.specs.Commands.{of_program, of_text, of_thing, one
 ghost use Rattle.target_calls.specs.CommandsView.{part_view};
 
 use crate::sources::{make_of, one_made_of};
-use data::{Object, Program, Value};
+use data::{Object, Program, Text, Value};
 use named_sources::{Place, Thing, push_words, strings, thing_of};
 use paths::has_slash;
 use std::alloc::{AllocError, Global};
@@ -35,16 +36,23 @@ fn push_path(whole: &mut Part, path: String, need: Source) -> Result<(), AllocEr
 }
 
 // Appends words for which nothing has to be there.
-fn push_alone(whole: &mut Part, mut words: Vec<String>) -> Result<(), AllocError>
-    ensures { IfOk result (λ _. part_view whole.new ≡ joined (part_view whole.old) (words_alone (texts words.items))) }
+fn push_alone(whole: &mut Part, alloc: Global, words: &[Text]) -> Result<(), AllocError>
+    ensures { IfOk result (λ _. part_view whole.new ≡ joined (part_view whole.old) (words_alone words.now)) }
 {
-    whole.words.append(&mut words)?;
-    Ok(())
+    let mut own = strings(alloc, words)?;
+    whole.words.append(&mut own)
 }
 
-fn push_word(whole: &mut Part, word: String) -> Result<(), AllocError>
-    ensures { IfOk result (λ _. part_view whole.new ≡ joined (part_view whole.old) (words_alone (string_bytes word ∷ []))) }
+// Appends the path of a file of the tree, which is there.
+fn push_path_alone(
+    whole: &mut Part,
+    alloc: Global,
+    depth: usize,
+    path: &str,
+) -> Result<(), AllocError>
+    ensures { IfOk result (λ _. part_view whole.new ≡ joined (part_view whole.old) (words_alone (path_from depth path.now ∷ []))) }
 {
+    let word = source_path(alloc, depth, path)?;
     whole.words.push(word)?;
     Ok(())
 }
@@ -59,19 +67,13 @@ fn push_program(
     ensures { IfOk result (λ done. (if done then Some (part_view whole.new) else None)
         ≡ option_map (joined (part_view whole.old)) (of_program depth program.now)) }
 {
-    match program {
-        Program::NotFound => Ok(false),
-        Program::Words(words) => {
-            let words = strings(alloc, words.as_slice())?;
-            push_alone(whole, words)?;
-            Ok(true)
-        }
-        Program::File(path) => {
-            let word = source_path(alloc, depth, path.as_str())?;
-            push_word(whole, word)?;
-            Ok(true)
-        }
-    }
+    let pushed = match program {
+        Program::NotFound => return Ok(false),
+        Program::Words(words) => push_alone(whole, alloc, words.as_slice()),
+        Program::File(path) => push_path_alone(whole, alloc, depth, path.as_str()),
+    };
+    pushed?;
+    Ok(true)
 }
 
 // A program of the build folder itself is called as `./prog`.
@@ -110,9 +112,10 @@ fn push_outputs(whole: &mut Part, alloc: Global, paths: &[String]) -> Result<(),
 fn push_output(whole: &mut Part, alloc: Global, path: &str) -> Result<(), AllocError>
     ensures { IfOk result (λ _. part_view whole.new ≡ joined (part_view whole.old) (of_output path.now)) }
 {
+    let word = String::from_str(alloc, path)?;
     let own = String::from_str(alloc, path)?;
     let need = one_made_of(alloc, own)?;
-    push_path(whole, String::from_str(alloc, path)?, need)
+    push_path(whole, word, need)
 }
 
 fn push_file(
@@ -143,13 +146,14 @@ fn push_thing(
     ensures { IfOk result (λ done. (if done then Some (part_view whole.new) else None)
         ≡ option_map (joined (part_view whole.old)) (of_thing depth (thing_view thing.entry))) }
 {
-    match thing {
+    let pushed = match thing {
         Thing::Program(program) => return push_program(whole, alloc, depth, program),
-        Thing::File { path, is_built } => push_file(whole, alloc, depth, path, is_built)?,
-        Thing::Target(target) => push_build_target(whole, alloc, target)?,
-        Thing::Outputs(paths) => push_outputs(whole, alloc, paths)?,
-        Thing::Output(path) => push_output(whole, alloc, path)?,
-    }
+        Thing::File { path, is_built } => push_file(whole, alloc, depth, path, is_built),
+        Thing::Target(target) => push_build_target(whole, alloc, target),
+        Thing::Outputs(paths) => push_outputs(whole, alloc, paths),
+        Thing::Output(path) => push_output(whole, alloc, path),
+    };
+    pushed?;
     Ok(true)
 }
 

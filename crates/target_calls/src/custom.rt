@@ -102,7 +102,7 @@ fn rule_broken(arguments: &Arguments) -> Option<(Rule, &'static str)>
 fn is_source_keyword(name: &str) -> bool
     ensures { result ≡ is_source_keyword name.now }
 {
-    name == "input" || name == "depend_files"
+    matches!(name, "input" | "depend_files")
 }
 
 fn push_values<'v>(values: &mut Vec<&'v Value>, mut more: Vec<&'v Value>) -> Result<(), AllocError>

@@ -1,5 +1,6 @@
 //! Which rule is broken by a target that the project can't have: it is looked for only where a call is refused.
-ghost use Rattle.std.specs.Prelude.{◌≡◌, ◌∷◌, IfOk, map, option_map, string_bytes};
+ghost use Rattle.std.specs.Prelude.{◌≡◌, ◌++◌, ◌∷◌, IfOk, map, option_map, string_bytes};
+ghost use Rattle.std.specs.Option.{option_to_list};
 ghost use Rattle.targets.specs.edge.Texts.{texts};
 ghost use Rattle.project.specs.Adding.{is_target_name};
 ghost use Rattle.targets.specs.Files.{file_name, link_names};
@@ -14,7 +15,6 @@ use paths::{has_slash, is_file_name};
 use project::Project;
 use std::alloc::{AllocError, Global};
 use std::rc::Rc;
-use targets::edge::copies;
 use targets::{
     BuildTarget, CustomTarget, Linked, Lists, Source, Target, file_name, is_c, link_names,
     links_libraries,
@@ -117,15 +117,21 @@ fn source_breach<'t>(earlier: &[Linked], target: &'t BuildTarget) -> (Rule, &'t 
     }
 }
 
-// The names of the target's files.
-fn file_names(alloc: Global, target: &BuildTarget) -> Result<Vec<String>, AllocError>
-    ensures { IfOk result (λ v. texts v.items ≡ file_name (build_view target.now) ∷ link_names (build_view target.now)) }
+// Of a target whose file may have its name.
+fn link_breach(
+    alloc: Global,
+    earlier: &[Linked],
+    target: &BuildTarget,
+) -> Result<(Rule, String), AllocError>
+    ensures { IfOk result (λ b. (b.0, string_bytes b.1) ≡ file_breach (linked_views earlier.now) (build_view target.now)
+        (bad_name (link_names (build_view target.now)))) }
 {
-    let mut names = Vec::new(alloc);
-    names.push(file_name(alloc, target)?)?;
-    let mut links = link_names(alloc, target)?;
-    names.append(&mut links)?;
-    Ok(names)
+    let names = link_names(alloc, target)?;
+    let (rule, text) = match bad_name(&names) {
+        Some(name) => (Rule::IsFileName, name),
+        None => source_breach(earlier, target),
+    };
+    Ok((rule, String::from_str(alloc, text)?))
 }
 
 fn file_breach(
@@ -136,13 +142,11 @@ fn file_breach(
     ensures { IfOk result (λ b. (b.0, string_bytes b.1) ≡ file_breach (linked_views earlier.now) (build_view target.now)
         (bad_name (file_name (build_view target.now) ∷ link_names (build_view target.now)))) }
 {
-    let names = file_names(alloc, target)?;
-    match bad_name(&names) {
-        Some(name) => Ok((Rule::IsFileName, String::from_str(alloc, name)?)),
-        None => {
-            let (rule, text) = source_breach(earlier, target);
-            Ok((rule, String::from_str(alloc, text)?))
-        }
+    let name = file_name(alloc, target)?;
+    if is_file_name(&name) {
+        link_breach(alloc, earlier, target)
+    } else {
+        Ok((Rule::IsFileName, name))
     }
 }
 
@@ -161,15 +165,32 @@ fn build_fit(
     }
 }
 
+// The name of the depfile, where no file may have it.
+fn bad_depfile(target: &CustomTarget) -> Option<&str>
+    ensures { option_map (λ n. n.now) result ≡ bad_name (option_to_list (custom_view target.now).depfile) }
+{
+    match &target.depfile {
+        Some(name) if !is_file_name(name.as_str()) => Some(name.as_str()),
+        _ => None,
+    }
+}
+
+// The first of the names of the target's files that no file may have.
+#[tactic(auto, using(crate::proofs::Names::bad_behind))]
+fn bad_name_of(target: &CustomTarget) -> Option<&str>
+    ensures { option_map (λ n. n.now) result
+        ≡ bad_name ((custom_view target.now).outputs ++ option_to_list (custom_view target.now).depfile) }
+{
+    match bad_name(&target.outputs) {
+        Some(name) => Some(name),
+        None => bad_depfile(target),
+    }
+}
+
 fn custom_fit(alloc: Global, target: &CustomTarget) -> Result<(Rule, String), AllocError>
     ensures { IfOk result (λ b. (b.0, string_bytes b.1) ≡ custom_fit (custom_view target.now)) }
 {
-    let mut names = copies(alloc, &target.outputs)?;
-    match &target.depfile {
-        Some(name) => names.push(name.clone()?)?,
-        None => {}
-    }
-    let name = bad_name(&names).unwrap_or("");
+    let name = bad_name_of(target).unwrap_or("");
     Ok((Rule::IsFileName, String::from_str(alloc, name)?))
 }
 

@@ -1,6 +1,7 @@
 //! `files` and `include_directories`.
 ghost use Rattle.std.specs.Prelude.{◌≡◌, IfOk, map, option_map, string_bytes};
 ghost use Rattle.arguments.specs.Refused.{said_data};
+ghost use Rattle.data.specs.Flat.{flat_all};
 ghost use Rattle.paths.specs.Folder.{strings_of};
 ghost use Rattle.world.specs.Prelude.{Does, MayFail, arguments_data, data_of, here_view};
 ghost use Rattle.target_calls.specs.Files.{all_required, files, include_directories, named_paths, path_named, paths_named, rule_of};
@@ -61,16 +62,17 @@ fn paths_named(
     Ok(Ok(paths))
 }
 
-// The same, where a text that names none refuses the call.
+// The paths that the texts of a call name, where a text that names none refuses it.
 fn named_paths<T: Tree, O: Outputs>(
     caller: &Caller<'_, T, O>,
     wanted: Wanted,
-    texts: &[&str],
+    arguments: &Arguments,
 ) -> Result<Vec<String>, Stop>
-    ensures { Does T.seen O.seen strings_of (named_paths wanted (map (λ t. t.now) texts.now)) caller.now result caller.now }
+    ensures { Does T.seen O.seen strings_of (named_paths wanted (flat_all (arguments_data arguments.now).positional))
+        caller.now result caller.now }
 {
-    let here = caller.here();
-    let paths = paths_named(&here, wanted, texts)?;
+    let texts = arguments.all_texts(caller.alloc)?;
+    let paths = paths_named(&caller.here(), wanted, &texts)?;
     caller.pass(paths)
 }
 
@@ -96,8 +98,7 @@ pub fn files<T: Tree, O: Outputs>(
     requires { MayFail T.seen O.seen caller.old }
     ensures { Does T.seen O.seen (option_map data_of) (files (arguments_data arguments.now)) caller.old result caller.new }
 {
-    let texts = arguments.all_texts(caller.alloc)?;
-    let paths = named_paths(caller, Wanted::File, &texts)?;
+    let paths = named_paths(caller, Wanted::File, arguments)?;
     let listed = files_at(caller.alloc, &paths)?;
     require_all(caller, paths)?;
     let list = caller.answer(listed)?;
@@ -111,8 +112,7 @@ pub fn include_directories<T: Tree, O: Outputs>(
 ) -> Result<Option<Value>, Stop>
     ensures { Does T.seen O.seen (option_map data_of) (include_directories (arguments_data arguments.now)) caller.now result caller.now }
 {
-    let texts = arguments.all_texts(caller.alloc)?;
-    let paths = named_paths(caller, Wanted::Folder, &texts)?;
+    let paths = named_paths(caller, Wanted::Folder, arguments)?;
     let directories = caller.answer(directories_at(caller.alloc, &paths)?)?;
     Ok(Some(directories))
 }

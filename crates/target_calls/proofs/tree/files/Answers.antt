@@ -1,40 +1,36 @@
-use Rattle.std.proofs.Common.{map, string_bytes, ap, refl, ◌∙◌}
+use Rattle.std.proofs.Common.{map, string_bytes, ap, refl}
 use Rattle.world.specs.Deed.{answered}
 use Rattle.world.proofs.Answering.{carries_as, carries_then, carries_stop, carries_none, carries_give, carries_value}
 use Rattle.named_sources.specs.Values.{files_at}
-use Rattle.target_calls.specs.declared.tree.Wanted.TheVariants as wants
-use Rattle.target_calls.specs.Files.{files, named_paths}
+use Rattle.target_calls.specs.Files.{files}
 use Rattle.target_calls.proofs.tree.files.Goals as goal
-
-pub returns-in_err-texts : goal.returns-in_err-texts
-returns-in_err-texts g c = carries_none c.from_residual.ensures.1
 
 pub returns-in_err-paths : goal.returns-in_err-paths
 unfolding files
-returns-in_err-paths g c = carries_stop (carries_as (ap (λ ts. named_paths wants.File (map (λ t. t.now) ts)) c.deref.ensures.value ∙ ap (named_paths wants.File) c.in_ok-texts.ensures) c.in_err-paths.ensures) c.from_residual-in_err-paths.ensures.1
+returns-in_err-paths g c = carries_stop c.in_err-paths.ensures c.from_residual.ensures.1
 
 pub returns-in_err-listed : goal.returns-in_err-listed
 unfolding files
 returns-in_err-listed g c =
-    carries_then (carries_as (ap (λ ts. named_paths wants.File (map (λ t. t.now) ts)) c.deref.ensures.value ∙ ap (named_paths wants.File) c.in_ok-texts.ensures) c.in_ok-paths.ensures)
+    carries_then c.in_ok-paths.ensures
     (carries_none c.from_residual-in_err-listed.ensures.1)
 
 pub returns-in_err-require_all : goal.returns-in_err-require_all
 unfolding files
 returns-in_err-require_all g c =
-    carries_then (carries_as (ap (λ ts. named_paths wants.File (map (λ t. t.now) ts)) c.deref.ensures.value ∙ ap (named_paths wants.File) c.in_ok-texts.ensures) c.in_ok-paths.ensures)
+    carries_then c.in_ok-paths.ensures
     (carries_stop c.in_err-require_all.ensures c.from_residual-in_err-require_all.ensures.1)
 
 pub returns-in_err-list : goal.returns-in_err-list
 unfolding files
 returns-in_err-list g c =
-    carries_then (carries_as (ap (λ ts. named_paths wants.File (map (λ t. t.now) ts)) c.deref.ensures.value ∙ ap (named_paths wants.File) c.in_ok-texts.ensures) c.in_ok-paths.ensures)
+    carries_then c.in_ok-paths.ensures
     (carries_then c.in_ok-require_all.ensures
-    (carries_stop (carries_as (ap (λ ps. answered (files_at (map string_bytes ps))) c.deref-2.ensures.value) (carries_value _ _ c.in_ok-listed.ensures c.in_err-list.ensures)) c.from_residual-in_err-list.ensures.1))
+    (carries_stop (carries_as (ap (λ ps. answered (files_at (map string_bytes ps))) c.deref.ensures.value) (carries_value _ _ c.in_ok-listed.ensures c.in_err-list.ensures)) c.from_residual-in_err-list.ensures.1))
 
 pub returns : goal.returns
 unfolding files
 returns g c =
-    carries_then (carries_as (ap (λ ts. named_paths wants.File (map (λ t. t.now) ts)) c.deref.ensures.value ∙ ap (named_paths wants.File) c.in_ok-texts.ensures) c.in_ok-paths.ensures)
+    carries_then c.in_ok-paths.ensures
     (carries_then c.in_ok-require_all.ensures
-    (carries_then {x = c.in_ok-list.list} (carries_as (ap (λ ps. answered (files_at (map string_bytes ps))) c.deref-2.ensures.value) (carries_value _ _ c.in_ok-listed.ensures c.in_ok-list.ensures)) (carries_give refl)))
+    (carries_then {x = c.in_ok-list.list} (carries_as (ap (λ ps. answered (files_at (map string_bytes ps))) c.deref.ensures.value) (carries_value _ _ c.in_ok-listed.ensures c.in_ok-list.ensures)) (carries_give refl)))

@@ -1,32 +1,28 @@
-use Rattle.std.proofs.Common.{map, string_bytes, ap, refl, ◌∙◌}
+use Rattle.std.proofs.Common.{map, string_bytes, ap, refl}
 use Rattle.world.specs.Deed.{answered}
 use Rattle.world.proofs.Answering.{carries_as, carries_then, carries_stop, carries_none, carries_give, carries_value}
 use Rattle.named_sources.specs.Values.{directories_at}
-use Rattle.target_calls.specs.declared.tree.Wanted.TheVariants as wants
-use Rattle.target_calls.specs.Files.{include_directories, named_paths}
+use Rattle.target_calls.specs.Files.{include_directories}
 use Rattle.target_calls.proofs.tree.include_directories.Goals as goal
-
-pub returns-in_err-texts : goal.returns-in_err-texts
-returns-in_err-texts g c = carries_none c.from_residual.ensures.1
 
 pub returns-in_err-paths : goal.returns-in_err-paths
 unfolding include_directories
-returns-in_err-paths g c = carries_stop (carries_as (ap (λ ts. named_paths wants.Folder (map (λ t. t.now) ts)) c.deref.ensures.value ∙ ap (named_paths wants.Folder) c.in_ok-texts.ensures) c.in_err-paths.ensures) c.from_residual-in_err-paths.ensures.1
+returns-in_err-paths g c = carries_stop c.in_err-paths.ensures c.from_residual.ensures.1
 
 pub returns-in_err-directories_at : goal.returns-in_err-directories_at
 unfolding include_directories
 returns-in_err-directories_at g c =
-    carries_then (carries_as (ap (λ ts. named_paths wants.Folder (map (λ t. t.now) ts)) c.deref.ensures.value ∙ ap (named_paths wants.Folder) c.in_ok-texts.ensures) c.in_ok-paths.ensures)
+    carries_then c.in_ok-paths.ensures
     (carries_none c.from_residual-in_err-directories_at.ensures.1)
 
 pub returns-in_err-directories : goal.returns-in_err-directories
 unfolding include_directories
 returns-in_err-directories g c =
-    carries_then (carries_as (ap (λ ts. named_paths wants.Folder (map (λ t. t.now) ts)) c.deref.ensures.value ∙ ap (named_paths wants.Folder) c.in_ok-texts.ensures) c.in_ok-paths.ensures)
-    (carries_stop (carries_as (ap (λ ps. answered (directories_at (map string_bytes ps))) c.deref-2.ensures.value) (carries_value _ _ c.in_ok-directories_at.ensures c.in_err-directories.ensures)) c.from_residual-in_err-directories.ensures.1)
+    carries_then c.in_ok-paths.ensures
+    (carries_stop (carries_as (ap (λ ps. answered (directories_at (map string_bytes ps))) c.deref.ensures.value) (carries_value _ _ c.in_ok-directories_at.ensures c.in_err-directories.ensures)) c.from_residual-in_err-directories.ensures.1)
 
 pub returns : goal.returns
 unfolding include_directories
 returns g c =
-    carries_then (carries_as (ap (λ ts. named_paths wants.Folder (map (λ t. t.now) ts)) c.deref.ensures.value ∙ ap (named_paths wants.Folder) c.in_ok-texts.ensures) c.in_ok-paths.ensures)
-    (carries_then {x = c.in_ok-directories.directories} (carries_as (ap (λ ps. answered (directories_at (map string_bytes ps))) c.deref-2.ensures.value) (carries_value _ _ c.in_ok-directories_at.ensures c.in_ok-directories.ensures)) (carries_give refl))
+    carries_then c.in_ok-paths.ensures
+    (carries_then {x = c.in_ok-directories.directories} (carries_as (ap (λ ps. answered (directories_at (map string_bytes ps))) c.deref.ensures.value) (carries_value _ _ c.in_ok-directories_at.ensures c.in_ok-directories.ensures)) (carries_give refl))
