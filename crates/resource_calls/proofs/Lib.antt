@@ -2,7 +2,6 @@ pub mod Asking
 pub mod Counting
 pub mod Either
 pub mod Exactly
-pub mod Installing
 pub mod Looking
 pub mod NamedFiles
 pub mod Saying

@@ -1,5 +1,5 @@
 -- `dependency`: what the machine file has.
-use Rattle.std.specs.Prelude.{ℕ, List, [], ◌∷◌, Option, Some, None, codes, Result}
+use Rattle.std.specs.Prelude.{ℕ, Bool, false, List, [], ◌∷◌, Option, Some, None, codes, Result}
 use Rattle.arguments.specs.Arguments.{ArgumentsData}
 use Rattle.data.specs.Flat.{flat_all}
 use Rattle.arguments.specs.Given.{text_at, texts}
@@ -15,7 +15,7 @@ use Rattle.project.specs.World.{AnswerData}
 use Rattle.named_sources.specs.resources.Beside.{call_question}
 use Rattle.named_sources.specs.resources.Fitting.{dependency_that_fits}
 use Rattle.named_sources.specs.resources.Found.{missing}
-use Rattle.resource_calls.specs.Required.{missing_object, required_by}
+use Rattle.resource_calls.specs.Required.{gives_disabler, object_or, required_by}
 use Rattle.world.specs.Declaring.{add_dependency}
 use Rattle.world.specs.Deed.{Deed, give, refuse, consult, ◌>>=◌, answered}
 
@@ -54,19 +54,20 @@ unfoldable pub fitting_dependency : Requirement → ArgumentsData → Deed (Opti
 fitting_dependency requirements.Disabled a = give None
 fitting_dependency _ a = first_said a (flat_all a.positional)
 
--- a dependency that fits is noted and given; E22 where what the machine file says of it is too large
-unfoldable pub give_found : Result Dependency Refusal → Deed (Option Data)
-give_found said = do
+-- a dependency is noted and given, or a disabler in its place; E22 where what is said of it is too large
+unfoldable pub give_noted : Result Dependency Refusal → (is_disabled : Bool) → Deed (Option Data)
+give_noted said is_disabled = do
   d ← answered said
   _ ← add_dependency (answer_of d)
-  give (Some (object (objects.Dependency d)))
+  give (Some (object (object_or (objects.Dependency d) is_disabled)))
 
--- one that isn't found is noted, by the first name, and given, or a disabler in its place
+-- what the machine file says is given
+unfoldable pub give_found : Result Dependency Refusal → Deed (Option Data)
+give_found said = give_noted said false
+
+-- of a dependency that isn't found, the first name is noted; the keyword `disabler` asks for a disabler in its place
 unfoldable pub give_missing : ArgumentsData → Deed (Option Data)
-give_missing a = do
-  d ← answered (missing (text_at 0 a))
-  _ ← add_dependency (answer_of d)
-  give (Some (object (missing_object a (objects.Dependency d))))
+give_missing a = give_noted (missing (text_at 0 a)) (gives_disabler a)
 
 -- where none of the names fits: E17 of the first name where the dependency is required
 unfoldable pub none_fits : Requirement → ArgumentsData → Deed (Option Data)

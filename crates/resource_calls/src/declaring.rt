@@ -4,6 +4,7 @@ ghost use Rattle.world.specs.Prelude.{Does, MayFail, arguments_data, data_of};
 ghost use Rattle.resource_calls.specs.DeclareDependency.{declare_dependency, joined_given};
 ghost use Rattle.resource_calls.specs.OwnListsView.{own_view};
 
+use crate::giving::give_object;
 use crate::joined_lists::joined_dependency;
 use crate::named_files::require_files;
 use crate::own_lists::{Own, own_lists};
@@ -38,6 +39,5 @@ pub fn declare_dependency<T: Tree, O: Outputs>(
     let own = caller.pass(said)?;
     require_files(caller, &own.sources)?;
     let dependency = join_given(caller, arguments, &own)?;
-    let value = Value::of_object(caller.alloc, Object::Dependency(dependency))?;
-    Ok(Some(value))
+    give_object(caller, Object::Dependency(dependency))
 }

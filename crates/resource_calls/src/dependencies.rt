@@ -1,14 +1,13 @@
 //! `dependency`: <https://mesonbuild.com/Reference-manual_functions.html#dependency>.
 ghost use Rattle.std.specs.Prelude.{◌≡◌, IfOk, map, option_map};
-ghost use Rattle.data.specs.Flat.{flat_all};
 ghost use Rattle.project.specs.View.{answer_view};
 ghost use Rattle.world.specs.Prelude.{Does, MayFail, arguments_data, data_of};
-ghost use Rattle.world.specs.Declaring.{add_dependency};
 ghost use Rattle.resource_calls.specs.Dependency.{answer_of, dependency, dependency_named, first_said, fitting_dependency};
-ghost use Rattle.resource_calls.specs.Dependency.{give_found, give_missing, none_fits};
+ghost use Rattle.resource_calls.specs.Dependency.{give_noted, none_fits};
 ghost use Rattle.resource_calls.specs.Required.{required_by};
 
-use crate::required::{missing_object, read_required};
+use crate::giving::give_object;
+use crate::required::{gives_disabler, object_or, read_required};
 use arguments::{Arguments, Requirement};
 use basics::faults::Refusal;
 use data::{Dependency, Object, Value};
@@ -57,17 +56,6 @@ fn first_said<T: Tree, O: Outputs>(
     Ok(None)
 }
 
-fn first_given<T: Tree, O: Outputs>(
-    caller: &mut Caller<'_, T, O>,
-    arguments: &Arguments,
-) -> Result<Option<Result<Dependency, data::Refusal>>, Stop>
-    ensures { Does T.seen O.seen (λ d. d) (let a = arguments_data arguments.now in first_said a (flat_all a.positional))
-        caller.old result caller.new }
-{
-    let names = arguments.all_texts(caller.alloc)?;
-    first_said(caller, &names, arguments)
-}
-
 // What the machine file says of the first name that fits; where a feature is disabled nothing is asked for.
 fn fitting_dependency<T: Tree, O: Outputs>(
     caller: &mut Caller<'_, T, O>,
@@ -78,7 +66,10 @@ fn fitting_dependency<T: Tree, O: Outputs>(
 {
     match read_required(arguments) {
         Requirement::Disabled => Ok(None),
-        Requirement::Required | Requirement::Optional => first_given(caller, arguments),
+        Requirement::Required | Requirement::Optional => {
+            let names = arguments.all_texts(caller.alloc)?;
+            first_said(caller, &names, arguments)
+        }
     }
 }
 
@@ -92,43 +83,21 @@ fn answer_of(alloc: Global, dependency: &Dependency) -> Result<Answer, AllocErro
     })
 }
 
-// Notes what a call answers.
-fn note<T: Tree, O: Outputs>(
-    caller: &mut Caller<'_, T, O>,
-    dependency: &Dependency,
-) -> Result<(), Stop>
-    ensures { Does T.seen O.seen (λ u. u) (add_dependency (answer_of dependency.now)) caller.old result caller.new }
-{
-    let answer = answer_of(caller.alloc, dependency)?;
-    caller.add_dependency(answer)
-}
-
-// Gives what the machine file says, or refuses the call where that is too large.
-fn give_found<T: Tree, O: Outputs>(
+// Notes a dependency, and gives it or a disabler in its place; refuses the call where what is said of it is too large.
+fn give_noted<T: Tree, O: Outputs>(
     caller: &mut Caller<'_, T, O>,
     said: Result<Dependency, data::Refusal>,
+    is_disabled: bool,
 ) -> Result<Option<Value>, Stop>
-    ensures { Does T.seen O.seen (option_map data_of) (give_found said) caller.old result caller.new }
+    ensures { Does T.seen O.seen (option_map data_of) (give_noted said is_disabled) caller.old result caller.new }
 {
     let dependency = caller.answer(said)?;
-    note(caller, &dependency)?;
-    let value = Value::of_object(caller.alloc, Object::Dependency(dependency))?;
-    Ok(Some(value))
-}
-
-// Gives a dependency that isn't found, or a disabler.
-fn give_missing<T: Tree, O: Outputs>(
-    caller: &mut Caller<'_, T, O>,
-    arguments: &Arguments,
-) -> Result<Option<Value>, Stop>
-    ensures { Does T.seen O.seen (option_map data_of) (give_missing (arguments_data arguments.now)) caller.old result caller.new }
-{
-    let missing = missing_dependency(caller.alloc, arguments.text_at(0))?;
-    let dependency = caller.answer(missing)?;
-    note(caller, &dependency)?;
-    let object = missing_object(arguments, Object::Dependency(dependency));
-    let value = Value::of_object(caller.alloc, object)?;
-    Ok(Some(value))
+    let answer = answer_of(caller.alloc, &dependency)?;
+    caller.add_dependency(answer)?;
+    give_object(
+        caller,
+        object_or(Object::Dependency(dependency), is_disabled),
+    )
 }
 
 // What the call comes to where no name fits.
@@ -141,7 +110,10 @@ fn none_fits<T: Tree, O: Outputs>(
 {
     match read_required(arguments) {
         Requirement::Required => caller.refuse(Refusal::NotFound, arguments.text_at(0)),
-        Requirement::Optional | Requirement::Disabled => give_missing(caller, arguments),
+        Requirement::Optional | Requirement::Disabled => {
+            let missing = missing_dependency(caller.alloc, arguments.text_at(0))?;
+            give_noted(caller, missing, gives_disabler(arguments))
+        }
     }
 }
 
@@ -156,7 +128,7 @@ pub fn dependency<T: Tree, O: Outputs>(
 {
     let found = fitting_dependency(caller, arguments)?;
     match found {
-        Some(said) => give_found(caller, said),
+        Some(said) => give_noted(caller, said, false),
         None => none_fits(caller, arguments),
     }
 }

@@ -1,6 +1,6 @@
 //! `install_headers`, `install_data` and `install_man`: <https://mesonbuild.com/Reference-manual_functions.html#install_headers> and its
 //! like.
-ghost use Rattle.std.specs.Prelude.{◌≡◌, map, option_map, IfOk};
+ghost use Rattle.std.specs.Prelude.{map, option_map};
 ghost use Rattle.project.specs.View.{install_view};
 ghost use Rattle.world.specs.Prelude.{Does, MayFail, arguments_data, data_of};
 ghost use Rattle.resource_calls.specs.Installs.{all_installed, install};
@@ -11,27 +11,16 @@ use arguments::Arguments;
 use data::Value;
 use ports::{Outputs, Tree};
 use project::Install;
-use std::alloc::{AllocError, Global};
 use world::{Caller, Stop};
-
-fn copy_of(alloc: Global, install: &Install) -> Result<Install, AllocError>
-    ensures { IfOk result (λ i. install_view i ≡ install_view install.now) }
-{
-    Ok(Install {
-        source: String::from_str(alloc, install.source.as_str())?,
-        destination: String::from_str(alloc, install.destination.as_str())?,
-    })
-}
 
 // Notes where each file goes.
 fn install_all<T: Tree, O: Outputs>(
     caller: &mut Caller<'_, T, O>,
-    installs: &[Install],
+    installs: Vec<Install>,
 ) -> Result<(), Stop>
-    ensures { Does T.seen O.seen (λ u. u) (all_installed (map install_view installs.now)) caller.old result caller.new }
+    ensures { Does T.seen O.seen (λ u. u) (all_installed (map install_view installs.items)) caller.old result caller.new }
 {
-    for one in installs {
-        let install = copy_of(caller.alloc, one)?;
+    for install in installs {
         caller.add_install(install)?;
     }
     Ok(())
@@ -55,6 +44,6 @@ pub fn install<T: Tree, O: Outputs>(
     })?;
     let said = caller.pass(answer)?;
     require_files(caller, &said.named)?;
-    install_all(caller, &said.installs)?;
+    install_all(caller, said.installs)?;
     Ok(None)
 }

@@ -8,6 +8,7 @@ mod commands;
 mod declaring;
 mod dependencies;
 mod destinations;
+mod giving;
 mod installs;
 mod joined_lists;
 mod named_files;

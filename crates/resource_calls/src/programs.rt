@@ -1,44 +1,21 @@
 //! `find_program`: <https://mesonbuild.com/Reference-manual_functions.html#find_program>.
 ghost use Rattle.std.specs.Prelude.{map, option_map, string_bytes};
-ghost use Rattle.data.specs.Flat.{flat_all};
 ghost use Rattle.world.specs.Prelude.{Does, MayFail, arguments_data, data_of};
-ghost use Rattle.resource_calls.specs.Programs.{file_named, file_program, find_program, first_program, found_program};
-ghost use Rattle.resource_calls.specs.Programs.{give_program, missing_program, named_path, no_program};
-ghost use Rattle.resource_calls.specs.Programs.{program_at, program_named, program_of_words, program_wanted};
+ghost use Rattle.resource_calls.specs.Programs.{file_named, find_program, first_program, named_path, no_program};
+ghost use Rattle.resource_calls.specs.Programs.{program_at, program_named, program_wanted};
 ghost use Rattle.resource_calls.specs.Required.{required_by};
 
-use crate::required::{missing_object, read_required};
+use crate::giving::give_object;
+use crate::required::{gives_disabler, object_or, read_required};
 use arguments::{Arguments, Requirement, Rule};
 use basics::faults::Refusal;
-use data::{Object, Program, Text, Texts, Value};
+use data::{Object, Program, Text, Value};
 use named_sources::resources::program_words;
 use paths::tree_path;
 use ports::{Outputs, Tree};
 use world::{Caller, Stop};
 
 // ---- the program of a name
-
-// The program that the machine file has, or the refusal of words that are too large.
-fn program_of_words<T: Tree, O: Outputs>(
-    caller: &Caller<'_, T, O>,
-    said: Result<Texts, data::Refusal>,
-) -> Result<Option<Program>, Stop>
-    ensures { Does T.seen O.seen (λ p. p) (program_of_words said) caller.now result caller.now }
-{
-    let words = caller.answer(said)?;
-    Ok(Some(Program::Words(words)))
-}
-
-fn file_program<T: Tree, O: Outputs>(
-    caller: &Caller<'_, T, O>,
-    path: String,
-) -> Result<Option<Program>, Stop>
-    ensures { Does T.seen O.seen (λ p. p) (file_program (string_bytes path)) caller.now result caller.now }
-{
-    let answer = Text::new(caller.alloc, path)?;
-    let text = caller.answer(answer)?;
-    Ok(Some(Program::File(text)))
-}
 
 // The file at a path, if it is there.
 fn program_at<T: Tree, O: Outputs>(
@@ -48,11 +25,12 @@ fn program_at<T: Tree, O: Outputs>(
 ) -> Result<Option<Program>, Stop>
     ensures { Does T.seen O.seen (λ p. p) (program_at (string_bytes path) is_there) caller.now result caller.now }
 {
-    if is_there {
-        file_program(caller, path)
-    } else {
-        Ok(None)
+    if !is_there {
+        return Ok(None);
     }
+    let answer = Text::new(caller.alloc, path)?;
+    let text = caller.answer(answer)?;
+    Ok(Some(Program::File(text)))
 }
 
 // The path of the file of the tree that a name means, or the refusal of one that means none.
@@ -91,7 +69,10 @@ fn program_named<T: Tree, O: Outputs>(
     caller.ask_key("binaries", name)?;
     let said = program_words(caller.alloc, caller.store.machine(), name)?;
     match said {
-        Some(words) => program_of_words(caller, words),
+        Some(words) => {
+            let words = caller.answer(words)?;
+            Ok(Some(Program::Words(words)))
+        }
         None => file_named(caller, name),
     }
 }
@@ -115,18 +96,6 @@ fn first_program<T: Tree, O: Outputs>(
     Ok(None)
 }
 
-fn first_given<T: Tree, O: Outputs>(
-    caller: &mut Caller<'_, T, O>,
-    arguments: &Arguments,
-) -> Result<Option<Program>, Stop>
-    requires { MayFail T.seen O.seen caller.old }
-    ensures { Does T.seen O.seen (λ p. p) (first_program (flat_all (map data_of arguments.now.positional.items)))
-        caller.old result caller.new }
-{
-    let names = arguments.all_texts(caller.alloc)?;
-    first_program(caller, &names)
-}
-
 // The first program that there is; none where nothing is looked up.
 fn program_wanted<T: Tree, O: Outputs>(
     caller: &mut Caller<'_, T, O>,
@@ -138,22 +107,14 @@ fn program_wanted<T: Tree, O: Outputs>(
 {
     match read_required(arguments) {
         Requirement::Disabled => Ok(None),
-        Requirement::Required | Requirement::Optional => first_given(caller, arguments),
+        Requirement::Required | Requirement::Optional => {
+            let names = arguments.all_texts(caller.alloc)?;
+            first_program(caller, &names)
+        }
     }
 }
 
 // ---- the call
-
-fn missing_program<T: Tree, O: Outputs>(
-    caller: &Caller<'_, T, O>,
-    arguments: &Arguments,
-) -> Result<Option<Value>, Stop>
-    ensures { Does T.seen O.seen (option_map data_of) (missing_program (arguments_data arguments.now)) caller.now result caller.now }
-{
-    let object = missing_object(arguments, Object::Program(Program::NotFound));
-    let value = Value::of_object(caller.alloc, object)?;
-    Ok(Some(value))
-}
 
 // What the call comes to where none of the names is found.
 fn no_program<T: Tree, O: Outputs>(
@@ -165,30 +126,10 @@ fn no_program<T: Tree, O: Outputs>(
 {
     match read_required(arguments) {
         Requirement::Required => caller.refuse(Refusal::NotFound, arguments.text_at(0)),
-        Requirement::Optional | Requirement::Disabled => missing_program(caller, arguments),
-    }
-}
-
-fn found_program<T: Tree, O: Outputs>(
-    caller: &Caller<'_, T, O>,
-    program: Program,
-) -> Result<Option<Value>, Stop>
-    ensures { Does T.seen O.seen (option_map data_of) (found_program program) caller.now result caller.now }
-{
-    let value = Value::of_object(caller.alloc, Object::Program(program))?;
-    Ok(Some(value))
-}
-
-fn give_program<T: Tree, O: Outputs>(
-    caller: &Caller<'_, T, O>,
-    arguments: &Arguments,
-    found: Option<Program>,
-) -> Result<Option<Value>, Stop>
-    ensures { Does T.seen O.seen (option_map data_of) (give_program (arguments_data arguments.now) found) caller.now result caller.now }
-{
-    match found {
-        Some(program) => found_program(caller, program),
-        None => no_program(caller, arguments),
+        Requirement::Optional | Requirement::Disabled => {
+            let missing = Object::Program(Program::NotFound);
+            give_object(caller, object_or(missing, gives_disabler(arguments)))
+        }
     }
 }
 
@@ -202,5 +143,8 @@ pub fn find_program<T: Tree, O: Outputs>(
     ensures { Does T.seen O.seen (option_map data_of) (find_program (arguments_data arguments.now)) caller.old result caller.new }
 {
     let found = program_wanted(caller, arguments)?;
-    give_program(caller, arguments, found)
+    match found {
+        Some(program) => give_object(caller, Object::Program(program)),
+        None => no_program(caller, arguments),
+    }
 }

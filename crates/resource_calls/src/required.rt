@@ -1,7 +1,7 @@
 //! What a call requires, and what it gives where that isn't there.
 ghost use Rattle.std.specs.Prelude.{◌≡◌};
 ghost use Rattle.world.specs.Prelude.{arguments_data};
-ghost use Rattle.resource_calls.specs.Required.{missing_object, required_by};
+ghost use Rattle.resource_calls.specs.Required.{gives_disabler, object_or, required_by};
 
 use arguments::{Arguments, Requirement};
 use data::Object;
@@ -13,11 +13,18 @@ pub fn read_required(arguments: &Arguments) -> Requirement
     arguments.requirement(Requirement::Required)
 }
 
-/// What stands for a thing that isn't there: this object, or a disabler where the keyword `disabler` asks for one.
-pub fn missing_object(arguments: &Arguments, object: Object) -> Object
-    ensures { result ≡ missing_object (arguments_data arguments.now) object }
+/// Whether the keyword `disabler` asks for a disabler in place of a thing that isn't there.
+pub fn gives_disabler(arguments: &Arguments) -> bool
+    ensures { result ≡ gives_disabler (arguments_data arguments.now) }
 {
-    if arguments.flag("disabler", false) {
+    arguments.flag("disabler", false)
+}
+
+/// The object, or a disabler in its place.
+pub fn object_or(object: Object, is_disabled: bool) -> Object
+    ensures { result ≡ object_or object is_disabled }
+{
+    if is_disabled {
         Object::Disabler
     } else {
         object

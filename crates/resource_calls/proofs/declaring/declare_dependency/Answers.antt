@@ -1,6 +1,6 @@
-use Rattle.std.proofs.Common.{Some, map, ap}
+use Rattle.std.proofs.Common.{map, ap}
 use Rattle.named_sources.specs.SourcesView.{named_view}
-use Rattle.world.proofs.Answering.{carries_as, carries_give, carries_none, carries_stop, carries_then}
+use Rattle.world.proofs.Answering.{carries_as, carries_none, carries_stop, carries_then}
 use Rattle.arguments.specs.Arguments.{arguments_data}
 use Rattle.world.specs.Here.{here_of}
 use Rattle.resource_calls.specs.DeclareDependency.{declare_dependency, said_lists}
@@ -34,18 +34,10 @@ returns-in_err-dependency g c =
     (carries_then (carries_as (ap (λ ns. files_required (map named_view ns)) c.deref.ensures.value) c.in_ok-require_files.ensures)
     (carries_stop c.in_err-dependency.ensures c.from_residual-in_err-dependency.ensures.1))
 
-pub returns-in_err-value : goal.returns-in_err-value
-unfolding declare_dependency said_lists
-returns-in_err-value g c =
-    carries_then {x = c.in_ok-own.own} (carries_said_of {view = own_view} (λ h. own_lists h (arguments_data c.args.arguments.now)) here_of c.in_ok-said.said
-    c.in_ok-said.ensures c.here.ensures c.in_ok-own.ensures)
-    (carries_then (carries_as (ap (λ ns. files_required (map named_view ns)) c.deref.ensures.value) c.in_ok-require_files.ensures)
-    (carries_then {x = c.in_ok-dependency.dependency} c.in_ok-dependency.ensures (carries_none c.from_residual-in_err-value.ensures.1)))
-
 pub returns : goal.returns
 unfolding declare_dependency said_lists
 returns g c =
     carries_then {x = c.in_ok-own.own} (carries_said_of {view = own_view} (λ h. own_lists h (arguments_data c.args.arguments.now)) here_of c.in_ok-said.said
     c.in_ok-said.ensures c.here.ensures c.in_ok-own.ensures)
     (carries_then (carries_as (ap (λ ns. files_required (map named_view ns)) c.deref.ensures.value) c.in_ok-require_files.ensures)
-    (carries_then {x = c.in_ok-dependency.dependency} c.in_ok-dependency.ensures (carries_give (ap Some c.in_ok-value.ensures))))
+    (carries_then {x = c.in_ok-dependency.dependency} c.in_ok-dependency.ensures c.give_object.ensures))

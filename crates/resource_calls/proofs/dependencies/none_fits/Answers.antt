@@ -1,9 +1,11 @@
 use Rattle.std.proofs.Common.{ap, refl, sym, ◌∙◌}
 use Rattle.arguments.specs.Arguments.{arguments_data}
 use Rattle.basics.specs.declared.faults.refusal.Refusal.TheVariants as refusals
+use Rattle.named_sources.specs.resources.Found.{missing}
 use Rattle.world.specs.Deed.{refuse}
-use Rattle.world.proofs.Answering.{carries_as, carries_refuse}
-use Rattle.resource_calls.specs.Dependency.{give_missing, none_fits}
+use Rattle.world.proofs.Answering.{carries_as, carries_none, carries_refuse}
+use Rattle.world.proofs.Values.{two}
+use Rattle.resource_calls.specs.Dependency.{give_missing, give_noted, none_fits}
 use Rattle.resource_calls.proofs.Either.{either_way}
 use Rattle.resource_calls.proofs.dependencies.none_fits.Goals as goal
 
@@ -13,9 +15,14 @@ returns-in-Required g c =
     carries_as (ap (λ r. none_fits r (arguments_data c.args.arguments.now)) (sym c.in-Required.is ∙ c.read_required.ensures))
     (carries_as (ap (λ t. refuse refusals.NotFound t) c.text_at.ensures) (carries_refuse c.refuse.ensures))
 
-pub returns-in-Optional : goal.returns-in-Optional
-unfolding none_fits
-returns-in-Optional g c =
+pub returns-in_err-missing-in-Optional : goal.returns-in_err-missing-in-Optional
+returns-in_err-missing-in-Optional g c = carries_none c.from_residual.ensures.1
+
+pub returns-in_ok-missing-in-Optional : goal.returns-in_ok-missing-in-Optional
+unfolding none_fits give_missing
+returns-in_ok-missing-in-Optional g c =
     let a = arguments_data c.args.arguments.now in
-    carries_as (sym (ap (λ r. none_fits r a) (sym c.read_required.ensures) ∙ either_way (λ r. none_fits r a) (give_missing a) refl refl c.in-Optional.is))
-    c.give_missing.ensures
+    carries_as (sym (ap (λ r. none_fits r a) (sym c.read_required.ensures)
+    ∙ either_way (λ r. none_fits r a) (give_missing a) refl refl c.in-Optional.is))
+    (carries_as (two give_noted (c.in_ok-missing-in-Optional.ensures ∙ ap missing c.text_at-in-Optional.ensures) c.gives_disabler.ensures)
+    c.give_noted.ensures)

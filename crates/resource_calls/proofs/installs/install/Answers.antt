@@ -1,11 +1,10 @@
 use Rattle.std.proofs.Common.{map, ap, refl}
-use Rattle.project.specs.View.{install_view}
 use Rattle.named_sources.specs.SourcesView.{named_view}
 use Rattle.world.proofs.Answering.{carries_as, carries_give, carries_none, carries_stop, carries_then}
 use Rattle.arguments.specs.Arguments.{arguments_data}
 use Rattle.resource_calls.specs.Destinations.{folders_in, said_of}
 use Rattle.resource_calls.specs.DestinationsView.{said_view}
-use Rattle.resource_calls.specs.Installs.{all_installed, install, said_installs}
+use Rattle.resource_calls.specs.Installs.{install, said_installs}
 use Rattle.resource_calls.proofs.Saying.{carries_said_of}
 use Rattle.resource_calls.specs.NamedFiles.{files_required}
 use Rattle.resource_calls.proofs.installs.install.Goals as goal
@@ -32,7 +31,7 @@ returns-in_err-install_all g c =
     carries_then {x = c.in_ok-said.said} (carries_said_of {view = said_view} (λ f. said_of f c.args.sort (arguments_data c.args.arguments.now)) folders_in c.in_ok-answer.answer
     c.in_ok-answer.ensures c.folders_in-folders.ensures c.in_ok-said.ensures)
     (carries_then (carries_as (ap (λ ns. files_required (map named_view ns)) c.deref.ensures.value) c.in_ok-require_files.ensures)
-    (carries_stop (carries_as (ap (λ is. all_installed (map install_view is)) c.deref-2.ensures.value) c.in_err-install_all.ensures)
+    (carries_stop c.in_err-install_all.ensures
     c.from_residual-in_err-install_all.ensures.1))
 
 pub returns : goal.returns
@@ -41,5 +40,5 @@ returns g c =
     carries_then {x = c.in_ok-said.said} (carries_said_of {view = said_view} (λ f. said_of f c.args.sort (arguments_data c.args.arguments.now)) folders_in c.in_ok-answer.answer
     c.in_ok-answer.ensures c.folders_in-folders.ensures c.in_ok-said.ensures)
     (carries_then (carries_as (ap (λ ns. files_required (map named_view ns)) c.deref.ensures.value) c.in_ok-require_files.ensures)
-    (carries_then (carries_as (ap (λ is. all_installed (map install_view is)) c.deref-2.ensures.value) c.in_ok-install_all.ensures)
+    (carries_then c.in_ok-install_all.ensures
     (carries_give refl)))
