@@ -289,7 +289,8 @@ pub whole_kept : (line moved : List ℕ) (start end to : ℕ) → to ≡ end - s
     → take (end - start) (drop start line) ≡ moved
 whole_kept line moved start end to count kept full = sym kept ∙ ap (λ k. take k moved) (sym count ∙ full) ∙ take-length moved
 
-pub lacks_whole : (line moved : List ℕ) (start end to : ℕ) → to ≡ end - start → take (end - start) moved ≡ take (end - start) (drop start line) → to ≡ length moved
+pub lacks_whole : (line moved : List ℕ) (start end to : ℕ) → to ≡ end - start
+    → take (end - start) moved ≡ take (end - start) (drop start line) → to ≡ length moved
     → Lacks 10 (take (end - start) (drop start line)) → Lacks 10 moved
 lacks_whole line moved start end to count kept full h = subst (Lacks 10) (whole_kept line moved start end to count kept full) h
 

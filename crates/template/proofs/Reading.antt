@@ -209,7 +209,8 @@ pub buffer_kept : (line moved now : List ℕ) (start end to : ℕ) → to ≡ en
     → take (end - start) (drop start line) ≡ take to now
 buffer_kept line moved now start end to count kept same = sym kept ∙ ap (λ k. take k moved) (sym count) ∙ sym same
 
-pub lacks_kept : (line moved now : List ℕ) (start end to : ℕ) → to ≡ end - start → take (end - start) moved ≡ take (end - start) (drop start line) → take to now ≡ take to moved
+pub lacks_kept : (line moved now : List ℕ) (start end to : ℕ) → to ≡ end - start
+    → take (end - start) moved ≡ take (end - start) (drop start line) → take to now ≡ take to moved
     → Lacks 10 (take (end - start) (drop start line)) → Lacks 10 (take to now)
 lacks_kept line moved now start end to count kept same h = subst (Lacks 10) (buffer_kept line moved now start end to count kept same) h
 

@@ -8,7 +8,8 @@ ghost use Rattle.grammar.specs.Reading.{Gives, begins, ended_at, optional_at};
 ghost use Rattle.grammar.specs.ReadingExpressions.{expr_at};
 ghost use Rattle.grammar.specs.ReadingStatements.{GivesLine, alternatives_at, begins_block, body_at, branch_at, conditional_at};
 ghost use Rattle.grammar.specs.ReadingStatements.{ends_line, foreach_at, in_body, leave_at, leave_tree, leave_word, maybe_at, names_at};
-ghost use Rattle.grammar.specs.ReadingStatements.{otherwise_at, parts_at, plain_at, second_at, set_at, set_tree, sign_of, simple_at, stmt_at};
+ghost use Rattle.grammar.specs.ReadingStatements.{otherwise_at, parts_at, plain_at, second_at, set_at, set_tree, sign_of, simple_at};
+ghost use Rattle.grammar.specs.ReadingStatements.{stmt_at};
 ghost use Rattle.grammar.specs.Tree.{branch_of, statement_of};
 
 use super::{Parser, Read, allocate, fit, put};

@@ -20,7 +20,8 @@ unfolding entry_lines
 lines_none = refl
 
 -- the next entry's line is next
-entry_going : {old now : OutputState} {run : List Step} (name : String Global) (value : ConfigValue) (s later : List (String Global × ConfigValue)) (text : List ℕ)
+entry_going : {old now : OutputState} {run : List Step} (name : String Global) (value : ConfigValue)
+    (s later : List (String Global × ConfigValue)) (text : List ℕ)
     → Going old now run (entry_lines (entries_of s)) → s ≡ (name, value) ∷ later → text ≡ string_bytes name
     → Going old now run ((definition text (content_of value) ++ puts (codes "\n")) ++ entry_lines (entries_of later))
 entry_going name value s later text h e t =
@@ -45,12 +46,16 @@ returns-in_err-put_all g c = writes_exit _ c.from_residual.ensures.0 (writes_sto
 
 pub returns-in_err-put_line : goal.returns-in_err-put_line
 returns-in_err-put_line g c =
-    let h = entry_going c.in-Some.name.now c.in-Some.value.now c.loop-name.name-iterator c.next.new.self c.as_str.result.now c.loop-name.invariant c.in-Some.ensures.steps c.as_str.ensures.value in
+    let h =
+    entry_going c.in-Some.name.now c.in-Some.value.now c.loop-name.name-iterator c.next.new.self c.as_str.result.now c.loop-name.invariant
+    c.in-Some.ensures.steps c.as_str.ensures.value in
     writes_exit _ c.from_residual-in_err-put_line.ensures.0 (going_stop _ h c.in_err-put_line.ensures)
 
 pub loop-name-preserved : goal.loop-name-preserved
 loop-name-preserved g c =
-    let h = entry_going c.in-Some.name.now c.in-Some.value.now c.loop-name.name-iterator c.next.new.self c.as_str.result.now c.loop-name.invariant c.in-Some.ensures.steps c.as_str.ensures.value in
+    let h =
+    entry_going c.in-Some.name.now c.in-Some.value.now c.loop-name.name-iterator c.next.new.self c.as_str.result.now c.loop-name.invariant
+    c.in-Some.ensures.steps c.as_str.ensures.value in
     going_on h c.in_ok-put_line.ensures
 
 pub returns : goal.returns

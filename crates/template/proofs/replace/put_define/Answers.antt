@@ -11,7 +11,8 @@ undefined name = sym (append_assoc (puts (codes "/* undef ")) (puts name) (puts 
 
 pub returns-in_err-put_behind-in-None : goal.returns-in_err-put_behind-in-None
 returns-in_err-put_behind-in-None g c =
-    rw (← c.in-None.ensures, undefined c.args.name.now) (writes_exit _ c.from_residual.ensures.0 (writes_stop _ c.in_err-put_behind-in-None.ensures))
+    rw (← c.in-None.ensures, undefined c.args.name.now)
+    (writes_exit _ c.from_residual.ensures.0 (writes_stop _ c.in_err-put_behind-in-None.ensures))
 
 pub put_all-requires : goal.put_all-requires
 put_all-requires g c = open_after c.in_ok-put_behind-in-None.ensures c.requires.out

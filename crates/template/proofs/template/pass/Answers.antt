@@ -1,11 +1,12 @@
-use Rattle.std.proofs.Common.{arith, ◌≡◌, ◌+◌, ◌-◌, ◌≤◌, ◌<◌, [], take, drop, length, refl, sym, append-nil, ◌++◌, ap, ◌∙◌}
+use Rattle.std.proofs.Common.{arith, ◌≡◌, ◌+◌, ◌-◌, ◌≤◌, ◌<◌, [], take, drop, length, refl, append-nil, ◌++◌, ap, ◌∙◌}
 use Rattle.std.proofs.Common.{unwrap_or, Err}
 use Rattle.ports.specs.Tree.{bytes_at, file_at}
 use Rattle.ports.proofs.Sending.{sends_none}
 use Rattle.template.proofs.Passing.{cut_at, file_goes_on, file_over, whole_kept, passing_fault, passing_as, passing_last, passing_line}
 use Rattle.template.proofs.Passing.{passing_long, passing_start, passing_stop, size_is, exit_sends, exit_same, filled_more, filled_last}
 use Rattle.template.proofs.Passing.{buffer_len, lacks_whole, stays_then, file_past}
-use Rattle.template.proofs.Reading.{before, buffer_kept, buffer_more, lacks_kept, piece_length, piece_none, piece_some, reading_as, reading_last}
+use Rattle.template.proofs.Reading.{lacks_kept}
+use Rattle.template.proofs.Reading.{before, buffer_kept, buffer_more, piece_length, piece_none, piece_some, reading_as, reading_last}
 use Rattle.template.proofs.Reading.{reading_line, reading_long, reading_more, reading_start, reading_stop}
 use Rattle.template.proofs.Scan.{lacks_all}
 use Rattle.template.proofs.template.pass.Goals as goal
