@@ -112,12 +112,6 @@ pub chain_alone : (f : Kind → Option Operator) (part : Reader ExpressionTree) 
 unfolding chain_at operands_at
 chain_alone f part ts a mid h b = rw (h, many_none (head_is (stands_for f)) (operand_at f part) (length mid) mid b) refl
 
-pub chain_others_fail : (f : Kind → Option Operator) (part : Reader ExpressionTree) (ts : List Lexeme) (a : ExpressionTree) (mid : List Lexeme) (d : ReadError)
-    → part ts ≡ Ok (a, mid) → Fails d (operands_at f part mid) → Fails d (chain_at f part ts)
-unfolding chain_at
-chain_others_fail f part ts a mid errors.Memory h e = tt
-chain_others_fail f part ts a mid (errors.Stop g) h e = rw (h, e) refl
-
 pub chain_more : (f : Kind → Option Operator) (part : Reader ExpressionTree) (ts : List Lexeme) (a : ExpressionTree) (mid : List Lexeme)
     (os : List OperandTree) (rest : List Lexeme) → part ts ≡ Ok (a, mid) → head_is (stands_for f) mid ≡ true
     → operands_at f part mid ≡ Ok (os, rest) → chain_at f part ts ≡ Ok (ChainTree a (operands os) (first_line ts), rest)

@@ -3,7 +3,6 @@ pub mod Alone
 pub mod Atoms
 pub mod Binding
 pub mod Blocks
-pub mod BlockTails
 pub mod Chain
 pub mod Chains
 pub mod ComparisonTails

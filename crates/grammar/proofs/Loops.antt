@@ -174,9 +174,6 @@ module _ {S A : Type 0} (k : Kind) (r : S → Reader A) (step : S → A → S) w
       (pending_at (begins k ts) s [] ts (listed_at k r step s ts) refl (items_first k r step s ts))
 
   module _ (more : Bool) (s : S) (before : List A) (ts : List Lexeme) (total : Result (List A × List Lexeme) Stop) (pending : Pending more s before ts total) where
-    pub pending_done : more ≡ false → total ≡ Ok (before, ts)
-    pending_done e = let P : Bool → Type 0 = λ m. Pending m s before ts total in subst P e pending
-
     still_pending : more ≡ true → Pending true s before ts total
     still_pending e = let P : Bool → Type 0 = λ m. Pending m s before ts total in subst P e pending
 

@@ -209,10 +209,6 @@ module _ (expr : Reader ExpressionTree) (stmt : Reader StatementTree) where
       → StillParts before ts total → begins Kinds.Elif ts ≡ true → Fails e (elif_at expr stmt ts) → Fails e total
   parts_stop = loops.still_fails (begins Kinds.Elif) (elif_at expr stmt) all with_one append-nil one_regroup (begins_long Kinds.Elif)
 
-  pub parts_end : (before : List BranchTree) (ts : List Lexeme) (total : Result (List BranchTree × List Lexeme) Stop)
-      → StillParts before ts total → begins Kinds.Elif ts ≡ false → total ≡ Ok (before, ts)
-  parts_end = loops.still_end (begins Kinds.Elif) (elif_at expr stmt) all with_one append-nil one_regroup (begins_long Kinds.Elif)
-
 -- ---- the lines of a body
 
 pub in_body_long : (ts : List Lexeme) → in_body ts ≡ true → 0 < length ts
@@ -261,10 +257,6 @@ module _ (stmt : Reader StatementTree) where
     pub body_newline_fails : {X : Type 0} (x : X) (after : List StatementTree) (mid : List Lexeme) (e : ReadError)
         → GivesLine before after (Ok x) mid (maybe_at stmt ts) → Fails e (token_at Kinds.Newline mid) → Fails e total
     body_newline_fails x after mid e (o, h, same) g = body_fails e (newline_fails_ended ts mid o e h g)
-
-  pub body_end : (before : List StatementTree) (ts : List Lexeme) (total : Result (List StatementTree × List Lexeme) Stop)
-      → StillBody before ts total → in_body ts ≡ false → total ≡ Ok (before, ts)
-  body_end = loops.still_end in_body (ended_line_at stmt) given with_line append-nil line_regroup in_body_long
 
 -- ---- the lines of a file
 
@@ -318,10 +310,6 @@ module _ (n : ℕ) where
     pub lines_line_fails : (t : Lexeme) (mid : List Lexeme) (e : ReadError) → token_at Kinds.Newline ts ≡ Ok (t, mid) → Fails e (line_at n mid)
         → Fails e total
     lines_line_fails t mid e h g = lines_stop e (line_fails_next ts t mid e h g)
-
-  pub lines_end : (before : List StatementTree) (ts : List Lexeme) (total : Result (List StatementTree × List Lexeme) Stop)
-      → StillLines before ts total → begins Kinds.Newline ts ≡ false → total ≡ Ok (before, ts)
-  lines_end = loops.still_end (begins Kinds.Newline) (next_line_at n) given with_line append-nil line_regroup (begins_long Kinds.Newline)
 
 -- ---- the lemmas of one function each
 
