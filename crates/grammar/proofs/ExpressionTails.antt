@@ -408,3 +408,5 @@ pub ruleset label_cases = (label_some, label_none, label_fails)
 pub ruleset taken_cases = (taken_end, taken_missing, taken_found)
 
 pub ruleset enter_cases = (enter_found, enter_fails, enter_deep, enter_missing, fails_at)
+
+pub ruleset base_cases = (base_call, atom_group, atom_list, atom_dictionary, atom_single)

@@ -226,7 +226,7 @@ impl<'a> Parser<'_, 'a> {
 
     // A call of a function, or an atom.
     #[cycle(expression)]
-    #[tactic(auto, using(crate::proofs::ExpressionTails::base_call, crate::proofs::ExpressionTails::atom_group, crate::proofs::ExpressionTails::atom_list, crate::proofs::ExpressionTails::atom_dictionary, crate::proofs::ExpressionTails::atom_single))]
+    #[tactic(auto, using(crate::proofs::ExpressionTails::base_cases))]
     pub(super) fn base(&mut self, levels: u32, ternaries: bool) -> Read<Expression<'a>>
         ensures read { Gives expression_of result (lexemes self.new.rest.now)
             (base_at (inner_at levels) ternaries (lexemes self.old.rest.now)) }
