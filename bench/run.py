@@ -23,16 +23,13 @@ import in_python  # noqa: E402
 import loads  # noqa: E402
 from built import built  # noqa: E402
 from needed_calls import needed_calls  # noqa: E402
-from running import Ran, ran  # noqa: E402
+from running import Ran, others, ran  # noqa: E402
 
 CHECKOUT = os.path.dirname(os.path.dirname(os.path.realpath(__file__)))
 
 # The program of whole runs, which './meson' builds, and that of calls of the libraries, which `rt run` in crates/bench builds.
 MESON = os.path.join(CHECKOUT, "crates", "hawkottoman", "out", "hawkottoman")
 CALLS = os.path.join(CHECKOUT, "crates", "bench", "out", "bench")
-
-# Other programs of the same use, whose times are shown beside ours where they are installed.
-OTHERS = ("muon-meson", "muon", "meson")
 
 # The folders of the builds of ours and of the limit, and the list of the limit's calls, all in the folder of a load.
 BUILD, LIMIT_BUILD, LIMIT_CALLS = "build", "limit", "calls"
@@ -108,8 +105,7 @@ def setup_hostile(load: Load, size: typing.Any) -> list[str]:
 
 
 def setup_otherwise(load: Load, size: typing.Any) -> dict[str, list[str]]:
-    found = [(name, shutil.which(name)) for name in OTHERS]
-    return {name: [path, "setup", f"build-{name}"] for name, path in found if path}
+    return {name: [path, "setup", f"build-{name}"] for name, path in others().items()}
 
 
 def setup_for_120_seconds(load: Load, size: typing.Any) -> dict[str, list[str]]:

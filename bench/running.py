@@ -1,10 +1,16 @@
-"""Runs a command, and tells what it took."""
+"""Runs commands and measures them: time, memory, output; and finds the other programs that are measured too."""
+import contextlib
 import dataclasses
+import os
+import shutil
 import subprocess
 import tempfile
 import time
 
 from built import built
+
+# The other programs of the same use, by their names here, and what they are called on PATH. Debian has another program named muon.
+NAMES_ON_PATH = {"muon": ("muon-meson", "muon"), "meson": ("meson",)}
 
 
 @dataclasses.dataclass
@@ -25,9 +31,17 @@ class Ran:
         return Ran(min(self.processor, other.processor), min(self.wall, other.wall), max(self.peak, other.peak), self.printed, told)
 
 
-def ran(command: list[str], folder: str, is_told: bool) -> Ran:
-    """Runs a command in the folder of its load."""
-    with tempfile.TemporaryFile("w+") as out, tempfile.TemporaryFile("w+") as err, tempfile.NamedTemporaryFile("r") as figures:
+def others() -> dict[str, str]:
+    """Returns the paths of the other programs that are installed, by their names here."""
+    found = {name: next(filter(None, map(shutil.which, names)), None) for name, names in NAMES_ON_PATH.items()}
+    return {name: path for name, path in found.items() if path}
+
+
+def ran(command: list[str], folder: str, is_told: bool = False, output: str | None = None) -> Ran:
+    """Runs a command in the folder of its load. Its standard output goes to the file `output` there, if one is named."""
+    with contextlib.ExitStack() as opened:
+        out = opened.enter_context(open(os.path.join(folder, output), "w+") if output else tempfile.TemporaryFile("w+"))
+        err, figures = map(opened.enter_context, (tempfile.TemporaryFile("w+"), tempfile.NamedTemporaryFile("r")))
         start = time.perf_counter()
         words = [built("start"), figures.name, *command]
         done = subprocess.run(words, cwd=folder, stdin=subprocess.DEVNULL, stdout=out, stderr=err, check=False)

@@ -8,7 +8,8 @@
     tests/agreement.py DIR.. -DNAME=VALUE    an option, for both programs
 
 Each project is copied, and configured by the real Meson, whose log says what it has asked and found. A check that it asks with two
-answers is compared with the first. What one side asks alone is listed and is no failure. The last line is 'N passed, M failed'.
+answers is compared with the first. What one side asks alone is listed and is no failure. Machine files are made twice, with checks that
+are answered together and with --alone, and have to be the same. The last line is 'N passed, M failed'.
 """
 import argparse
 import os
@@ -138,11 +139,13 @@ class Comparison:
             return
         with open(os.path.join(folder, "build-real/meson-logs/meson-log.txt"), encoding="utf-8", errors="replace") as it:
             real = real_answers(it.read())
-        asking = [os.path.join(CHECKOUT, "tools", "machine-file"), self.program, "machine-file", *self.words, folder]
+        asking = [os.path.join(CHECKOUT, "tools", "machine-file"), self.program, "machine-file", "--no-cache", *self.words, folder]
         made = subprocess.run(asking, capture_output=True)
         if made.returncode != 0:
             self.count(name, False, f"no machine file: {made.stderr.decode(errors='replace')}")
             return
+        alone = subprocess.run([*asking, "--alone"], capture_output=True)
+        self.count(f"{name}: checks asked together and alone", alone.stdout == made.stdout, f"{made.stdout}\nnot\n{alone.stdout}")
         ours = our_answers(made.stdout)
         both = [it for it in real if it in ours]
         for key in both:

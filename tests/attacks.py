@@ -4,6 +4,7 @@ What must not be touched lies in a folder `outside`, beside what a script is giv
 """
 import os
 import re
+import resource
 import shutil
 import signal
 import subprocess
@@ -218,6 +219,11 @@ def test_odd_documents() -> None:
         os.mkfifo(f"{WORK}/c/meson-info/introspect.json")
         bad("a pipe in its place", "is no file, but a pipe or a device")
         os.remove(f"{WORK}/c/meson-info/introspect.json")
+    for part, value in {"buildoptions": [{"name": "x"}], "projectinfo": {"name": "p"}, "buildsystem_files": {"present": [1], "absent": []},
+                        "targets": {}, "tests": "x", "dependencies": None}.items():
+        configured("c", **{part: value})
+        for words in (["meson", "introspect", "c"], over("test", "c", "--no-rebuild"), over("install", "c", "--no-rebuild")):
+            refuses(f"another kind of {part}", words, STATUS.get(words[1], 1), "is no introspection document")
     configured("c", tests=[shell("t", ":", timeout=10**400)])
     refuses("a timeout of 400 digits", over("test", "c"), 126, "its tests are not of the form")
     configured("c", tests=[shell("t", ":")])
@@ -252,6 +258,26 @@ def test_broken_elf() -> None:
         check(f"meson install: a program that is {name}", (done.returncode, done.stderr.count("\n")) in ((0, 0), (1, 1)), f"{done}")
 
 
+def test_large_files() -> None:
+    """What is installed is copied piece by piece, and only files are."""
+    fresh("d")
+    to_install("/usr/large.h", "/usr/small.h")
+    with open(f"{WORK}/i0/a.h", "wb") as it:
+        it.truncate(400 << 20)
+    process = subprocess.Popen(words_of(over("install", "i", "--destdir", "d", "--no-rebuild", "-q")), cwd=WORK, env=environment())
+    _, status, used = os.wait4(process.pid, 0)
+    process.returncode = os.waitstatus_to_exitcode(status)
+    sizes = [os.path.getsize(f"{WORK}/d/usr/{it}.h") for it in ("large", "small")]
+    most = max(60 << 10, resource.getrusage(resource.RUSAGE_SELF).ru_maxrss + 4096)
+    check("meson install: a large file", (process.returncode, sizes) == (0, [400 << 20, 2]), f"{process.returncode} {sizes}")
+    check("meson install: a large file is not kept", used.ru_maxrss < most, f"{used.ru_maxrss} KiB")
+    fresh("d")
+    os.remove(f"{WORK}/i0/a.h")
+    os.mkfifo(f"{WORK}/i0/a.h")
+    refuses("a pipe in the place of a file", over("install", "i", "--destdir", "d", "--no-rebuild"), 1, "i0/a.h: there is no such file")
+    os.remove(f"{WORK}/i0/a.h")
+
+
 # test: signals, logs, much output
 
 def test_signals() -> None:
@@ -283,7 +309,7 @@ def wait_for_pids(names: list[str]) -> list[int]:
 
 def is_running(number: int) -> bool:
     """Whether a process is still there after a while, and no mere entry of one that has ended."""
-    for _ in range(100):
+    for _ in range(600):
         try:
             with open(f"/proc/{number}/stat", encoding="utf-8") as it:
                 if it.read().rpartition(")")[2].split()[0] == "Z":
@@ -328,7 +354,9 @@ def test_much_output() -> None:
     check("meson test: much output: status", process.returncode == 2, process.returncode)
     size = os.path.getsize(f"{WORK}/o/meson-logs/testlog.txt")
     check("meson test: much output is whole in the log", 2 * count < size < 2 * count + 4096, size)
-    check("meson test: much output is not kept", used.ru_maxrss < 40 << 10, f"{used.ru_maxrss} KiB")
+    # What a process begins with counts too: the peak of the one that it comes from.
+    most = max(40 << 10, resource.getrusage(resource.RUSAGE_SELF).ru_maxrss + 4096)
+    check("meson test: much output is not kept", used.ru_maxrss < most, f"{used.ru_maxrss} KiB")
     size = os.path.getsize(f"{WORK}/shown")
     check("meson test: of much output the end is shown", 2 << 20 < size < (2 << 20) + 4096, size)
     with open(f"{WORK}/shown", "rb") as it:
@@ -338,5 +366,29 @@ def test_much_output() -> None:
     os.remove(f"{WORK}/shown")
 
 
-TESTS = (test_destinations, test_links_on_the_way, test_links_that_stay, test_links_that_come_late, test_names_for_ninja,
-         test_streams, test_odd_documents, test_odd_files, test_broken_elf, test_signals, test_logs, test_much_output)
+# names that a project gives
+
+def test_shown_names() -> None:
+    """They are shown, and neither obeyed by a terminal nor taken for a further result."""
+    fresh("n")
+    configured("n", tests=[shell("a\x1b[2J\n1/1 forged  OK  0.00s", "exit 1", suite=("s\r",), env=["A=\x07"])])
+    for words in ((), ("--list",), ("--print-errorlogs",)):
+        done = run(over("test", "n", "--no-rebuild", *words))
+        is_plain = not any(ord(it) < 32 and it != "\n" for it in done.stdout) and not re.search(r"^1/1 forged", done.stdout, re.M)
+        check(f"meson test: names with control characters {' '.join(words)}".rstrip(), is_plain and "\\x1b[2J" in done.stdout, f"{done}")
+    check("meson test: names with control characters in the log", not re.search("^1/1 forged|\x1b", read("n/meson-logs/testlog.txt"), re.M))
+
+
+def test_own_names() -> None:
+    """What the commands keep in a build folder is no target's."""
+    target = {"build_by_default": True, "defined_in": "meson.build", "installed": False, "name": "t", "type": "custom"}
+    for name in ("meson-private", "meson-info", "meson-logs", "./meson-info"):
+        configured("o", targets=[{**target, "filename": [name]}], tests=[shell("t", ":")])
+        put("o/build.ninja", "")
+        refuses(f"a target {name}", over("test", "o"), 125, f"the target 't' would be {name}, which this command keeps for itself in o")
+
+
+TESTS = (test_shown_names, test_own_names, test_destinations, test_links_on_the_way, test_links_that_stay,
+         test_links_that_come_late, test_names_for_ninja, test_streams, test_odd_documents, test_odd_files, test_broken_elf,
+         test_large_files, test_signals,
+         test_logs, test_much_output)

@@ -5,7 +5,7 @@ from collections.abc import Sequence
 from workshop import CHECKOUT, check
 
 sys.path.insert(0, CHECKOUT)
-from tools.building.crates import MIB, Crate, crates_of_program, longest_way_first  # noqa: E402
+from tools.building.crates import MIB, Crate, crates_of, longest_way_first  # noqa: E402
 from tools.building.plan import Check, Plan  # noqa: E402
 
 
@@ -23,6 +23,10 @@ def begun(made: Plan, at_work: Sequence[Check] = (), now: float = 0) -> set[str]
     return {it.crate.name for it in made.begin([*at_work], now, 1)}
 
 
+# Seconds of a check that only loads: more processors don't shorten it, so these show the order alone.
+SHORT = 20
+
+
 def test_order() -> None:
     got = begun(plan(crate("a"), crate("b"), crate("c", "b"), jobs=1))
     check("build-program: the longest way first", got == {"b"}, got)
@@ -31,15 +35,15 @@ def test_order() -> None:
     check("build-program: none before all below it", begun(one, [Check(crate("b"), 0, 100)], 90) == set())
     check("build-program: and then it", begun(one, [], 100) == {"c"})
     # Beside b there is a processor for a, but c and e, which d waits for, then want both.
-    both = crate("c", "b", work=300), crate("e", "b", work=300)
-    last = crate("d", "b", "c", "e"), crate("f", "a", "b", "c", "d", "e")
-    one = plan(crate("a", work=300), crate("b", work=10), *both, *last, jobs=2)
-    got = begun(one), begun(one, [], 10)
+    both = crate("c", "b", work=SHORT), crate("e", "b", work=SHORT)
+    last = crate("d", "b", "c", "e", work=SHORT / 3), crate("f", "a", "b", "c", "d", "e", work=SHORT / 3)
+    one = plan(crate("a", work=SHORT), crate("b", work=SHORT / 30), *both, *last, jobs=2)
+    got = begun(one), begun(one, [], SHORT / 30)
     check("build-program: a crate waits for those that more wait for", got == ({"b"}, {"c", "e"}), got)
 
 
 def test_processors() -> None:
-    got = begun(plan(crate("a"), crate("b"), crate("c"), jobs=2))
+    got = begun(plan(crate("a", work=SHORT), crate("b", work=SHORT), crate("c", work=SHORT), jobs=2))
     check("build-program: as many as there are processors", len(got) == 2, got)
     got = begun(plan(crate("a"), crate("b")), [Check(crate("c"), 0, 100)], 50)
     check("build-program: beside one that is at work", got == {"a", "b"}, got)
@@ -58,10 +62,44 @@ def test_memory() -> None:
     check("build-program: and begins where the other ends soon", got == {"b"}, got)
 
 
+def processors(made: Plan, at_work: Sequence[Check] = (), now: float = 0) -> dict[str, int]:
+    """The processors of the checks that begin now."""
+    return {it.crate.name: it.processors for it in made.begin([*at_work], now, 1)}
+
+
+def test_idle_processors() -> None:
+    got = processors(plan(crate("a", work=900)))
+    check("build-program: a crate that is alone gets all processors", got == {"a": 4}, got)
+    got = processors(plan(crate("a", work=900), crate("b", "a", work=900)))
+    check("build-program: and the last two of a chain, one after the other", got == {"a": 4}, got)
+    got = processors(plan(crate("a", work=900)), [Check(crate("z"), 0, 100)])
+    check("build-program: beside one at work the others that are idle", got == {"a": 3}, got)
+    got = processors(plan(*(crate(it, work=900) for it in "abcd")))
+    check("build-program: four beside one another have one each", got == dict.fromkeys("abcd", 1), got)
+    got = processors(plan(crate("a", work=900, size=4000), size=6000))
+    check("build-program: within the memory, which one alone may pass", got == {"a": 4}, got)
+    got = processors(plan(crate("a", work=900, size=4000), size=8100), [Check(crate("z", size=3000), 0, 5000)])
+    check("build-program: beside another as many as there is memory for", got == {"a": 1}, got)
+    got = processors(plan(crate("a", work=15)))
+    check("build-program: none for a check that only loads", got == {"a": 1}, got)
+    measured = Crate("a", [], set(), "", 900, 1000, 0.42)
+    check("build-program: what was measured", abs(measured.seconds(4) - 378) < 1 and measured.seconds(1) == 900, measured.seconds(4))
+    check("build-program: without a measure about the same", 350 < crate("a", work=900).seconds(4) < 400, crate("a", work=900).seconds(4))
+
+
+def test_whole_build() -> None:
+    """By the model the whole build is done sooner than with one processor for each check."""
+    crates = longest_way_first(crates_of())
+    narrow, wide = Plan(crates, 4, 8e9), Plan(list(crates), 4, 8e9)
+    wide.improve([], 0, 1)
+    ends = narrow.end_of(crates, frozenset(), [], 0, 1), wide.end_of(wide.left, wide.wide, [], 0, 1)
+    check("build-program: the whole is done in four fifths of the time", ends[1] <= 0.8 * ends[0], ends)
+
+
 def test_crates() -> None:
-    crates = crates_of_program()
+    crates = crates_of()
     missing = [name for name, it in crates.items() if it.below - crates.keys()]
     check("build-program: the crates of the program, with all below them", len(crates) > 1 and not missing, missing)
 
 
-TESTS = (test_order, test_processors, test_memory, test_crates)
+TESTS = (test_order, test_processors, test_memory, test_idle_processors, test_whole_build, test_crates)

@@ -8,11 +8,16 @@ import shutil
 import subprocess
 import sys
 import time
+import types
+from collections.abc import Callable
 
 from workshop import (CHECKOUT, COMMAND, WORK, check, configured, document, environment, only_on_path, over, put, read, refuses, run, shell,
                       shows_help, wait_until, words_of)
 
 sys.path.insert(0, CHECKOUT)
+# Behind this folder, whose commands.py has the name of one in tools/.
+sys.path.append(os.path.join(CHECKOUT, "tools"))
+from tools.explaining.devices import unwritable  # noqa: E402
 from tools.last_setup import build_folder_of  # noqa: E402
 
 COPY = os.path.join(WORK, "checkout")
@@ -37,15 +42,24 @@ done
 """
 NINJA = f"""#!/bin/sh
 test ! -f {WORK}/ninja-fails || exit 1
-while test $# -gt 1; do case $1 in -f) cat "$2" >>{WORK}/asked-of-ninja ; shift ;; *) echo "$1" >>{WORK}/asked-of-ninja ;; esac; shift; done
+test "$1 $2" != "-t compdb" || exit
+while test $# -gt 0; do
+    case $1 in
+    -f) cat "$2" >>{WORK}/asked-of-ninja ; shift ;;
+    wanted*) ;;
+    *) echo "$1" >>{WORK}/asked-of-ninja ;;
+    esac
+    shift
+done
 """
 # Of the toolchain: what proves a crate, which tells which and makes a library or code; what links code; and `rt`.
 RATTLE = f"""#!/bin/sh
 for last; do :; done
 echo "$(basename "$PWD") build" >>{WORK}/proved
+echo "$*" >{WORK}/words-of-check
 test ! -f {WORK}/broken || exit 1
 if test -f {WORK}/slow; then echo $$ >{WORK}/at-work; exec sleep 60; fi
-case $last in *.rlib) mkdir -p "$last" ;; *) : >"$last" ;; esac
+case $last in *.rlib) mkdir -p "$last" ;; *.a) cp {WORK}/library.a "$last" ;; *) : >"$last" ;; esac
 """
 LINK = f"""#!/bin/sh
 cp {WORK}/program out/hawkottoman
@@ -55,7 +69,7 @@ if test "$1" = version; then cat {WORK}/kit/version; exit; fi
 echo "$(basename "$PWD") $1" >>{WORK}/proved
 mkdir -p out; cp {WORK}/program out/hawkottoman
 """
-FURTHER = ["explain", "compile", "test", "install", "introspect", "machine-file", "self-install"]
+FURTHER = ["configure", "explain", "compile", "test", "install", "introspect", "machine-file", "self-install"]
 
 
 def with_tools() -> dict[str, str]:
@@ -192,6 +206,47 @@ def test_ending_a_build() -> None:
     meson("--help")
 
 
+def make_archives() -> None:
+    """The archive of a library for C, and that of the toolchain's C part."""
+    put("library.c", "int part(void);\nint hawkottoman_setup(void) { return part(); }\n")
+    put("part.c", "int part(void) { return 0; }\n")
+    os.makedirs(f"{WORK}/kit/c")
+    for name, archive in (("library", "library.a"), ("part", "kit/c/liblibc_c.a")):
+        run(["cc", "-fPIC", "-c", f"{name}.c"])
+        run(["ar", "rcs", archive, f"{name}.o"])
+
+
+def test_building_the_library() -> None:
+    """It is built over the libraries that checks have made, where all are new, and otherwise over what is proved for it."""
+    def built(name: str, wanted: list[str], is_over_checked: bool = False) -> None:
+        taken("proved")
+        done = run([f"{COPY}/tools/build-library"], with_tools())
+        got, words = taken("proved").splitlines(), taken("words-of-check")
+        is_good = got == wanted and done.returncode == 0 and done.stdout == "".join(f"{it}\n" for it in libraries)
+        is_over = "low=" + os.path.join(COPY, "crates/low/out/rlib/low.rlib") in words
+        check(f"build-library: {name}", is_good and is_over == is_over_checked, f"{got} {words} {done}")
+
+    make_archives()
+    libraries = [f"{COPY}/crates/hawkottoman_c/out/{it}" for it in ("libhawkottoman.a", "libhawkottoman.so")]
+    kept = read("checkout/crates.txt")
+    put("checkout/crates.txt", kept + "hawkottoman_c staticlib: low\n")
+    put("checkout/crates/hawkottoman_c/src/lib.rt", "")
+    built("is built over what is proved", ["hawkottoman_c build"])
+    exported = run(["nm", "-D", "--defined-only", libraries[1]]).stdout.split()[2:]
+    check("build-library: the shared library exports the calls alone", exported == ["hawkottoman_setup"], exported)
+    built("is built once", [])
+    put("checkout/crates/hawkottoman_c/src/lib.rt", "// changed\n")
+    os.makedirs(f"{COPY}/crates/low/out/rlib/low.rlib")
+    built("is built over what checks have made", ["hawkottoman_c build"], True)
+    put("checkout/crates/low/src/lib.rt", "// changed for the library\n")
+    os.utime(f"{COPY}/crates/low/src/lib.rt", (time.time() + 5,) * 2)
+    built("is not built over what is older than its files", ["low build", "hawkottoman_c build"])
+    shutil.rmtree(f"{COPY}/crates/low/out/rlib")
+    shutil.rmtree(f"{COPY}/crates/hawkottoman_c")
+    put("checkout/crates.txt", kept)
+    meson("--help")
+
+
 def test_commands() -> None:
     listed = lambda text: [line.split()[0] for line in text.splitlines() if line.startswith("  ")]
     done = meson("--help")
@@ -201,28 +256,43 @@ def test_commands() -> None:
         done = meson(*words)
         is_good = done.returncode == 4 and done.stdout == "" and listed(done.stderr) == ["setup", "questions", "fault", *FURTHER]
         check(f"meson: {words} is no command", is_good and repr(words[0] if words else "")[1:-1] in done.stderr, f"{done}")
-    put("checkout/tools/port", '#!/bin/sh\necho port "$@"\n', 0o755)
+    put("checkout/tools/port", 'import sys\nprint("port", *sys.argv[1:])\n', 0o755)
     check("meson port: where it is there", meson("port", "a b").stdout == "port a b\n" and "port" in listed(meson("such").stderr))
     os.remove(f"{COPY}/tools/port")
     for command in FURTHER:
         shows_help(command, "Exit status:")
+    with open(f"{CHECKOUT}/CHANGELOG.md", encoding="utf-8") as it:
+        version = re.search(r"^## ([0-9.]+)", it.read(), re.M)[1]
+    check("meson --version: the last one of CHANGELOG.md", meson("--version").stdout == f"Hawkottoman {version}\n", version)
+    os.rename(f"{COPY}/crates/hawkottoman/out/hawkottoman", f"{WORK}/kept-program")
+    without = {"PATH": only_on_path(*COMMAND, "awk", "cat", "find")}
+    ends = {it: run([MESON, it, "--help"], without).returncode for it in FURTHER}
+    check("meson: the help of each command without a program and rt", not any(ends.values()), ends)
+    done = run([MESON, "--help"], without)
+    is_good = done.returncode == 0 and listed(done.stdout) == ["setup", "questions", "fault", *FURTHER] and "a release" in done.stdout
+    check("meson: help without a program and rt", is_good and done.stderr == "", f"{done}")
+    os.rename(f"{WORK}/kept-program", f"{COPY}/crates/hawkottoman/out/hawkottoman")
+
+
+SAID_OF_FAULTS = "why\nmeson: more: meson explain b\n"
 
 
 def test_setup() -> None:
     """The program's own output and status; its words are kept where it ended with 0."""
-    words_of_setup = "sources/b/meson-private/words.json"
+    words_of_setup = "sources/b/meson-private/words"
     sources = os.path.realpath(f"{WORK}/sources")
     for words in (["b"], ["-D", "b=b", "--native-file", "a b.ini", "b"], ["-Dx=\"'\\\n", "--native-file=n", "--", "b"], ["./b/"]):
         taken(words_of_setup)
         done = meson("setup", *words, cwd=sources)
         is_good = done.returncode == 0 and done.stdout == f"program setup {' '.join(words)}\n" and done.stderr == ""
-        kept = json.loads(taken(words_of_setup) or "null")
-        check(f"meson setup: keeps {words}", is_good and kept == {"sources": sources, "words": words}, f"{done} {kept}")
+        kept = taken(words_of_setup).split("\0\n")
+        form = "words-of-lines-1" if "\n" in "".join(words) else "words-1"
+        check(f"meson setup: keeps {words}", is_good and kept == [form, sources, *words, ""], f"{done} {kept}")
     check("meson setup: help keeps nothing", meson("setup", "--help", "b", cwd=sources).returncode == 0 and taken(words_of_setup) == "")
     for text, status in {"echo why >&2; exit 1": 1, "exit 4": 4, "kill -TERM $$": -15, "kill -KILL $$": -9}.items():
         put("instead", text)
         done = meson("setup", "b", cwd=sources)
-        is_good = (done.returncode, done.stdout, done.stderr) == (status, "program setup b\n", "why\n" if status == 1 else "")
+        is_good = (done.returncode, done.stdout, done.stderr) == (status, "program setup b\n", SAID_OF_FAULTS if status == 1 else "")
         check(f"meson setup: status {status} is the program's, and keeps nothing", is_good and taken(words_of_setup) == "", f"{done}")
     put("instead", "exec sleep 300")
     process = subprocess.Popen([MESON, "setup", "b"], cwd=sources, env=environment(with_tools()), stdout=subprocess.PIPE, text=True)
@@ -240,10 +310,64 @@ def test_setup() -> None:
     os.makedirs(f"{WORK}/elsewhere")
     os.symlink(f"{WORK}/elsewhere", f"{sources}/b/meson-private")
     done = meson("setup", "b", cwd=sources)
-    is_told = done.stderr.startswith("meson: b/meson-private/words.json: has a link on its way") and done.stderr.count("\n") == 1
+    is_told = done.stderr.startswith("meson: b/meson-private/words: has a link on its way") and done.stderr.count("\n") == 1
     is_good = done.returncode == 2 and is_told and os.listdir(f"{WORK}/elsewhere") == []
     check("meson setup: says that the words can't be kept", is_good, f"{done}")
     os.remove(f"{sources}/b/meson-private")
+
+
+# Makes of each template an output of its bytes, in place of one with other bytes.
+CONFIGURES = f"""case $1 in setup)
+    for last; do :; done
+    echo "$PWD" "$@" >>{WORK}/configured
+    mkdir -p "$last/sub"
+    cp -rp {WORK}/template/. "$last"
+    for it in *.in; do
+        made=$last/sub/$(basename "$it" .in)
+        cmp -s "$it" "$made" || (rm -f "$made"; cat "$it" >"$made")
+    done
+    exit ;;
+esac
+"""
+
+
+def test_modes_of_templates() -> None:
+    """An output whose template is executable is executable, and no other one."""
+    sources = os.path.realpath(put("modes/meson.build", "project('p', 'c')\n"))
+    sources, output = os.path.dirname(sources), f"{os.path.dirname(sources)}/b/sub"
+    put("modes/script.in", "#!/bin/sh\n", 0o755)
+    put("modes/plain.in", "plain\n")
+    put("instead", CONFIGURES)
+    shutil.move(f"{WORK}/template", f"{WORK}/kept-template")
+    configured("template", buildsystem_files={"absent": [], "present": ["meson.build", "script.in", "plain.in"]})
+    put("template/build.ninja", "")
+    is_executable = lambda name: os.stat(f"{output}/{name}").st_mode & 0o111
+
+    def sets_up(name: str, runs: int, script: bool, words: list[str] | None = None) -> None:
+        taken("configured")
+        done = meson(*(words or ["setup", "b"]), cwd=sources)
+        taken("asked-of-ninja")
+        got = bool(is_executable("script")), bool(is_executable("plain")), taken("configured").count(" setup ")
+        is_good = got == (script, False, runs) and done.returncode == 0
+        check(f"meson {(words or ['setup'])[0]}: modes of outputs: {name}", is_good, f"{got} {done}")
+
+    sets_up("that of the template", 2, True)
+    sets_up("a second run finds nothing to do", 1, True)
+    put("modes/script.in", "#!/bin/sh\n:\n", 0o755)
+    sets_up("other bytes", 1, True)
+    put("modes/script.in", "#!/bin/sh\n: 2\n", 0o755)
+    sets_up("other bytes", 1, True, ["compile", "-C", "b"])
+    os.chmod(f"{sources}/script.in", 0o644)
+    sets_up("a template that is no longer executable", 1, False)
+    os.chmod(f"{sources}/script.in", 0o755)
+    sets_up("a template that is executable now", 2, True)
+    os.remove(f"{output}/script")
+    os.symlink(put("modes/outside", "#!/bin/sh\n: 2\n"), f"{output}/script")
+    sets_up("a link in the place of an output leads nowhere", 1, False)
+    check("meson setup: modes of outputs: what a link leads to stays", not os.stat(f"{sources}/outside").st_mode & 0o111)
+    os.remove(f"{WORK}/instead")
+    shutil.rmtree(f"{WORK}/template")
+    shutil.move(f"{WORK}/kept-template", f"{WORK}/template")
 
 
 def test_questions() -> None:
@@ -297,9 +421,51 @@ def test_explain() -> None:
     os.symlink(WORK, f"{sources}/link")
     explains("a folder that is a link", "exit 0", ["link/b"], 2, "link: is a link")
     os.remove(f"{sources}/link")
-    os.mkfifo(f"{sources}/fifo")
-    explains("a file that can't be read", "echo 'meson: device fault' >&2; exit 2", ["b"], 2, "fifo: is no file, but a pipe")
+    explains_what_is_unread(explains, sources)
+    explains_odd_files(explains)
     put("questions", NOTHING_ASKED)
+
+
+def test_reasons() -> None:
+    """A file system that can be read alone is told as such, and not as a permission that is lacking."""
+    kept, os.statvfs = os.statvfs, lambda path: types.SimpleNamespace(f_flag=os.ST_RDONLY)
+    try:
+        told = unwritable(WORK)
+    finally:
+        os.statvfs = kept
+    check("meson explain: a file system that can only be read", told == "Read-only file system" and unwritable(WORK) is None, told)
+
+
+def explains_what_is_unread(explains: Callable[..., None], sources: str) -> None:
+    """Status 2: the file that the definitions name, and no other that can't be read either."""
+    os.mkfifo(f"{sources}/a.c")
+    device_fault = "echo 'meson: device fault' >&2; exit 2"
+    explains("a file that can't be read", device_fault, ["b"], 2, "a.c: is no file, but a pipe")
+    os.remove(f"{sources}/a.c")
+    put("explained/a.c", "")
+    put("explained/other/x", "")
+    os.mkfifo(f"{sources}/other/a.c")
+    os.symlink("nobody@nowhere", f"{sources}/.#meson.build")
+    os.symlink("nowhere", f"{sources}/p")
+    os.symlink(WORK, f"{sources}/link")
+    explains("a pipe elsewhere is not what failed", device_fault, ["link/b"], 2, "link: is a link")
+    explains("nor is a link to nothing", device_fault, ["b/c"], 2, "other/a.c: is no file, but a pipe")
+    os.remove(f"{sources}/link")
+
+
+def explains_odd_files(explains: Callable[..., None]) -> None:
+    """What is named in a branch that isn't taken is read no further than a file goes, and deep expressions are followed or left."""
+    path, fault = f"{WORK}/explained/sub/meson.build", "echo 'meson.build:2: ERROR: E5 undefined name: nmae' >&2; exit 1"
+    put("explained/meson.build", "project('p', 'c', name: nmae)\nmessage(nmae)\nif false\n  subdir('sub')\nendif\nname = 1\n")
+    os.makedirs(os.path.dirname(path))
+    for name, make in {"a pipe": lambda: os.mkfifo(path), "a device": lambda: os.symlink("/dev/zero", path),
+                       "3 GiB of nothing": lambda: os.truncate(os.open(path, os.O_CREAT | os.O_WRONLY), 3 << 30)}.items():
+        make()
+        explains(f"{name} in a branch that isn't taken", fault, ["b"], 1, "near: 'name'")
+        os.remove(path)
+    for count in (600, 5000):
+        put("explained/meson.build", f"project('p', 'c')\nx = nmae + {' + '.join(['1'] * count)}\n")
+        explains(f"a chain of {count}", fault, ["b"], 1, "meson.build:2: ERROR: E5 undefined name: nmae\n")
 
 
 def test_compile() -> None:
@@ -312,15 +478,22 @@ def test_compile() -> None:
     def compiles(name: str, given: list[str], asked: str, cwd: str = WORK) -> None:
         done = meson("compile", *given, cwd=cwd)
         got, configured_by = taken("asked-of-ninja"), taken("configured")
-        file = f"include build.ninja\n\nbuild wanted#: phony {asked.rpartition('|')[2]}\n"
+        options, _, targets = asked.rpartition("|")
+        file = f"include build.ninja\n\nbuild wanted#: phony {targets}\n" if targets else ""
         folder = given[given.index("-C") + 1] if "-C" in given else "."
-        options = "".join(f"{it}\n" for it in asked.rpartition("|")[0].split())
-        is_good = done.returncode == 0 and got == f"-C\n{folder}\n{file}{options}" and configured_by == again
+        wanted = f"-C\n{folder}\n{file}" + "".join(f"{it}\n" for it in options.split())
+        is_good = done.returncode == 0 and got == wanted and configured_by == again
         check(f"meson compile: {name}", is_good and done.stderr == "", f"{got} {configured_by} {done}")
 
-    compiles("configures again and builds all", ["-C", "sources/b"], "all")
-    compiles("the present folder", [], "all", f"{sources}/b")
-    compiles("-j and -v", ["-C", "sources/b", "-j", "3", "-v"], "-j 3 -v|all")
+    compiles("configures again and builds all", ["-C", "sources/b"], "")
+    compiles("the present folder", [], "", f"{sources}/b")
+    compiles("-j and -v", ["-C", "sources/b", "-j", "3", "-v"], "-j 3 -v|")
+    compiles("words for Ninja", ["-C", "sources/b", "--ninja-args=-k 0"], "-k 0|all")
+    compiles("words for Ninja, with a comma", ["-C", "sources/b", "--ninja-args=-x a,b"], "-x a,b|all")
+    compiles("words for Ninja, as a list", ["-C", "sources/b", "--ninja-args=['-k', '0']"], "-k 0|all")
+    done = meson("compile", "-C", "sources/b", "--clean")
+    is_clean = done.returncode == 0 and taken("asked-of-ninja") == "-C\nsources/b\n-t\nclean\n"
+    check("meson compile: --clean removes and builds nothing", is_clean and taken("configured") == "", f"{done}")
     compiles("targets", ["-C", "sources/b", "run", "files of a"], "sub/run a.c a.h")
     compiles("a target by its folder", ["-C", "sources/b", "sub/run"], "sub/run")
     compiles("a target by its kind, with its links", ["-C", "sources/b", "x:shared_library"], "libx.so.1 libx.so")
@@ -342,20 +515,21 @@ def test_compile_that_fails() -> None:
     fails("no number", [*in_b, "-j0"], 4, "--jobs takes a number above 0")
     fails("no such word", [*in_b, "--such"], 4, "--such")
     put("ninja-fails", "")
-    fails("a build that fails", in_b, 1, "the build failed")
+    fails("a build of a target that fails", [*in_b, "run"], 1, "the build failed")
+    check("meson compile: a build that fails", meson("compile", *in_b).returncode == 1)
     os.remove(f"{WORK}/ninja-fails")
     for status in (1, 2, 4):
         put("instead", f"exit {status}")
         done = meson("compile", *in_b)
-        is_told = done.stderr == f"meson compile: `meson setup` ended with status {status}, so nothing was built\n"
+        is_told = done.stderr.endswith(f"meson compile: `meson setup` ended with status {status}, so nothing was built\n")
         is_good = done.returncode == status and is_told and not taken("asked-of-ninja")
         check(f"meson compile: where setup ends with {status}", is_good, f"{done}")
     os.remove(f"{WORK}/instead")
     fails("no configured folder", [], 1, ".: is no configured folder")
     os.rename(f"{sources}/b", f"{sources}/moved")
     fails("a folder that was moved", ["-C", "sources/moved"], 1, f"was configured as {sources}/b: run `meson setup` once more")
-    kept = "sources/moved/meson-private/words.json"
-    for text in ("", "[]", "{}", '{"sources": 1, "words": []}', '{"sources": "/", "words": [1]}', "[" * 5000):
+    kept = "sources/moved/meson-private/words"
+    for text in ("", "[]", "words-2\0\n/\0\nb\0\n", "words-1\0\n/\0\n", "words-1\0\n/\0\nb", "\0" * 5000):
         put(kept, text)
         fails(f"words that are {text[:20]!r}", ["-C", "sources/moved"], 1, "doesn't have the words of a `meson setup`")
     os.remove(f"{WORK}/{kept}")
@@ -401,32 +575,170 @@ def test_progress() -> None:
     check("meson test: and none in a file", "\x1b" not in run(over("test", "w", "--no-rebuild")).stdout)
 
 
+COMPLETIONS = ("share/bash-completion/completions/hawkottoman-meson", "share/zsh/site-functions/_hawkottoman-meson",
+               "share/fish/vendor_completions.d/hawkottoman-meson.fish")
+# Completes the last of its words, as bash does.
+COMPLETE = """. prefix/share/bash-completion/completions/hawkottoman-meson
+COMP_WORDS=("$@"); COMP_CWORD=$(($# - 1)); _hawkottoman_meson; printf '%s\n' "${COMPREPLY[@]}"
+"""
+
+
+def test_completion() -> None:
+    """Completion of the installed command's words."""
+    completed = lambda *words: run(["bash", "-c", COMPLETE, "bash", "hawkottoman-meson", *words]).stdout.splitlines()
+    got = completed("co"), completed("test", "--no-"), completed("compile", "-C", "pre"), completed("configure", "--def")
+    check("completion: bash", got == (["configure", "compile"], ["--no-suite", "--no-rebuild"], ["prefix"], ["--default-library"]), got)
+    os.makedirs(f"{WORK}/a folder with blanks")
+    got = run(["bash", "-c", COMPLETE, "bash", "hawkottoman-meson", "compile", "-C", "a f"]).stdout
+    check("completion: bash, a folder with blanks", got == "a folder with blanks\n", got)
+    done = run([f"{CHECKOUT}/tools/completion", "true", "bash", "x"])
+    check("completion: a command without help", (done.returncode, done.stdout) == (1, "") and "shows no commands" in done.stderr, f"{done}")
+    for shell, path in zip(("bash", "zsh", "fish"), COMPLETIONS):
+        if shutil.which(shell):
+            done = run([shell, "-n", f"prefix/{path}"])
+            check(f"completion: {shell} can read it", done.returncode == 0 and done.stderr == "", f"{done}")
+
+
+def try_name(installed: str) -> None:
+    """The name of the installed command, in what it says itself and in what is said by those that it calls."""
+    put("instead", "exit 1")
+    for command, what in (("test", "no test was run"), ("install", "nothing was installed"), ("introspect", "nothing is printed")):
+        done = run([installed, command, *(["c"] if command == "introspect" else ["-C", "c"])], with_tools(), cwd=f"{WORK}/sources")
+        wanted = (f"hawkottoman-meson: more: hawkottoman-meson explain c\nhawkottoman-meson {command}: `hawkottoman-meson setup` ended "
+                  f"with status 1, so {what}\n")
+        check(f"meson self-install: the name in messages of {command}", done.stderr == wanted, f"{done}")
+    os.remove(f"{WORK}/instead")
+    put("questions", """echo '{"section":"checks","key":"has_function f","answer":null,"file":"meson.build","line":2,"beside":{}}'\n""")
+    done = run([installed, "setup", "e"], with_tools(), cwd=f"{WORK}/sources")
+    is_good = done.stderr.startswith("hawkottoman-meson: 1 question ") and "`hawkottoman-meson machine-file > native.ini`" in done.stderr
+    check("meson self-install: the name in the list of questions", is_good and "`meson" not in done.stderr, f"{done}")
+    put("questions", "echo 'meson.build:1: ERROR: E14 file missing: meson.build' >&2; exit 1\n")
+    done = run([installed, "explain", "e"], with_tools(), cwd=f"{WORK}/sources")
+    check("meson self-install: the name in what is explained", "run `hawkottoman-meson explain` in" in done.stdout, f"{done}")
+    put("questions", NOTHING_ASKED)
+    early = f"import os, sys; sys.path.insert(0, {CHECKOUT!r}); sys.argv[0] = 'test'; import tools.early; os.kill(os.getpid(), 15)"
+    done = run([sys.executable, "-B", "-c", early], {"HAWKOTTOMAN_CALLED": "hawkottoman-meson"})
+    is_good = (done.returncode, done.stderr) == (130, "hawkottoman-meson test: interrupted\n")
+    check("meson self-install: the name in what ends at once", is_good, f"{done}")
+    wrong = {}
+    for command in (it for it in FURTHER if it != "self-install"):
+        done = run([installed, command, "--help"])
+        if done.returncode or f"usage: hawkottoman-meson {command} " not in done.stdout or re.search(r"(?<![\w-])meson [a-z]", done.stdout):
+            wrong[command] = done.stdout + done.stderr
+    check("meson self-install: the name in the help of each command", not wrong, wrong)
+
+
+# Parts of the standard library that cost more than a command gets of them.
+SLOW = re.compile(r"\| +(argparse|dataclasses|inspect|secrets|typing)$", re.M)
+
+
+def test_light_start() -> None:
+    """The interpreter that was found runs the scripts, and they load nothing that is slow to load; `setup` and `compile` run without it."""
+    python = put("bin/python", f'#!/bin/sh\necho "$@" >>{WORK}/started\nexec {sys.executable} -X importtime "$@" 2>>{WORK}/loaded\n', 0o755)
+    done = run([MESON, "self-install", "light"], {**with_tools(), "PYTHON": python})
+    is_named = f"\npython={python}\n" in read("light/lib/hawkottoman/meson")
+    check("meson self-install: PYTHON names the interpreter", done.returncode == 0 and is_named, f"{done}")
+    light = lambda *words: run([f"{WORK}/light/bin/hawkottoman-meson", *words], with_tools(), cwd=f"{WORK}/asks")
+    taken("started")
+    ends = [light("setup", "b").returncode]
+    put("instead", "exit 0")  # what is written stays as it was
+    ends += [light(*words).returncode for words in (["setup", "b"], ["setup", "-Dx=1", "b"], ["compile", "-C", "b", "-j2", "-v"])]
+    check("meson: setup and compile without Python", ends == [0] * 4 and not os.path.exists(f"{WORK}/started"), ends)
+    os.remove(f"{WORK}/instead")
+    wrong = {}
+    for words in (["test", "-C", "b"], ["install", "-C", "b"], ["introspect", "b"], ["compile", "-C", "b", "--ninja-args=-k 0"],
+                  ["configure", "b"], ["configure", "b", "-Dx=2"], ["explain", "b"], ["machine-file", "--alone"]):
+        taken("started"), taken("loaded")
+        done = light(*words)
+        started, loaded = taken("started"), taken("loaded")
+        if done.returncode or not all(it.startswith("-I -S ") for it in started.splitlines()) or not started or SLOW.search(loaded):
+            wrong[" ".join(words)] = f"{done.returncode} {started} {SLOW.findall(loaded)}"
+    check("meson: scripts load nothing that is slow to load", not wrong, wrong)
+    words = [sys.executable, "-I", "-S", "-X", "importtime", f"{CHECKOUT}/tools/port", "--dry-run", "--no-trial", "asks"]
+    loaded = run(words).stderr
+    check("meson port: loads nothing that is slow to load", "| " in loaded and not SLOW.search(loaded), SLOW.findall(loaded))
+    for name in ("a b", "a|b", "a&b", "x;y"):
+        refuses(f"an interpreter {name!r}", ["env", f"PYTHON=/bin/{name}", MESON, "self-install", "light"], 4, "PYTHON: ", env=with_tools())
+
+
 def test_self_install() -> None:
-    done = meson("self-install", "prefix")
+    done = run(["sh", "-c", 'umask 077; exec "$0" self-install prefix', MESON], with_tools())
     files = [os.path.join(folder, it) for folder, _, names in os.walk(f"{COPY}/tools") for it in names
              if os.path.basename(folder) not in ("__pycache__", "building")]
-    scripts = {f"share/hawkottoman/tools/{os.path.relpath(it, f'{COPY}/tools')}" for it in files
-               if os.path.basename(it) not in ("build-program", "self-install")}
-    names = {*scripts, "share/hawkottoman/hawkottoman", "share/hawkottoman/meson", "bin/hawkottoman-meson",
-             "share/man/man1/hawkottoman-meson.1"}
+    scripts = {f"lib/hawkottoman/tools/{os.path.relpath(it, f'{COPY}/tools')}" for it in files
+               if os.path.basename(it) not in ("build-program", "build-library", "self-install", "release", "completion")}
+    names = {*scripts, "lib/hawkottoman/hawkottoman", "lib/hawkottoman/meson", "bin/hawkottoman-meson",
+             "share/man/man1/hawkottoman-meson.1", *COMPLETIONS}
     places = {os.path.join(os.path.realpath(WORK), "prefix", it) for it in names}
-    check("meson self-install: says what it installs", set(done.stdout.split()) == places and done.returncode == 0, f"{done}")
+    check("meson self-install: says what it installs", set(done.stdout.split()) == places and done.returncode == 0,
+          f"{set(done.stdout.split()) ^ places} {done.stderr}")
+    modes = {it: os.stat(f"{WORK}/prefix/{it}").st_mode & 0o777 for it in (*scripts, "lib", "lib/hawkottoman/tools/commands")}
+    check("meson self-install: is right under any umask", all(it in (0o755, 0o644) for it in modes.values()), modes)
+    compiled = f"{WORK}/prefix/lib/hawkottoman/tools/commands/__pycache__"
+    check("meson self-install: compiles its scripts", len(os.listdir(compiled)) > 4, os.listdir(compiled))
+    put("prefix/lib/hawkottoman/tools/old.py", "")
+    put("prefix/share/hawkottoman/meson", "")
+    meson("self-install", "prefix")
+    is_whole = not os.path.exists(f"{WORK}/prefix/lib/hawkottoman/tools/old.py") and not os.path.exists(f"{WORK}/prefix/share/hawkottoman")
+    check("meson self-install: replaces an older version whole", is_whole and sorted(os.listdir(f"{WORK}/prefix/lib")) == ["hawkottoman"])
+    test_completion()
+
+
+def test_self_install_that_fails() -> None:
+    """It says so in one line, an older version stays, and nothing else is left."""
+    files_of = lambda place: {os.path.join(folder, it) for folder, _, names in os.walk(f"{WORK}/{place}") for it in names}
+    whole = files_of("prefix")
+    put("fails/mv", '#!/bin/sh\ncase "$*" in *hawkottoman.new*) exit 1 ;; esac\nexec /bin/mv "$@"\n', 0o755)
+    refuses("a folder that can't be replaced", [MESON, "self-install", "prefix"], 1, "prefix/lib/hawkottoman was not installed",
+            env={**with_tools(), "PATH": f"{WORK}/fails:{with_tools()['PATH']}"})
+    check("meson self-install: a folder that can't be replaced: the older version stays", whole == files_of("prefix"))
+    with open("/dev/full", "w") as full:
+        refuses("a full output", [MESON, "self-install", "prefix"], 1, "the standard output can't be written", env=with_tools(),
+                stdout=full)
+    done = run(["sh", "-c", '"$0" self-install prefix >&-', MESON], with_tools())
+    is_told = done.returncode == 1 and done.stderr == "meson self-install: the standard output can't be written\n"
+    check("meson self-install: a closed output", is_told, f"{done}")
+    check("meson self-install: leaves what was there", whole == files_of("prefix"))
+    for place in ("bin/hawkottoman-meson", "share/man/man1/hawkottoman-meson.1", *COMPLETIONS):
+        os.makedirs(f"{WORK}/other/{place}")
+        refuses(f"a folder in the place of a file: {os.path.basename(place)}", [MESON, "self-install", "other"], 1,
+                f"other/{place}: is a folder, where a file is to be; nothing was installed", env=with_tools())
+        check("meson self-install: and puts no file anywhere", not files_of("other"), files_of("other"))
+        shutil.rmtree(f"{WORK}/other")
+    put("other/share", "")
+    refuses("a file in the place of a folder", [MESON, "self-install", "other"], 1,
+            "hawkottoman-meson.1 was not installed: Not a directory", env=with_tools())
+    shutil.rmtree(f"{WORK}/other")
+    refuses("no words", ["meson", "self-install"], 4, "takes one word")
+    refuses("a word of another kind", ["meson", "self-install", "--prefix=/usr"], 4, "is no folder PREFIX")
+
+
+def test_installed_copy() -> None:
+    """What is installed, without its checkout."""
     os.rename(COPY, f"{WORK}/gone")
     installed = f"{WORK}/prefix/bin/hawkottoman-meson"
+    done = run([installed, "test", "-C", "nowhere"])
+    check("meson self-install: messages have the name of the command", done.stderr.startswith("hawkottoman-meson test: "), f"{done}")
     done = run([installed, "setup", "c"], with_tools(), cwd=f"{WORK}/sources")
     check("meson self-install: setup", (done.returncode, done.stdout, done.stderr) == (0, "program setup c\n", ""), f"{done}")
+    try_name(installed)
     taken("asked-of-ninja")
     for words in (["compile", "-C", "c"], ["test", "-C", "c"], ["install", "-C", "c"], ["introspect", "c"], ["machine-file", "../asks"]):
         done = run([installed, *words], with_tools(), cwd=f"{WORK}/sources")
         check(f"meson self-install: {words[0]}", done.returncode == 0 and done.stderr == "", f"{done}")
     check("meson self-install: no command of the checkout alone", "self-install" not in run([installed, "--help"]).stdout)
-    check("meson self-install: manual page", ".TH HAWKOTTOMAN-MESON 1" in read("prefix/share/man/man1/hawkottoman-meson.1"))
+    manual = read("prefix/share/man/man1/hawkottoman-meson.1")
+    named = set(re.findall(r"^\.B hawkottoman-meson ([a-z-]+)$", manual, re.M))
+    wanted = {"setup", "questions", "fault", "port", *FURTHER} - {"self-install"}
+    check("meson self-install: the manual page has each command", named == wanted and manual.startswith(".TH HAWKOTTOMAN-MESON 1 "),
+          named ^ wanted)
     os.rename(f"{WORK}/gone", COPY)
     done = run([MESON, "self-install", "/usr"], {**with_tools(), "DESTDIR": f"{WORK}/stage"})
     staged = run([f"{WORK}/stage/usr/bin/hawkottoman-meson", "test", "--help"])
     check("meson self-install: DESTDIR", done.returncode == staged.returncode == 0, f"{done} {staged}")
-    refuses("no words", ["meson", "self-install"], 4, "takes one word")
-    refuses("a word of another kind", ["meson", "self-install", "--prefix=/usr"], 4, "is no folder PREFIX")
+
+
+def test_build_that_fails() -> None:
     put("broken", "")
     put("checkout/crates/low/src/lib.rt", "// broken\n")
     os.utime(f"{COPY}/crates/low/src/lib.rt", (time.time() + 5,) * 2)
@@ -435,5 +747,8 @@ def test_self_install() -> None:
     check("meson setup: a build that fails", done.returncode == 127 and is_told and done.stdout == "", f"{done}")
 
 
-TESTS = (test_without_the_program, test_building, test_ending_a_build, test_commands, test_setup, test_questions, test_explain,
-         test_compile, test_compile_that_fails, test_introspect, test_progress, test_self_install)
+TESTS = (test_without_the_program, test_building, test_ending_a_build, test_building_the_library, test_commands, test_setup,
+         test_modes_of_templates, test_questions, test_explain, test_reasons, test_compile, test_compile_that_fails, test_introspect,
+         test_progress)
+# The last leaves no program that is built.
+LAST = (test_light_start, test_self_install, test_self_install_that_fails, test_installed_copy, test_build_that_fails)

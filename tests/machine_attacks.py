@@ -2,6 +2,7 @@
 
 What must not be touched lies in a folder `outside`, beside the sources in `m`.
 """
+import glob
 import os
 import re
 import shutil
@@ -9,7 +10,7 @@ import signal
 import subprocess
 
 from attacks import files_below, fresh, is_running, try_streams, wait_for_pids
-from workshop import WORK, check, environment, put, refuses, run, words_of
+from workshop import WORK, check, environment, put, refuses, run, wait_until, words_of
 
 MACHINE_FILE = ["meson", "machine-file", "m"]
 
@@ -61,19 +62,16 @@ cc.has_link_argument('-Wl,-o')
 cc.has_link_argument('-Wl,-rpath,/opt/lib')
 cc.has_argument('/utf-8')
 cc.has_argument('-fdebug-prefix-map=/a=b')""")
-    count = 2 * (len(words) + 1) + 3
-    is_told = len(re.findall(r"^# TO FILL IN: .* is not asked: with", done.stdout, re.M)) == count == len(done.stderr.splitlines())
+    count = 2 * (len(words) + 1) + 5
+    left = re.findall(r"^# TO FILL IN: .* is not asked: .* is not among the words", done.stdout, re.M)
+    is_told = len(left) == count == len(done.stderr.splitlines())
     check("meson machine-file: words that write are not asked", done.returncode == 0 and is_told, f"{count} {done}")
-    wanted = (f"meson machine-file: meson.build:4: has_argument -o{place}: is not asked: with '-o{place}' the compiler could write "
-              f"elsewhere or run a program; where it is so, add below [checks]: has_argument -o{place} = true")
+    wanted = (f"meson machine-file: meson.build:4: has_argument -o{place}: is not asked: '-o{place}' is not among the words that a "
+              f"compiler may be given for a project; where it is so, add below [checks]: has_argument -o{place} = true")
     check("meson machine-file: words that write: the line to add is told", done.stderr.splitlines()[0] == wanted, done.stderr)
     check("meson machine-file: words that write: nothing is written", not files_below("outside"), files_below("outside"))
     check("meson machine-file: words that read are asked", "has_link_argument -Wl,-rpath,/opt/lib = true\n" in done.stdout and
           "has_argument -fdebug-prefix-map=/a=b = true\n" in done.stdout and "has_argument /utf-8 = false\n" in done.stdout, done.stdout)
-    run(["sh", "-c", "echo 'int f(void) { return 0; }' | cc -c -x c - -o outside/f.o"])
-    before = files_below("outside")
-    of_machine_file("cc.has_link_argument('-Wl,-o')\ncc.has_link_argument('-Wl,-Map')", {"LDFLAGS": f"{WORK}/outside/f.o"})
-    check("meson machine-file: an output without its name takes none of the linker's files", before and before == files_below("outside"))
 
 
 def test_what_a_project_gives() -> None:
@@ -83,11 +81,12 @@ def test_what_a_project_gives() -> None:
     for option, word in (("c_args", "-wrapper"), ("c_args", f"-fplugin={tool}"), ("c_link_args", f"-Wl,-Map={WORK}/outside/it"),
                          ("c_link_args", "@words")):
         put("m/meson.build", f"project('p', 'c', default_options: ['{option}={word} {tool}'])\n")
-        wanted = f"{option} of the project: with '{word}' the compiler could write elsewhere or run a program; -D{option}=.. gives others"
+        wanted = (f"{option} of the project: '{word}' is not among the words that a compiler may be given for a project; "
+                  f"-D{option}=.. gives others")
         refuses(f"{option} of the project: {word.partition('=')[0]}", MACHINE_FILE, 1, wanted)
         done = run([*MACHINE_FILE, f"-D{option}=-O1"])
         check(f"meson machine-file: {option} in place of the project's", done.returncode == 0 and done.stderr == "", f"{done}")
-    done = of_machine_file("project('p', 'c', default_options: ['c_args=-DX=int', 'c_link_args=-Wl,-Map'])\n"
+    done = of_machine_file("project('p', 'c', default_options: ['c_args=-DX=int', 'c_link_args=-Wl,-z,relro'])\n"
                            "meson.get_compiler('c').has_type('X')\nmeson.get_compiler('c').has_function('fsync')\n")
     check("meson machine-file: harmless words of the project", "has_type X = true\nhas_function fsync = true\n" in done.stdout, f"{done}")
     put("m/own.pc", f"Name: own\nDescription: own\nVersion: 1\nCflags: -wrapper {tool}\n")
@@ -95,7 +94,7 @@ def test_what_a_project_gives() -> None:
     for name in ("own.pc", f"{WORK}/m/own.pc"):
         put("m/meson.build", f"project('p', 'c')\ncc = meson.get_compiler('c')\n{text % name}\n")
         done = run([*MACHINE_FILE[:2]], cwd=f"{WORK}/m")
-        is_told = f"dependency {name}: is not asked: pkg-config would read this file" in done.stderr
+        is_told = f"dependency {name}: is not asked: pkg-config would read the file of this name" in done.stderr
         is_good = is_told and "has_type int = true\n" in done.stdout
         check(f"meson machine-file: a package of the project: {name[:1]}..", is_good, f"{done}")
     check("meson machine-file: what a project gives runs nothing", not files_below("outside"), files_below("outside"))
@@ -124,8 +123,8 @@ def test_streams() -> None:
 def test_odd_names() -> None:
     done = of_machine_file("cc.has_header('a\\0b')\ncc.has_header('a' + '\\n' + 'b')\ndependency('a\\0b', required: false)\n"
                            "find_program('a\\0b', required: false)\ncc.has_type('int', args: '-D\\0')")
-    is_good = done.returncode == 0 and done.stderr == "" and "has_type int = false\n" in done.stdout
-    check("meson machine-file: names with NUL", is_good, f"{done}")
+    is_told = [it.split(": ")[2] for it in done.stderr.splitlines()] == ["dependency a\\x00b", "has_type int"]
+    check("meson machine-file: names with NUL", done.returncode == 0 and is_told, f"{done}")
     done = of_machine_file("cc.sizeof('char /*\\n*/')")
     is_told = done.stderr == "meson machine-file: meson.build:3: sizeof char /*\\n*/: no machine file can hold this name\n"
     check("meson machine-file: a name with a line's end", done.returncode == 0 and is_told, f"{done}")
@@ -139,14 +138,36 @@ def test_odd_names() -> None:
     os.remove(f"{WORK}/m/meson.build")
 
 
+def test_headers_of_the_project() -> None:
+    """A header that the compiler reads for ever, or that names the script's own standard input, keeps nobody waiting."""
+    fresh("m", "scratch")
+    put("m/bomb.h", "#include \"bomb.h\"\n" * 2)
+    put("m/meson.build", "project('p', 'c')\ncc = meson.get_compiler('c')\ncc.has_type('int', prefix: '#include \"bomb.h\"', "
+        "include_directories: include_directories('.'))\ncc.has_type('char')\n")
+    process = subprocess.Popen(words_of(MACHINE_FILE), cwd=WORK, env=environment({"TMPDIR": f"{WORK}/scratch"}), stdin=subprocess.DEVNULL,
+                               stdout=subprocess.PIPE, stderr=subprocess.PIPE, text=True)
+    printed, errors = process.communicate(timeout=400)
+    is_told = "has_type int: cc says more than 16,777,216 bytes" in errors and "has_type char = true\n" in printed
+    check("meson machine-file: a header that includes itself for ever", process.returncode == 0 and is_told, f"{errors[:400]} {printed}")
+    check("meson machine-file: which leaves nothing", os.listdir(f"{WORK}/scratch") == [], os.listdir(f"{WORK}/scratch"))
+    put("m/meson.build", "project('p', 'c')\nmeson.get_compiler('c').has_type('int', prefix: '#include \"/dev/stdin\"')\n")
+    reading, writing = os.pipe()
+    done = run(MACHINE_FILE, stdin=reading)
+    os.close(writing)
+    os.close(reading)
+    check("meson machine-file: the standard input as a header", "has_type int = true\n" in done.stdout, f"{done}")
+
+
 def test_interrupted_checks() -> None:
     """A compiler that hangs is ended with machine-file, at once, and no folder is left."""
     fresh("s", "scratch")
-    hangs = put("hangs", f"#!/bin/sh\ncase $* in *-Wslow*) echo $$ >{WORK}/s/pid; exec sleep 300 ;; esac\nexec cc \"$@\"\n", 0o755)
+    # It can write nowhere but in the folder of its check.
+    hangs = put("hangs", "#!/bin/sh\ncase $* in *-Wslow*) echo $$ >$TMPDIR/pid; exec sleep 300 ;; esac\nexec cc \"$@\"\n", 0o755)
     put("m/meson.build", "project('p', 'c')\nmeson.get_compiler('c').has_argument('-Wslow')\n")
     env = environment({"CC": hangs, "TMPDIR": f"{WORK}/scratch"})
     process = subprocess.Popen(words_of(MACHINE_FILE), cwd=WORK, env=env, stdout=subprocess.PIPE, stderr=subprocess.PIPE, text=True)
-    pids = wait_for_pids(["s/pid"])
+    wait_until(lambda: glob.glob(f"{WORK}/scratch/*/*/pid"))
+    pids = wait_for_pids(glob.glob(f"{WORK}/scratch/*/*/pid"))
     process.send_signal(signal.SIGTERM)
     process.send_signal(signal.SIGHUP)
     printed, errors = process.communicate(timeout=200)
@@ -157,4 +178,4 @@ def test_interrupted_checks() -> None:
 
 
 TESTS = (test_broken_compilers, test_what_checks_may_do, test_what_a_project_gives, test_sizes, test_streams, test_odd_names,
-         test_interrupted_checks)
+         test_headers_of_the_project, test_interrupted_checks)

@@ -46,7 +46,8 @@ def over(command: str, folder: str, *words: str) -> list[str]:
 
 
 def environment(env: dict[str, str] | None = None) -> dict[str, str]:
-    return {**{key: it for key, it in os.environ.items() if key not in CLEARED}, **(env or {})}
+    kept = {key: it for key, it in os.environ.items() if key not in CLEARED}
+    return {**kept, "XDG_CACHE_HOME": os.path.join(WORK, "cache of the user"), **(env or {})}
 
 
 def run(words: list[str], env: dict[str, str] | None = None, cwd: str = WORK, **how: object) -> subprocess.CompletedProcess:

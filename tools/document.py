@@ -1,31 +1,41 @@
 """What `meson setup` says of a configured folder to other programs: meson-info/introspect.json."""
-import dataclasses
+from __future__ import annotations
+
 import json
 import os
+import posixpath
 import re
 from collections.abc import Iterable
-from typing import Any
 
 from tools.ending import Stop
 from tools.files import read_text
 
-Target = dict[str, Any]
-Test = dict[str, Any]
-PARTS = ("targets", "tests", "buildoptions", "installed", "dependencies", "projectinfo", "buildsystem_files")
-# What the document says of a target and of a test, and in what form.
+TYPE_CHECKING = False
+if TYPE_CHECKING:
+    from typing import Any
+
+    Target = dict[str, Any]
+    Test = dict[str, Any]
+
+PARTS = {"targets": list, "tests": list, "buildoptions": list, "installed": dict, "dependencies": list, "projectinfo": dict,
+         "buildsystem_files": dict}
+# What the document says of the project, the files it was made from, an option, a target and a test, and in what form.
+PROJECT, FILES, OPTION = {"name": str, "version": str}, {"present": list, "absent": list}, {"name": str, "type": str}
 TARGET = {"name": str, "type": str, "filename": list, "defined_in": str}
 TEST = {"cmd": list, "env": list, "name": str, "should_fail": bool, "suite": list, "timeout": int}
+# What the commands keep in a build folder for themselves.
+OWN = {"meson-private", "meson-info", "meson-logs", "meson-private/words", "meson-private/machine.ini", "meson-private/executables",
+       "meson-info/introspect.json", "meson-logs/testlog.txt", "meson-logs/install-log.txt", "compile_commands.json", ".gitignore"}
 # A NUL ends what the system is told, and half a pair of surrogates is no character.
 NO_NAME = re.compile("[\0\ud800-\udfff]")
 
 
-@dataclasses.dataclass(frozen=True)
 class Document:
-    """The project's name, its targets and tests, and of what is installed the path and the destination."""
-    project: str
-    targets: list[Target]
-    tests: list[Test]
-    installed: dict[str, str]
+    """The project's name, its targets and tests, of what is installed the path and the destination, and the files that it was made from."""
+
+    def __init__(self, project: str, targets: list[Target], tests: list[Test], installed: dict[str, str],
+                 made_from: dict[str, list[str]]) -> None:
+        self.project, self.targets, self.tests, self.installed, self.made_from = project, targets, tests, installed, made_from
 
 
 def document_path(folder: str) -> str:
@@ -33,7 +43,7 @@ def document_path(folder: str) -> str:
 
 
 def read_content(folder: str) -> dict[str, Any]:
-    """The document with all its parts, whose form is not looked at."""
+    """The document with all its parts; of targets, tests and what is installed the form is not looked at."""
     path = document_path(folder)
     if not os.path.isdir(folder):
         raise Stop(f"{folder}: there is no such folder")
@@ -45,9 +55,18 @@ def read_content(folder: str) -> dict[str, Any]:
         raise Stop(f"{path}: is no JSON of a document: it is nested too deeply") from error
     except ValueError as error:
         raise Stop(f"{path}: is no JSON: {error}") from error
-    if not isinstance(content, dict) or not all(part in content for part in PARTS):
+    if not is_document(content):
         raise Stop(f"{path}: is no introspection document of `meson setup`")
     return content
+
+
+def is_document(content: object) -> bool:
+    """Whether it has all parts, each of its own kind."""
+    if not isinstance(content, dict) or not all(isinstance(content.get(part), kind) for part, kind in PARTS.items()):
+        return False
+    if not has_form(content["projectinfo"], PROJECT) or not has_form(content["buildsystem_files"], FILES):
+        return False
+    return all(has_form(it, OPTION) and "value" in it for it in content["buildoptions"])
 
 
 def read_document(folder: str) -> Document:
@@ -55,19 +74,30 @@ def read_document(folder: str) -> Document:
     try:
         project, installed = content["projectinfo"]["name"], content["installed"]
         targets, tests = content["targets"], content["tests"]
-        known = isinstance(project, str) and isinstance(installed, dict) and all(map(is_target, targets))
-        known = known and all(isinstance(it, str) for it in installed.values()) and all(it.startswith("/") for it in installed)
+        known = all(map(is_target, targets)) and all(isinstance(it, str) for it in installed.values())
+        known = known and all(it.startswith("/") for it in installed)
     except (KeyError, TypeError):
         known = False
     if not known:
         raise Stop(f"{path}: is no introspection document of `meson setup`")
-    if not isinstance(tests, list) or not all(map(is_test, tests)):
+    if not all(map(is_test, tests)):
         raise Stop(f"{path}: its tests are not of the form that `meson setup` writes")
-    document = Document(project, targets, tests, installed)
+    document = Document(project, targets, tests, installed, content["buildsystem_files"])
     for text in texts_of(document):
         if NO_NAME.search(text):
             raise Stop(f"{path}: has a text that is no name and no word of a command: {text!r}")
     return document
+
+
+def refuse_own_names(folder: str) -> None:
+    """Stops where a target of a configured folder would be made in the place of what the commands keep there."""
+    if not os.path.exists(document_path(folder)):
+        return
+    for target in read_document(folder).targets:
+        taken = next((it for it in target["filename"] if posixpath.normpath(it) in OWN), None)
+        if taken is not None:
+            raise Stop(f"the target {target['name']!r} would be {taken}, which this command keeps for itself in {folder}: "
+                       "give it another name")
 
 
 def has_form(it: object, form: dict[str, type]) -> bool:

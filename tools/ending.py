@@ -1,21 +1,40 @@
 """How a script ends: with a status and, where something went wrong, with one line on the standard error that says what.
 
-What can go wrong outside of a script is told so too: a standard output that is full or closed, and a signal that asks the script to end.
-Where the output is a pipe whose reader has gone, nothing is said.
+This covers what can go wrong outside of a script: a standard output that is full or closed, and a signal that asks the script to end. If
+the reader of a pipe has gone, nothing is said.
 """
-import argparse
+from __future__ import annotations
+
 import os
 import signal
 import sys
 from collections.abc import Callable
-from types import FrameType
-from typing import NoReturn
 
-INTERRUPTED = 130
+TYPE_CHECKING = False
+if TYPE_CHECKING:
+    from types import FrameType
+    from typing import NoReturn
+
+from tools.early import INTERRUPTED, SIGNALS
+
+# The name by which the command was called, which is none of what it runs.
+CALLED = os.environ.pop("HAWKOTTOMAN_CALLED", "meson")
+
+
+def as_called(text: str) -> str:
+    """Returns a message with the name by which the command was called, at its beginning and after backquotes."""
+    begin = CALLED + text[len("meson"):] if text.startswith(("meson ", "meson:")) else text
+    return begin.replace("`meson ", f"`{CALLED} ")
+
+
+def help_as_called(text: str) -> str:
+    """Returns a help text in which each command of `meson` has the name by which it was called."""
+    import re
+    return re.sub(r"(?<![\w./-])meson (?=[a-z])", CALLED + " ", text)
 
 
 class Stop(Exception):
-    """Ends the script and says why, if there is something to be said; without a status it is the one that `run_script` was given."""
+    """Ends the script, and says why unless the text is empty. Without a status, that of `run_script` is used."""
 
     def __init__(self, why: str, status: int | None = None) -> None:
         super().__init__(why)
@@ -23,19 +42,19 @@ class Stop(Exception):
 
 
 def one_line(text: str) -> str:
-    """A text in which what would not be shown as itself, as the end of a line, is written as an escape."""
+    """Returns a text with escapes in place of characters that are not shown as themselves, as the end of a line."""
     return "".join(it if it.isprintable() else it.encode("unicode_escape").decode() for it in text)
 
 
 def let_go(number: int) -> None:
-    """What a stream could not take is forgotten, so that the interpreter doesn't try it once more at its end."""
+    """Drops what a stream could not take, so that the interpreter doesn't try again when it ends."""
     os.dup2(os.open(os.devnull, os.O_WRONLY), number)
 
 
 def say(script: str, why: str) -> None:
-    """One line of the standard error; where that can't be written, there is nobody to be told."""
+    """Prints one line on the standard error. If that can't be written, nobody can read it."""
     try:
-        print(f"{script}: {one_line(why)}", file=sys.stderr, flush=True)
+        print(as_called(f"{script}: {one_line(why)}"), file=sys.stderr, flush=True)
     except OSError:
         let_go(2)
 
@@ -59,24 +78,6 @@ def show(text: str = "") -> None:
     write((text + "\n").encode(sys.stdout.encoding, "backslashreplace"))
 
 
-class Parser(argparse.ArgumentParser):
-    """Reads the words of a script; a bad one is told in one line."""
-
-    def __init__(self, script: str, text: str, status: int) -> None:
-        super().__init__(prog=script, description=text, formatter_class=argparse.RawDescriptionHelpFormatter)
-        self.status = status
-
-    def add_folder(self) -> None:
-        self.add_argument("-C", dest="folder", metavar="BUILDDIR", default=".",
-                          help="the folder that `meson setup` configured (default: the present one)")
-
-    def error(self, message: str) -> NoReturn:
-        raise Stop(f"{message} (--help says more)", self.status)
-
-    def print_help(self, file: object = None) -> None:
-        show(self.format_help().removesuffix("\n"))
-
-
 def take_closed_streams() -> None:
     """Gives each closed standard stream its number back, so that no other file gets it; a write to such a one fails."""
     for number, name in enumerate(("stdin", "stdout", "stderr")):
@@ -89,9 +90,6 @@ def take_closed_streams() -> None:
                 os.close(taken)
             os.set_inheritable(number, True)
             setattr(sys, name, open(number, "w" if number else "r", encoding="utf-8", errors="backslashreplace", closefd=False))
-
-
-SIGNALS = (signal.SIGINT, signal.SIGTERM, signal.SIGHUP)
 
 
 def let_pass(number: int, frame: FrameType | None) -> None:
@@ -134,5 +132,8 @@ def run_script(script: str, main: Callable[[], int], failed: int) -> NoReturn:
         status = failed
     except MemoryError:
         say(script, "out of memory")
+        status = failed
+    except RecursionError:
+        say(script, "what it was given is nested too deeply")
         status = failed
     sys.exit(status)

@@ -1,28 +1,49 @@
-"""Files that are read and logs that are made: each is a file, and no link, pipe or device in the place of one is followed or waited for."""
+"""Files that are read and logs that are made: no pipe or device in the place of a file is waited for or read to its end."""
+from __future__ import annotations
+
 import errno
 import os
 import stat
-from typing import BinaryIO
 
 from tools.ending import Stop
 
+TYPE_CHECKING = False
+if TYPE_CHECKING:
+    from typing import BinaryIO
+
+# Bytes of a file that is read: of a definition file as many as the program takes, of any other file more than it writes.
+DEFINITION, MOST_BYTES = 1 << 24, 1 << 30
 LOGS = "meson-logs"
 FOLDER = os.O_PATH | os.O_DIRECTORY | os.O_CLOEXEC
 
 
-def read_text(path: str) -> str:
-    """The text of a file. Whatever stands against it is an OSError that says so."""
+def open_file(path: str) -> BinaryIO:
+    """Opens a file to be read. Whatever stands against it is an OSError that says so."""
     try:
         number = os.open(path, os.O_RDONLY | os.O_NONBLOCK | os.O_CLOEXEC)
     except ValueError as error:  # a name that has a NUL
         raise OSError(errno.EINVAL, "a file can't have this name", path) from error
-    with open(number, "rb") as it:
-        kind = os.fstat(number).st_mode
-        if stat.S_ISDIR(kind):
-            raise OSError(errno.EISDIR, os.strerror(errno.EISDIR), path)
-        if not stat.S_ISREG(kind):
-            raise OSError(errno.EINVAL, "is no file, but a pipe or a device", path)
-        data = it.read()
+    kind = os.fstat(number).st_mode
+    if stat.S_ISREG(kind):
+        return open(number, "rb")
+    os.close(number)
+    if stat.S_ISDIR(kind):
+        raise OSError(errno.EISDIR, os.strerror(errno.EISDIR), path)
+    raise OSError(errno.EINVAL, "is no file, but a pipe or a device", path)
+
+
+def read_bytes(path: str, most: int = MOST_BYTES) -> bytes:
+    """Returns the bytes of a file that has no more than `most`."""
+    with open_file(path) as it:
+        data = it.read(most + 1)
+    if len(data) > most:
+        raise OSError(errno.EFBIG, f"has more than {most:,} bytes", path)
+    return data
+
+
+def read_text(path: str, most: int = MOST_BYTES) -> str:
+    """Returns the text of a file, as `read_bytes` its bytes."""
+    data = read_bytes(path, most)
     try:
         return data.decode()
     except UnicodeDecodeError as error:
@@ -34,7 +55,7 @@ def log_path(folder: str, name: str) -> str:
 
 
 def new_log(folder: str, name: str) -> BinaryIO:
-    """A log of a build folder, made new: what stood in its place is removed, and a link in the place of its folder is refused."""
+    """Returns a new log of a build folder. An old one is removed, and a link in place of its folder is refused."""
     opened = [os.open(folder, FOLDER)]
     try:
         try:
@@ -55,3 +76,13 @@ def new_log(folder: str, name: str) -> BinaryIO:
     finally:
         for number in opened:
             os.close(number)
+
+
+def unnamed_file(folder: str) -> BinaryIO:
+    """A file of this folder that has no name there, to be written and read."""
+    try:
+        return open(os.open(folder, os.O_TMPFILE | os.O_RDWR | os.O_CLOEXEC, 0o600), "w+b")
+    except OSError:
+        # A file system that has no such files.
+        import tempfile
+        return tempfile.TemporaryFile(dir=folder)

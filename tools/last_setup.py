@@ -1,76 +1,101 @@
-"""The words of the last `meson setup` of a folder, which `meson compile` gives to the program again.
+"""The arguments of the last `meson setup` of a folder, with which other commands configure it again.
 
-They stand in BUILDDIR/meson-private/words.json as they were given, with the folder of the sources, where the program was run: the paths
-among them are relative to it.
+BUILDDIR/meson-private/words has them, after the name of its form and the source directory, to which paths are relative. Each ends with a
+zero byte and a line end. The command `meson` writes this file, and reads it if no argument has a line end. These scripts have the command
+read it too, so that a folder is configured in one place.
 """
-import dataclasses
-import json
+from __future__ import annotations
+
 import os
-import time
+from collections.abc import Iterator
 
-from tools.ending import Stop
+from tools.document import NO_NAME
+from tools.ending import CALLED, Stop
 from tools.files import read_text
-from tools.root import Outside, Root, write_file
+from tools.ninja import call
 
-PLACE = "meson-private/words.json"
+PLACE = "meson-private/words"
+FORMS = ("words-1", "words-of-lines-1")
+MESON = os.path.join(os.path.dirname(os.path.dirname(os.path.realpath(__file__))), "meson")
 
 
-@dataclasses.dataclass(frozen=True)
 class Setup:
-    """The folder of the sources, and the words behind `meson setup`."""
-    sources: str
-    words: list[str]
+    """The source directory, and the arguments of `meson setup`."""
+
+    def __init__(self, sources: str, words: list[str]) -> None:
+        self.sources, self.words = sources, words
+
+
+def cut(words: list[str]) -> Iterator[tuple[str, str]]:
+    """Yields the arguments of a `setup` as the program reads them: each option with its value, and each folder with an empty name."""
+    waiting = iter(words)
+    for word in waiting:
+        name, sign, value = word.partition("=")
+        if word == "--":
+            yield from (("", it) for it in list(waiting)[:1])
+        elif word.startswith("-h") or word == "--help":
+            yield "--help", ""
+        elif word in ("-D", "--native-file"):
+            yield from ((word, it) for it in [next(waiting, None)] if it is not None)
+        elif word.startswith("-D"):
+            yield "-D", word[2:].removeprefix("=")
+        elif name == "--native-file" and sign:
+            yield name, value
+        elif word == "-" or not word.startswith("-"):
+            yield "", word
 
 
 def build_folder_of(words: list[str]) -> str | None:
-    """BUILDDIR among the words of a `setup` that ended with 0; none where they ask for help. They are cut as the program cuts them."""
-    folder, waiting = None, iter(words)
-    for word in waiting:
-        if word == "--":
-            return next(waiting, folder)
-        if word.startswith("-h") or word == "--help":
+    """Returns BUILDDIR among the arguments of a `setup` that succeeded; none if they ask for help."""
+    folder = None
+    for name, value in cut(words):
+        if name == "--help":
             return None
-        if word in ("-D", "--native-file"):
-            next(waiting, None)
-        elif word == "-" or not word.startswith("-"):
-            folder = word
+        folder = value if name == "" else folder
     return folder
 
 
-def keep(folder: str, words: list[str]) -> None:
-    """Writes the words of a `setup` that was run in the present folder."""
-    try:
-        text = json.dumps({"sources": os.getcwd(), "words": words}, indent=1) + "\n"
-        now = time.time_ns()
-        Root(folder).put("/" + PLACE, write_file(text.encode(), 0o644, (now, now)))
-    except (Outside, OSError) as error:
-        why = error.strerror if isinstance(error, OSError) else str(error)
-        raise Stop(f"{os.path.join(folder, PLACE)}: {why}; `meson compile` can't have the words of this setup") from error
+def machine_path(words: list[str]) -> str | None:
+    """Returns the path of the machine file among the arguments."""
+    return next((value for name, value in reversed(list(cut(words))) if name == "--native-file"), None)
+
+
+def settings_of(words: list[str]) -> list[str]:
+    """Returns the value of each `-D` among the arguments, as `name=value`."""
+    return [value for name, value in cut(words) if name == "-D"]
+
+
+def is_pipe(path: str) -> bool:
+    """Whether a machine file was a pipe or a device when it was read, so that it can't be read again."""
+    return path.startswith(("/dev/", "/proc/")) or os.path.exists(path) and not os.path.isfile(path)
+
+
+def has_words(folder: str) -> bool:
+    return os.path.lexists(os.path.join(folder, PLACE))
 
 
 def read_setup(folder: str) -> Setup:
-    """What was kept for a folder that is still where it was configured."""
+    """Returns what was saved for a folder. Stops if the folder was moved."""
     path = os.path.join(folder, PLACE)
     try:
-        content = json.loads(read_text(path))
-        known = content["sources"], content["words"]
+        fields = read_text(path).split("\0\n")
     except FileNotFoundError as error:
         is_configured = os.path.exists(os.path.join(folder, "meson-info"))
         why = "has no words of a `meson setup`: run that once more" if is_configured else "is no configured folder: `meson setup` makes one"
         raise Stop(f"{folder}: {why} ({path}: {error.strerror})") from error
     except OSError as error:
         raise Stop(f"{path}: {error.strerror}") from error
-    except (ValueError, RecursionError, KeyError, TypeError):
-        known = None
-    if known is None or not isinstance(known[0], str) or not isinstance(known[1], list) or not all(isinstance(it, str) for it in known[1]):
+    has_form = len(fields) > 3 and fields[0] in FORMS and fields[-1] == "" and not any(map(NO_NAME.search, fields))
+    # The command writes a whole path; any other came with the sources.
+    if not has_form or not os.path.isabs(fields[1]):
         raise Stop(f"{path}: doesn't have the words of a `meson setup`: run that once more")
-    setup = Setup(*known)
+    setup = Setup(fields[1], fields[2:-1])
     check_place(folder, setup)
     return setup
 
 
 def check_place(folder: str, setup: Setup) -> None:
-    """Refuses where the words name another folder than the one that they were found in."""
+    """Stops if the arguments name another folder than the one they are in."""
     configured = os.path.join(setup.sources, build_folder_of(setup.words) or "")
     try:
         is_same = os.path.samefile(folder, configured)
@@ -78,3 +103,39 @@ def check_place(folder: str, setup: Setup) -> None:
         is_same = False
     if not is_same:
         raise Stop(f"{folder}: was configured as {configured}: run `meson setup` once more where it is now")
+
+
+def configure_again(folder: str, otherwise: str, failed: int | None = None, shows_log: bool = True) -> None:
+    """Runs `meson setup` with the saved arguments. Stops if that fails; `otherwise` says what is not done then."""
+    setup = read_setup(folder)
+    machine = machine_path(setup.words)
+    if machine is not None and is_pipe(os.path.join(setup.sources, machine)):
+        raise Stop(f"{folder}: its machine file was {machine}, which can't be read again: run `meson setup` once more, with a file", failed)
+    words, how = [MESON, ":again", folder], {}
+    if "\n" in "".join([setup.sources, *setup.words]):
+        words, how = [MESON, "setup", *setup.words], {"cwd": setup.sources}
+    status = call(words, {**os.environ, "HAWKOTTOMAN_CALLED": CALLED}, shows_log, **how)
+    if status != 0:
+        raise Stop(f"`meson setup` ended with status {status}, so {otherwise}", failed or (status if status > 0 else 1))
+
+
+def check_is_new(folder: str, files: dict[str, list[str]], option: str = "--no-rebuild") -> None:
+    """Stops if what a folder was configured from has changed since, and an option forbids to configure it again.
+
+    These are the files of the document, and the machine file.
+    """
+    setup, path = read_setup(folder), os.path.join(folder, PLACE)
+    kept = os.stat(path).st_mtime_ns
+    machine = machine_path(setup.words)
+    changed = [it for it in [*files["present"], *filter(None, [machine])] if is_newer(os.path.join(setup.sources, it), kept)]
+    changed += [it for it in files["absent"] if os.path.lexists(os.path.join(setup.sources, it))]
+    if changed:
+        raise Stop(f"{changed[0]} has changed since {folder} was configured; without {option} that is done first")
+
+
+def is_newer(path: str, than: int) -> bool:
+    """Returns whether a file has changed since this time, or is gone."""
+    try:
+        return os.stat(path).st_mtime_ns > than
+    except OSError:
+        return True

@@ -3,7 +3,9 @@ import os
 
 
 def linked_copy(root: str, folder: str, changed: dict[str, str]) -> None:
-    """Makes the folder; `changed` says of each path that is another file which text it has."""
+    """Makes the folder; `changed` says of each path that is another file which text it has. No path leads out of the folder."""
+    if any(os.path.isabs(path) or ".." in path.split("/") for path in changed):
+        raise ValueError("a path leads out of the folder")
     copied = {""}
     for path in changed:
         while path:

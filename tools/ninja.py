@@ -1,30 +1,40 @@
 """Has Ninja build outputs of a configured folder.
 
-What is wanted is said in a build file beside the folder's own, and not on the command line: there `-n` is an option and `x^` is another
-target than the output of that name.
+A build file that includes the folder's own names the outputs. On the command line `-n` would be an option, and `x^` another target than the
+output of that name.
 """
+from __future__ import annotations
+
 import os
 import re
-import shutil
-import subprocess
-import tempfile
+import signal
 
+from tools.document import refuse_own_names
 from tools.ending import Stop
 from tools.files import read_text
-from tools.variables import words_of
 
 # No output of `meson setup` has this name: it refuses a `#`.
 WANTED = "wanted#"
 NO_PATH = re.compile(r"[\x00-\x1f\x7f|]")
+# What a shell would not take as part of one word.
+NO_WORD = re.compile(r"[^\w./+-]", re.A)
+
+
+def is_on_path(name: str) -> bool:
+    folders = os.environ.get("PATH", os.defpath).split(os.pathsep)
+    return any(os.access(path, os.X_OK) and os.path.isfile(path) for path in (os.path.join(it or ".", name) for it in folders))
 
 
 def find_ninja() -> list[str]:
     """The words of the command; the variable NINJA names another."""
-    named = words_of("NINJA")
-    found = next(filter(shutil.which, ("ninja", "ninja-build", "samu")), None)
-    if not named and not found:
+    named = os.environ.get("NINJA", "")
+    if NO_WORD.search(named):
+        from tools.variables import words_of
+        return words_of("NINJA")
+    found = named or next(filter(is_on_path, ("ninja", "ninja-build", "samu")), None)
+    if not found:
         raise Stop("there is no ninja on PATH (Debian's package ninja-build has it)")
-    return named or [found]
+    return [found]
 
 
 def escaped(path: str) -> str:
@@ -34,14 +44,28 @@ def escaped(path: str) -> str:
     return re.sub(r"[$ :]", r"$\g<0>", path)
 
 
-def call(words: list[str], folder: str | None = None) -> int:
+def plain(path: str) -> str:
+    """A path of Ninja's files as it is."""
+    return re.sub(r"\$(.)", r"\1", path)
+
+
+def paths_in(text: str) -> list[str]:
+    """The paths that stand in a line of Ninja's files."""
+    return list(map(plain, re.findall(r"(?:[^$ ]|\$.)+", text)))
+
+
+def call(words: list[str], env: dict[str, str] | None = None, shows_output: bool = True, cwd: str | None = None) -> int:
     """The status of a command, which is asked to end where this script is."""
-    process = subprocess.Popen(words, cwd=folder)
+    before = [] if shows_output else [(os.POSIX_SPAWN_OPEN, 1, os.devnull, os.O_WRONLY, 0)]
+    if cwd is not None:
+        words = ["env", "-C", cwd, *words]
+    # The interpreter ignores these two, and a command would too.
+    number = os.posix_spawnp(words[0], words, env or os.environ, file_actions=before, setsigdef=(signal.SIGPIPE, signal.SIGXFSZ))
     try:
-        return process.wait()
+        return os.waitstatus_to_exitcode(os.waitpid(number, 0)[1])
     except BaseException:
-        process.terminate()
-        process.wait()
+        os.kill(number, signal.SIGTERM)
+        os.waitpid(number, 0)
         raise
 
 
@@ -49,22 +73,25 @@ def with_links(folder: str, outputs: list[str]) -> list[str]:
     """Outputs of a folder, and the names of those that are shared libraries, which are links to them."""
     text = read_text(os.path.join(folder, "build.ninja"))
     edges = re.findall(r"^build ((?:[^$ :|\n]|\$.)+): symlink (.+)$", text, re.M)
-    plain = lambda path: re.sub(r"\$(.)", r"\1", path)
     wanted = set(outputs)
     return outputs + [plain(link) for link, output in edges if plain(output) in wanted]
 
 
 def build(folder: str, outputs: list[str], options: list[str], otherwise: str = "") -> None:
     """Builds these outputs; `all` is what is built by default. `otherwise` says what doesn't come where that fails."""
+    refuse_own_names(folder)
     ninja = find_ninja()
-    with tempfile.TemporaryDirectory() as scratch:
-        path = os.path.join(scratch, "wanted.ninja")
-        with open(path, "w", encoding="utf-8") as it:
-            names = "".join(" " + escaped(output) for output in outputs)
+    names = "".join(" " + escaped(output) for output in outputs)
+    # A file without a name, which Ninja reads by its number.
+    number = os.memfd_create("wanted.ninja", 0)
+    try:
+        with open(number, "w", encoding="utf-8", closefd=False) as it:
             it.write(f"include build.ninja\n\nbuild {WANTED}: phony{names}\n")
         try:
-            status = call([*ninja, "-C", folder, "-f", path, *options, WANTED])
+            status = call([*ninja, "-C", folder, "-f", f"/proc/self/fd/{number}", *options, WANTED])
         except OSError as error:
             raise Stop(f"{ninja[0]}: {error.strerror}") from error
+    finally:
+        os.close(number)
     if status != 0:
         raise Stop("the build failed" + (f", so {otherwise}" if otherwise else ""))

@@ -6,8 +6,8 @@ refused. So no place is reached by a path that could be changed behind the check
 """
 import errno
 import os
-import secrets
-from collections.abc import Callable
+import stat
+from collections.abc import Callable, Iterable
 
 FOLDER = os.O_PATH | os.O_DIRECTORY | os.O_CLOEXEC
 LINKS = 40  # that one way may lead over, as the system has it
@@ -47,12 +47,21 @@ class Root:
         """Raises Outside where a file could not be put there without leaving the root; makes nothing."""
         close(self.descend(parts_of(destination)[:-1], makes=False))
 
+    def make_folder(self, destination: str) -> None:
+        """Has a folder made, with those above it; one that is there stays as it is."""
+        os.makedirs(self.path, exist_ok=True)
+        opened = self.descend(parts_of(destination), makes=True)
+        is_there = opened[-1] is not None
+        close(opened)
+        if not is_there:
+            raise FileNotFoundError(errno.ENOENT, os.strerror(errno.ENOENT))
+
     def put(self, destination: str, make: Callable[[int, str], None]) -> None:
         """Has a file made beside its place, by the folder's number and a name, and renames it there."""
         *folders, name = parts_of(destination)
         os.makedirs(self.path, exist_ok=True)
         opened = self.descend(folders, makes=True)
-        beside = f".install-{secrets.token_hex(8)}"
+        beside = f".install-{os.urandom(8).hex()}"
         try:
             if opened[-1] is None:
                 raise FileNotFoundError(errno.ENOENT, os.strerror(errno.ENOENT))
@@ -62,6 +71,49 @@ class Root:
             except BaseException:
                 remove(opened[-1], beside)
                 raise
+        finally:
+            close(opened)
+
+    def read(self, destination: str) -> bytes | None:
+        """The bytes of a file that is no link, reached without leaving the root; none where it is not there."""
+        *folders, name = parts_of(destination)
+        opened = self.descend(folders, makes=False)
+        try:
+            if opened[-1] is None:
+                return None
+            with open(os.open(name, os.O_RDONLY | os.O_NOFOLLOW | os.O_NONBLOCK | os.O_CLOEXEC, dir_fd=opened[-1]), "rb") as it:
+                return it.read()
+        except FileNotFoundError:
+            return None
+        finally:
+            close(opened)
+
+    def set_executable(self, destination: str, is_executable: bool) -> None:
+        """Makes a file executable for all, or for nobody, reached without leaving the root; one that is a link or not there stays so."""
+        *folders, name = parts_of(destination)
+        opened = self.descend(folders, makes=False)
+        try:
+            if opened[-1] is None:
+                return
+            number = os.open(name, os.O_RDONLY | os.O_NOFOLLOW | os.O_NONBLOCK | os.O_CLOEXEC, dir_fd=opened[-1])
+            try:
+                mode = os.fstat(number).st_mode
+                if stat.S_ISREG(mode):
+                    os.fchmod(number, stat.S_IMODE(mode) | 0o111 if is_executable else stat.S_IMODE(mode) & ~0o111)
+            finally:
+                os.close(number)
+        except FileNotFoundError:
+            pass
+        finally:
+            close(opened)
+
+    def remove(self, destination: str) -> None:
+        """Removes a file, reached without leaving the root."""
+        *folders, name = parts_of(destination)
+        opened = self.descend(folders, makes=False)
+        try:
+            if opened[-1] is not None:
+                remove(opened[-1], name)
         finally:
             close(opened)
 
@@ -152,9 +204,14 @@ def remove(folder: int, name: str) -> None:
 
 def write_file(data: bytes | bytearray, mode: int, times: tuple[int, int]) -> Callable[[int, str], None]:
     """What makes a file with these bytes, mode and times (in nanoseconds)."""
+    return write_pieces([data], mode, times)
+
+
+def write_pieces(pieces: Iterable[bytes | bytearray], mode: int, times: tuple[int, int]) -> Callable[[int, str], None]:
+    """The same of bytes that come piece by piece, once."""
     def make(folder: int, name: str) -> None:
         with open(os.open(name, NEW_FILE, 0o600, dir_fd=folder), "wb") as it:
-            it.write(data)
+            it.writelines(pieces)
             it.flush()
             os.fchmod(it.fileno(), mode)
             os.utime(it.fileno(), ns=times)

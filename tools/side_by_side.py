@@ -1,28 +1,59 @@
 """Work that is done side by side, and ended where the script is."""
-import concurrent.futures
+from __future__ import annotations
+
+import os
+import threading
 from collections.abc import Callable
-from typing import Any
+
+TYPE_CHECKING = False
+if TYPE_CHECKING:
+    from typing import Any
+
+
+class Lanes:
+    """Threads that take items one by one, until one of them fails."""
+
+    def __init__(self, work: Callable[[Any], Any], items: list[Any], end: Callable[[], None]) -> None:
+        self.work, self.items, self.end = work, items, end
+        self.came: list[Any] = [None] * len(items)
+        self.waiting, self.lock = list(range(len(items)))[::-1], threading.Lock()
+        self.fault: BaseException | None = None
+
+    def next_number(self) -> int | None:
+        with self.lock:
+            return self.waiting.pop() if self.waiting and self.fault is None else None
+
+    def run(self) -> None:
+        while (number := self.next_number()) is not None:
+            try:
+                self.came[number] = self.work(self.items[number])
+            except BaseException as fault:
+                self.stop(fault)
+
+    def stop(self, fault: BaseException) -> None:
+        """Begins no more, and ends what is at work; the first fault counts."""
+        with self.lock:
+            self.fault = self.fault or fault
+        self.end()
 
 
 def side_by_side(work: Callable[[Any], Any], items: list[Any], jobs: int | None, end: Callable[[], None]) -> list[Any]:
     """What comes of work on each item. Where one fails, or the script is interrupted, `end` ends what is at work, and no more is begun."""
-    def guarded(item: Any) -> Any:
-        try:
-            return work(item)
-        except BaseException:
-            end()
-            raise
-
-    with concurrent.futures.ThreadPoolExecutor(jobs) as pool:
-        try:
-            begun = [pool.submit(guarded, it) for it in items]
-            for it in begun:
-                # In short spells: where two signals come at once another thread may take both, and this one would sleep on.
-                while not it.done():
-                    concurrent.futures.wait([it], timeout=0.5)
-                it.result()
-            return [it.result() for it in begun]
-        except BaseException:
-            end()
-            pool.shutdown(wait=False, cancel_futures=True)
-            raise
+    lanes, begun = Lanes(work, items, end), []
+    try:
+        for _ in range(min(jobs or (os.cpu_count() or 1) + 4, len(items))):
+            begun.append(threading.Thread(target=lanes.run))
+            begun[-1].start()
+        # In short spells: where two signals come at once another thread may take both, and this one would sleep on.
+        for it in begun:
+            while it.is_alive():
+                it.join(0.5)
+    except BaseException as fault:
+        lanes.stop(fault)
+        for it in begun:
+            if it.ident is not None:
+                it.join()
+        raise
+    if lanes.fault is not None:
+        raise lanes.fault
+    return lanes.came

@@ -1,12 +1,14 @@
 """Variables of the environment that name commands and their words."""
 import os
-import shlex
 
 from tools.ending import Stop
 
 
 def words_in(text: str, named: str) -> list[str]:
     """The words of a text as a shell cuts them."""
+    if not text:
+        return []
+    import shlex
     try:
         text.encode()
         return shlex.split(text)
@@ -14,6 +16,11 @@ def words_in(text: str, named: str) -> list[str]:
         raise Stop(f"{named}: not UTF-8: {text!r}") from None
     except ValueError as error:
         raise Stop(f"{named}: {error}: {text!r}") from error
+
+
+def pkg_config() -> list[str]:
+    """Returns the words of the command pkg-config."""
+    return words_of("PKG_CONFIG") or ["pkg-config"]
 
 
 def words_of(variable: str) -> list[str]:

@@ -1,14 +1,14 @@
 /* Stands before the C library of a program that is tested (LD_PRELOAD), and has one of its calls fail, or does them otherwise, as the
  * environment says:
  *
- *   FAULTS_KIND    which calls are numbered for FAULTS_AT: memory, device (each call on files, folders and streams), or late: a write
- *                  into a file that was made, which seems to succeed and is lost, so that the next fsync, fdatasync or close of that
- *                  file fails, as where a disk over a network or a quota tells only then what became of earlier writes
- *   FAULTS_AT      the number, from 1, of the call that fails once; the calls after it go on
+ *   FAULTS_KIND    which calls are numbered for FAULTS_AT: memory, device (each call on files, folders and streams), put: a write into
+ *                  a file that was made, or late: such a write that seems to succeed and is lost, so that the next fsync, fdatasync or
+ *                  close of that file fails, as where a disk over a network or a quota tells only then what became of earlier writes
+ *   FAULTS_AT      the number, from 1, of the call that fails once; the calls after it go on, but a put and all puts after it fail
  *   FAULTS_ERROR   the number of the error with which a call of a device fails; EIO where it is not set
  *   FAULTS_PIECE   the most bytes that one read or write moves
  *   FAULTS_SYNC    none: fsync and fdatasync do nothing; all: a file is synced before each rename of it
- *   FAULTS_COUNTS  a file of 24 bytes: how many calls of memory, of devices and late ones were made so far
+ *   FAULTS_COUNTS  a file of 32 bytes: how many calls of memory, of devices, late ones and writes were made so far
  *   FAULTS_TRACE   a file to which the paths are added that were looked at ('look PATH'), made ('make PATH'), synced ('sync PATH') and
  *                  renamed to ('end PATH'), the call that failed and the path that it is of ('fail NAME PATH'), each call of a device
  *                  that came after that ('after NAME PATH'), and the one that told of a write that was lost ('told NAME PATH')
@@ -34,7 +34,7 @@
 #include <sys/uio.h>
 #include <unistd.h>
 
-enum kind { MEMORY, DEVICE, LATE, KINDS };
+enum kind { MEMORY, DEVICE, LATE, PUT, KINDS };
 
 enum sync { AS_ASKED, NONE, ALL };
 
@@ -71,7 +71,11 @@ static int is_word(const char *name, const char *word)
 
 static enum kind kind_asked(void)
 {
-    return is_word("FAULTS_KIND", "memory") ? MEMORY : is_word("FAULTS_KIND", "late") ? LATE : DEVICE;
+    static const char *const words[KINDS] = {"memory", "device", "late", "put"};
+    for (enum kind kind = 0; kind < KINDS; kind++)
+        if (is_word("FAULTS_KIND", words[kind]))
+            return kind;
+    return DEVICE;
 }
 
 /* A file of this library, with a number that the program's files and streams don't come to, also where a stream is closed. */
@@ -131,7 +135,8 @@ static int is_to_fail(enum kind kind, const char *name, const char *path)
     if (has_failed && kind == DEVICE)
         tell_call("after", name, path);
     counts[kind]++;
-    if (counts[kind] != fails_at[kind])
+    int is_late_put = kind == PUT && fails_at[PUT] && counts[PUT] > fails_at[PUT];
+    if (counts[kind] != fails_at[kind] && !is_late_put)
         return 0;
     has_failed = 1;
     tell_call("fail", name, path);
@@ -332,6 +337,8 @@ ssize_t write(int fd, const void *buffer, size_t size)
     struct file *file = file_of(fd);
     size = size < piece ? size : piece;
     if (is_to_fail(DEVICE, __func__, path_of(fd)))
+        return -1;
+    if (file && file->is_made && size > 0 && is_to_fail(PUT, __func__, file->path))
         return -1;
     if (file && file->is_made && size > 0 && is_to_fail(LATE, __func__, file->path)) {
         file->is_lost = 1;

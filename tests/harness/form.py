@@ -21,10 +21,10 @@ DIRECTIVES = {
     "build": "line", "link": "line", "hardlink": "line", "fifo": "line", "socket": "line", "locked": "line", "closed": "line",
     "full": "line", "command": "either", "log": "either", "fault": "line", "status": "line", "complaint": "either", "out": "content",
     "no": "line", "edge": "content", "json": "line", "ok": "none", "cut": "line", "fail": "line", "pieces": "line", "looks": "line",
-    "stays": "line", "questions": "none", "asks": "either", "about": "line", "rows": "rows",
+    "stays": "line", "takes": "line", "order": "content", "questions": "none", "asks": "either", "about": "line", "rows": "rows",
 }
 
-EXPECTS = {"log", "fault", "status", "complaint", "out", "no", "edge", "json", "ok", "looks", "stays", "asks", "about"}
+EXPECTS = {"log", "fault", "status", "complaint", "out", "no", "edge", "json", "ok", "looks", "stays", "asks", "about", "order"}
 
 
 class FormError(Exception):

@@ -1,5 +1,6 @@
 """What a case must come to, and where what came differs."""
 import difflib
+import itertools
 import json
 import re
 
@@ -25,6 +26,9 @@ FAULT_LINE = re.compile(rb"[^\n]+:[0-9]+: ERROR: E([0-9]+) [^\n]*\n")
 
 DOCUMENT = "meson-info/introspect.json"
 
+# The events of a run: an output is begun, gets bytes and is ended; there are bytes of the log, and of a fault's line.
+EVENTS = ("open", "bytes", "close", "log", "fault")
+
 # What stands behind the name of an output that is begun and not ended: no output's name can have it, since '|' is refused there.
 UNENDED = "|new"
 
@@ -43,6 +47,8 @@ class Expected:
         self.edges, self.no_edges = [], []
         self.values = []
         self.looks = None
+        # The events in their order, each a word and its bytes, or none where it may have any.
+        self.order = None
         # Whether the run tells its questions; the texts of those behind the call of 'project', and of those of that call.
         self.tells, self.asked, self.asked_by_project = False, None, None
         # What 'fault' tells in the log of the run's fault, where the case says so.
@@ -63,9 +69,7 @@ class Expected:
         elif word == "ok":
             self.says = True
         elif word == "status":
-            self.status, self.says = int(text), True
-            if self.status in SAID and self.complaint is None:
-                self.complaint = SAID[self.status]
+            self.take_status(int(text))
         elif word in ("log", "complaint"):
             self.take_stream(word, text, line, out(content))
         elif word == "out":
@@ -76,15 +80,13 @@ class Expected:
             self.says = True
             self.edges.append((line, [it.strip() for it in out(content).split(b"\n") if it.strip()]))
         elif word == "json":
-            path, equals, value = text.partition(" = ")
-            if not equals:
-                raise FormError(f"'json {text}' has no ' = '")
-            self.says = True
-            self.values.append((path.strip(), json.loads(out(value))))
+            self.take_value(text, out)
         elif word in ("has", "lacks"):
             self.outputs.append(("build.ninja", word, line))
         elif word == "looks":
             self.looks = {out(it).decode() for it in text.split()}
+        elif word == "order":
+            self.take_order(content, out)
         elif word == "asks":
             self.take_questions(text, out(content).decode(), out)
         elif word == "about":
@@ -94,6 +96,18 @@ class Expected:
             self.stays += [out(it).decode() for it in text.split()]
         else:
             raise FormError(f"'{word}' says nothing of what comes")
+
+    def take_status(self, status):
+        self.status, self.says = status, True
+        if status in SAID and self.complaint is None:
+            self.complaint = SAID[status]
+
+    def take_value(self, text, out):
+        path, equals, value = text.partition(" = ")
+        if not equals:
+            raise FormError(f"'json {text}' has no ' = '")
+        self.says = True
+        self.values.append((path.strip(), json.loads(out(value))))
 
     def refuse(self, line):
         self.status, self.complaint, self.says = 1, line + b"\n", True
@@ -132,6 +146,26 @@ class Expected:
             path, how = text, "is"
         self.outputs.append((out(path).decode(), how, out(content)))
         self.says = True
+
+    def take_order(self, content, out):
+        """The events, one in a line; the log is that of its events."""
+        self.says, self.order = True, []
+        for line in content.splitlines():
+            word, _, text = line.partition(" ")
+            if word not in EVENTS:
+                raise FormError(f"'{line}' is no event: {', '.join(EVENTS)}")
+            self.order.append((word, out(text.replace("¶", "\n")) or None))
+        of_log = [text for word, text in self.order if word == "log"]
+        self.log = None if None in of_log else b"".join(of_log)
+
+    def order_differs(self, came):
+        """What differs of the order of the events, where the case says it and the run shows it."""
+        if self.order is None or came is None:
+            return []
+        pairs = itertools.zip_longest(self.order, came, fillvalue=("", b""))
+        # What may have any bytes has those that came.
+        wanted = [(word, of_came[1] if text is None and word else text or b"") for (word, text), of_came in pairs]
+        return differing("order", lines_of_events(wanted[: len(self.order)]), lines_of_events(came))
 
     def take_questions(self, text, content, out):
         """Questions behind the call of 'project', or with the word 'project' those of that call; several directives add up."""
@@ -177,6 +211,7 @@ class Expected:
         found += [f"there is an output {it}, and questions write none" for it in sorted(came.outputs) if self.tells]
         found += self.edges_differ(came.outputs.get("build.ninja", b""))
         found += self.values_differ(came.outputs.get(DOCUMENT))
+        found += self.order_differs(came.order)
         if self.looks is not None and came.looks is not None and self.looks != came.looks:
             found.append(f"looked at: {sorted(self.looks)} must come, and {sorted(came.looks)} came")
         return found
@@ -234,6 +269,11 @@ def shown(text):
     text = text.decode("utf-8", "backslashreplace")
     text = "".join(c if c.isprintable() or c == "\n" else f"«x {c.encode('utf-8', 'replace').hex(' ')}»" for c in text)
     return text if len(text) < 4000 else f"{text[:2000]}\n[..]\n{text[-1500:]}"
+
+
+def lines_of_events(order: list) -> bytes:
+    """Events as a case writes them."""
+    return b"".join(word.encode() + b" " + text.replace(b"\n", "¶".encode()) + b"\n" for word, text in order)
 
 
 def parts_differ(name: str, has: list, lacks: list, came: bytes) -> list:

@@ -1,4 +1,4 @@
-"""Runs a case in a folder of its own, and the same case cut, over fewer files, in pieces, and with each call failing once."""
+"""Runs a case in memory or in a folder of its own, and the same case cut, over fewer files, in pieces, and with each call failing once."""
 import dataclasses
 import json
 import os
@@ -7,8 +7,10 @@ import struct
 import subprocess
 import tempfile
 
-from form import FormError, written_out
-from judge import DOCUMENT, FAULT_LINE, SAID, UNENDED, Expected, differing, filled, result_parts, row_place, shown
+from form import FormError
+from given import KINDS, OVER_OLD, Came, Given
+from in_memory import Memory
+from judge import DOCUMENT, FAULT_LINE, SAID, UNENDED, differing, shown
 from over_old import each_fails_over_old
 from places import changes, kind_of, locked, make_thing, pipe_of, states_below, stream_changer
 
@@ -18,126 +20,32 @@ MOST_SECONDS = 60
 # The most calls of one kind of which each is made to fail.
 MOST_CALLS = 20_000
 
-# The directives that ask for further runs.
-MODES = {"cut", "fail", "pieces"}
-
-# The kinds of calls that fail, in the order of their counts, and those that fail where a case says no more.
-KINDS = ("memory", "device", "late")
+# The kinds of calls that fail where a case says no more.
 USUAL_KINDS = ("memory", "device")
 
-# How a directive 'fail' ends whose runs are over old outputs.
-OVER_OLD = " over old outputs"
+# The groups whose cases show the disk, the command line and whole runs of the program: they run by it too. So does each of so many others.
+OF_PROGRAM = ("command_line", "devices", "first_path")
+SAMPLE = 25
+
+# The ways in which a case is run.
+LIBRARY, PROGRAM = "through the library", "by the program"
 
 
-@dataclasses.dataclass
-class Came:
-    """What came of a run: its status, what it said, its outputs by their names, and what it looked at, where that was traced."""
+@dataclasses.dataclass(frozen=True)
+class Means:
+    """By what cases are run: the program, the library of harness/faults.c, and whether the library of the checkout runs what it can."""
 
-    status: int
-    log: bytes
-    complaint: bytes
-    outputs: dict
-    looks: set = None
-    # What is no file below the folder of the build, and what it is; what changed of what has to stay.
-    others: dict = dataclasses.field(default_factory=dict)
-    changes: list = dataclasses.field(default_factory=list)
-    # The outputs that were begun, in their order; the call that failed, and whether a run may go on after that.
-    begun: tuple = ()
-    failed: str = ""
-    may_go_on: bool = False
-    # The calls of devices that came after it, each with its path.
-    after: tuple = ()
-    # How many calls of each kind were made.
-    counts: dict = dataclasses.field(default_factory=dict)
+    program: str
+    faults: str
+    has_library: bool
 
 
-class Room:
+class Room(Given):
     """A folder with the sources of one case, made anew for each run."""
 
     def __init__(self, case, folder, program, library):
+        super().__init__(case, os.path.join(folder, "s"))
         self.folder, self.program, self.library = folder, program, library
-        self.root = os.path.join(folder, "s")
-        self.names = {"root": self.root}
-        self.files, self.folders, self.words, self.command = {}, [], [], None
-        self.machine, self.build, self.inside, self.task = None, "build", "", b"setup"
-        # What is no plain file: of each its kind, its path and what it leads to. Streams by their numbers; the folder that is locked.
-        self.things, self.streams, self.locked, self.is_piped = [], {"closed": [], "full": []}, None, False
-        self.expected = Expected()
-        where = row_place(case.items, case.columns, self.names) if case.columns else None
-        for it in case.items:
-            self.take(it, filled(it.text, case.columns), filled(it.content, case.columns), where)
-        for word, text in result_parts(case) if case.columns else ():
-            self.expected.take(word, text, "", self.names, where)
-        self.expect_of_streams()
-        if not self.expected.says and not case.columns:
-            raise FormError("it does not say what must come: 'ok', a fault, a status, a log or an output")
-
-    def take(self, item, text, content, where):
-        out = lambda text: written_out(text, self.names)
-        path = lambda text: os.fsdecode(out(text))
-        word = item.word
-        if word == "L2":
-            self.files["meson.build"] = b"project('p','c')\n" + out(content)
-        elif word == "file":
-            self.take_file(text, content)
-        elif word == "files":
-            self.files.update((path(it), b"") for it in text.split())
-        elif word == "folder":
-            self.folders.append(path(text))
-        elif word == "in":
-            self.inside = path(text)
-            self.folders.append(self.inside)
-        elif word == "machine":
-            if text not in ("", "through a pipe"):
-                raise FormError(f"'machine {text}' is 'machine' or 'machine through a pipe'")
-            self.machine, self.is_piped = out(content), bool(text)
-        elif word in ("link", "hardlink"):
-            place, to, target = text.partition(" to ")
-            if not to:
-                raise FormError(f"'{word} {text}' has no ' to '")
-            self.things.append((word, path(place), path(target)))
-        elif word in ("fifo", "socket"):
-            self.things += [(word, path(it), "") for it in text.split()]
-        elif word in self.streams:
-            self.streams[word] += [int(it) for it in text.split()]
-        elif word == "locked":
-            self.locked = path(text)
-        elif word == "word":
-            self.words.append(b"-D" + out(text.replace("¶", "\n")))
-        elif word == "build":
-            self.build = path(text)
-        elif word == "command":
-            self.command = out(content).split(b"\n")[:-1] if content else out(text).split()
-        elif word == "questions":
-            self.task, self.expected.tells, self.expected.log = b"questions", True, None
-        elif word == "fail":
-            self.check_fail(text)
-        elif word not in MODES:
-            self.expected.take(word, text, content, self.names, where)
-
-    def expect_of_streams(self) -> None:
-        """Nothing comes of a stream that is closed or full."""
-        shut = self.streams["closed"] + self.streams["full"]
-        if 1 in shut:
-            self.expected.log, self.expected.log_parts = b"", []
-        if 2 in shut:
-            self.expected.complaint, self.expected.complaint_parts = b"", []
-
-    @staticmethod
-    def check_fail(text: str) -> None:
-        kinds = (" " + text).partition(" begun ")[0].removesuffix(OVER_OLD).split()
-        if not set(kinds) <= set(KINDS) or ("late" in kinds and not text.endswith(OVER_OLD)):
-            raise FormError(f"'fail {text}' names kinds of {KINDS}, and 'late' ones over old outputs alone")
-
-    def take_file(self, text, content):
-        path, _, span = text.partition(" for i in ")
-        numbers = [{}]
-        if span:
-            first, _, last = span.partition("..")
-            numbers = [{"i": it} for it in range(int(first), int(last) + 1)]
-        for it in numbers:
-            names = {**self.names, **it}
-            self.files[os.fsdecode(written_out(path, names))] = written_out(content, names)
 
     def line(self, pipe=()):
         """The words of the command line; a machine file that comes through a pipe has that pipe's number."""
@@ -171,6 +79,8 @@ class Room:
     def run(self, files=None, traced=False, **faults):
         """Runs the program over the case's files, or over these; 'faults' are what faults.c is to do."""
         self.fill(self.files if files is None else files)
+        if self.taken is not None:
+            faults = {"piece": 1, "kind": "put", "at": self.taken + 1, **faults}
         return self.run_here(traced, **faults)
 
     def run_here(self, traced=False, **faults):
@@ -179,7 +89,7 @@ class Room:
         trace, counts = os.path.join(self.folder, "trace"), os.path.join(self.folder, "counts")
         if traced or faults:
             with open(trace, "wb"), open(counts, "wb") as file:
-                file.write(bytes(24))
+                file.write(bytes(8 * len(KINDS)))
             environment.update({f"FAULTS_{name.upper()}": str(value) for name, value in faults.items()})
             environment.update(LD_PRELOAD=self.library, FAULTS_TRACE=trace, FAULTS_COUNTS=counts)
         before = self.what_stays()
@@ -216,11 +126,6 @@ class Room:
                     others[name] = kind
         return found, None, others
 
-    def is_of_build(self, path):
-        """Whether a path is the folder of the build, one above it, or something below it."""
-        path, build = path + "/", os.path.normpath(self.build) + "/"
-        return path.startswith(build) or build.startswith(path)
-
     def read_trace(self, came, trace, counts):
         with open(trace, "rb") as file:
             lines = [line.partition(" ")[::2] for line in os.fsdecode(file.read()).split("\n") if line]
@@ -237,7 +142,8 @@ class Room:
             came.may_go_on = self.may_go_on(came.failed, path, came.begun)
             came.after = tuple(path for word, path in lines if word == "after")
         with open(counts, "rb") as file:
-            came.counts = dict(zip(KINDS, struct.unpack("=3Q", file.read(24))))
+            came.counts = dict(zip(KINDS, struct.unpack(f"={len(KINDS)}Q", file.read())))
+        came.order = order_of(came)
 
     def may_go_on(self, failed, path, begun):
         """Whether a run may end as if the call of this name on this path had not failed."""
@@ -279,33 +185,55 @@ def failing_parts(text, jobs):
             yield f"each call of {kind} fails{over}", kind + over + begun + output, share, shares
 
 
-def run_case(case, part, program, library):
-    """Runs a part of a case. The answer is its label and what differs: nothing where it is right."""
+def run_case(case, part, means, is_sampled):
+    """Runs a part of a case: through the library where memory has all of it, by the program where it has not, and both ways where the case
+    is of the sample. The answer is for each of these ways what differs: nothing where it is right."""
+    found = {}
+    memory = in_memory(case, part) if means.has_library else None
+    if memory is not None:
+        found[LIBRARY] = judged(part, lambda: memory)
+    if memory is None or (is_sampled and not part[0]):
+        with tempfile.TemporaryDirectory(prefix="c") as folder:
+            found[PROGRAM] = judged(part, lambda: Room(case, folder, means.program, means.faults))
+    return found
+
+
+def in_memory(case, part):
+    """The case in memory, or none where this part of it needs the disk."""
+    try:
+        memory = Memory(case) if not part[0] or part[0].startswith("cut") else None
+    except (FormError, ValueError):
+        # The run by the program says what is wrong.
+        return None
+    return memory if memory is not None and memory.is_whole() else None
+
+
+def judged(part, room_of):
+    """What differs of a part of a case, which is run in the room that is made."""
     label, text, share, shares = part
-    with tempfile.TemporaryDirectory(prefix="c") as folder:
-        try:
-            room = Room(case, folder, program, library)
-            if not label:
-                return label, as_it_is(room)
-            if label.startswith("cut"):
-                return label, cut(room, text, share, shares)
-            whole = room.run(traced=True)
-            if room.expected.differences(whole):
-                return label, ["the case itself is not right"]
-            if label.startswith("in"):
-                return label, in_pieces(room, whole, int(text))
-            failing = each_fails_over_old if text.endswith(OVER_OLD) else each_fails
-            return label, failing(room, whole, text.removesuffix(OVER_OLD), share, shares)
-        except (FormError, ValueError) as error:
-            return label, [f"the form of the case: {error}"]
-        except subprocess.TimeoutExpired:
-            return label, [f"the program has not ended within {MOST_SECONDS} seconds"]
-        except OSError as error:
-            return label, [f"it can't be run: {error}"]
+    try:
+        room = room_of()
+        if not label:
+            return as_it_is(room)
+        if label.startswith("cut"):
+            return cut(room, text, share, shares)
+        whole = room.run(traced=True)
+        if room.expected.differences(whole):
+            return ["the case itself is not right"]
+        if label.startswith("in"):
+            return in_pieces(room, whole, int(text))
+        failing = each_fails_over_old if text.endswith(OVER_OLD) else each_fails
+        return failing(room, whole, text.removesuffix(OVER_OLD), share, shares)
+    except (FormError, ValueError) as error:
+        return [f"the form of the case: {error}"]
+    except subprocess.TimeoutExpired:
+        return [f"the program has not ended within {MOST_SECONDS} seconds"]
+    except (OSError, MemoryError) as error:
+        return [f"it can't be run: {error}"]
 
 
 def as_it_is(room):
-    came = room.run(traced=room.expected.looks is not None)
+    came = room.run(traced=room.expected.looks is not None or room.expected.order is not None)
     found = room.expected.differences(came)
     if not found and came.status == 0 and DOCUMENT in came.outputs:
         found = over_present(room, came)
@@ -344,7 +272,7 @@ def over_present(room, whole):
     if (came.status, came.log, came.complaint, came.outputs) != (whole.status, whole.log, whole.complaint, whole.outputs):
         over = f"over the files that are listed as present, {files['present']}"
         found.append(f"{over}, another run came: status {came.status}, and it said\n{shown(came.complaint)}")
-    more = sorted(came.looks - {*files["present"], *files["absent"]})
+    more = sorted((came.looks or set()) - {*files["present"], *files["absent"]})
     return found + ([f"looked at, and not listed: {more}"] if more else [])
 
 
@@ -395,6 +323,18 @@ def is_of_the_end(call):
     """Whether a call, which is told with its path, may come after one that failed: what was taken before is written, the end is told, and
     files are closed. Nothing is looked at, read, made, synced or renamed any more."""
     return call.partition(" ")[0] in ("write", "close")
+
+
+def order_of(came):
+    """The events of a run on a disk in their order: outputs as they were begun, then the fault. What the log stands between isn't seen."""
+    if came.log:
+        return None
+    order = []
+    for name in came.begun:
+        text = came.outputs.get(name, came.outputs.get(name + UNENDED, b""))
+        order += [("open", name.encode()), *[("bytes", text)][: len(text)], *[("close", name.encode())][: name in came.outputs]]
+    fault = came.complaint.removesuffix(SAID.get(came.status, b""))
+    return order + [("fault", fault)][: len(fault)]
 
 
 def begun_outputs(came):

@@ -1,6 +1,6 @@
 # Builds a package's expression without nixpkgs: what `stdenv.mkDerivation` does in a build, as far as the phases are given as text.
-# `package` is its folder, `tools` the prefix of the installed copy, `path` where the other tools are.
-{ package, tools, path }:
+# `package` is its folder, `tools` the prefix of the installed copy, `hook` its hook, `path` where the other tools are.
+{ package, tools, path, hook }:
 let
   mkDerivation = given: derivation ({
     name = "${given.pname}-${given.version}";
@@ -13,7 +13,11 @@ let
       cp -r "$src" source
       chmod -R u+w source
       cd source
-      for phase in configurePhase buildPhase checkPhase installPhase; do eval "''${!phase}"; done
+      prefix=$out
+      source ${hook}
+      for phase in configurePhase buildPhase checkPhase installPhase; do
+        if [ "$(type -t "''${!phase}")" = function ]; then "''${!phase}"; else eval "''${!phase}"; fi
+      done
     '' ];
     PATH = builtins.concatStringsSep ":" (map (it: "${it}/bin") given.nativeBuildInputs ++ [ path ]);
     NIX_BUILD_CORES = 2;

@@ -10,19 +10,24 @@ SOURCES = {
     "has_member": ("compile", "{prefix}\nvoid bar(void) {{ {a} foo;\n(void) ( foo.{b} );\n(void) foo; }}"),
     "has_header_symbol": ("compile", "{prefix}\n#include <{a}>\nint main(void) {{\n#ifndef {b}\n{b};\n#endif\nreturn 0; }}"),
 }
+OF_ARGUMENT = "extern int i;\nint i;"
 # A function that fails wherever it is called, as the C library says of some.
 STUB = "\n#if defined __stub_{a} || defined __stub___{a}\n#error\n#endif\n"
 # With an `#include` in the prefix the header declares the function; else it is declared here, so that the linker alone decides.
-DECLARED = ("{prefix}\n#include <limits.h>\n" + STUB +
-            "int main(void) {{ void *a = (void*) &{a}; long long b = (long long) a; return (int) b; }}")
-UNDECLARED = ("#define {a} no_{a}\n{prefix}\n#include <limits.h>\n#undef {a}\nchar {a} (void);\n" + STUB +
-              "int main(void) {{ return {a} (); }}")
+DECLARED_BEFORE = "{prefix}\n#include <limits.h>\n"
+MAIN_OF = {True: "void *a = (void*) &{a}; long long b = (long long) a; return (int) b;", False: "return {a} ();"}
+DECLARED = DECLARED_BEFORE + STUB + "int main(void) {{ " + MAIN_OF[True] + " }}"
+UNDECLARED = ("#define {a} no_{a}\n" + DECLARED_BEFORE + "#undef {a}\nchar {a} (void);\n" + STUB + "int main(void) {{ " + MAIN_OF[False] +
+              " }}")
 BUILTIN = ("{prefix}\nint main(void) {{\n#if {needs_macro:d} && !defined({a})\n#error\n#endif\n#ifdef __has_builtin\n"
            "#if !__has_builtin({builtin})\n#error\n#endif\n#elif !defined({a})\n{builtin};\n#endif\nreturn 0; }}")
-# What a number is, and what stands before it.
-NUMBERS = {"sizeof": ("sizeof({a})", "{prefix}\n#include <stddef.h>\n#include <stdio.h>"),
-           "alignment": ("offsetof(struct tmp, target)", "{prefix}\n#include <stdio.h>\n#include <stddef.h>\n"
-                         "struct tmp {{ char c;\n{a} target; }};")}
+# The same condition for the preprocessor, with a name of its own: where it doesn't hold, a compilation of `BUILTIN` ends in an `#error`.
+BUILTIN_TEST = ("#undef {mark}\n#ifdef __has_builtin\n#if __has_builtin({builtin})\n#define {mark}\n#endif\n#else\n#define {mark}\n#endif\n"
+                "#if defined({mark}) && ({needs_macro:d} == 0 || defined({a}))")
+# What a number is, what stands before it, and a type that it needs.
+NUMBERS = {"sizeof": ("sizeof({a})", "{prefix}\n#include <stddef.h>\n#include <stdio.h>", ""),
+           "alignment": ("offsetof(struct {tmp}, target)", "{prefix}\n#include <stdio.h>\n#include <stddef.h>",
+                         "\nstruct {tmp} {{ char c;\n{a} target; }};")}
 # An array that has a size only where the condition holds.
 HOLDS = "%s\nint main(void) { static int check[1 - 2 * !(%s)]; check[0] = 0; return check[0]; }"
 GREATEST = 2**62
@@ -42,7 +47,7 @@ def answer(compiler: Compiler, key: str, prefix: str = "", flags: Flags = Flags(
     method, arguments = arguments_of(key)
     a, b = (*arguments, "")[:2]
     if method == "has_argument":
-        done = compiler.attempt("compile", "extern int i;\nint i;", Flags((*with_positive(a), a)), hears=True)
+        done = compiler.attempt("compile", OF_ARGUMENT, Flags(tuple(words_to_try(a))), hears=True)
         return done.is_good and "is valid for C++/ObjC++" not in done.said
     if method == "has_link_argument":
         return compiler.takes("link", MAIN, Flags(("-Wl,--fatal-warnings", a)))
@@ -51,25 +56,30 @@ def answer(compiler: Compiler, key: str, prefix: str = "", flags: Flags = Flags(
     if method == "has_function":
         return has_function(compiler, a, prefix, flags)
     if method in NUMBERS:
-        expression, before = (it.format(prefix=prefix, a=a) for it in NUMBERS[method])
-        return number(compiler, f"(long)({expression})", before, flags)
+        expression, before, kind = (it.format(prefix=prefix, a=a, tmp="tmp") for it in NUMBERS[method])
+        return number(compiler, f"(long)({expression})", before + kind, flags)
     mode, source = SOURCES[method]
     return compiler.takes(mode, source.format(prefix=prefix, a=a, b=b), flags)
 
 
-def with_positive(word: str) -> list[str]:
-    """The word of a warning for one that leaves it out, which GCC takes where it knows no such warning either."""
+def words_to_try(word: str) -> list[str]:
+    """A word, behind that of the warning which it leaves out: GCC takes the one where it knows no such warning either."""
     if not word.startswith("-Wno-") or word.startswith("-Wno-attributes="):
-        return []
-    return ["-W" + word[5:]]
+        return [word]
+    return ["-W" + word[5:], word]
 
 
 def has_function(compiler: Compiler, name: str, prefix: str, flags: Flags) -> bool:
     """Whether it can be linked or, as a builtin, needn't be."""
-    has_include, is_builtin = "#include" in prefix, name.startswith("__builtin_")
-    names = {"prefix": prefix, "a": name, "builtin": "__builtin_" + name.removeprefix("__builtin_"),
-             "needs_macro": has_include and not is_builtin}
-    return any(compiler.takes("link", it.format(**names), flags) for it in (DECLARED if has_include else UNDECLARED, BUILTIN))
+    names = names_of_function(name, prefix)
+    return any(compiler.takes("link", it.format(**names), flags) for it in (DECLARED if "#include" in prefix else UNDECLARED, BUILTIN))
+
+
+def names_of_function(name: str, prefix: str) -> dict[str, object]:
+    """What stands in the sources that ask for a function."""
+    is_builtin = name.startswith("__builtin_")
+    return {"prefix": prefix, "a": name, "builtin": "__builtin_" + name.removeprefix("__builtin_"),
+            "needs_macro": "#include" in prefix and not is_builtin}
 
 
 def number(compiler: Compiler, expression: str, before: str, flags: Flags) -> int:

@@ -1,41 +1,63 @@
 """The C compiler: which it is, the flags in use, and whether it takes a source.
 
 What is compiled is the text of a project that nobody has to trust, and what comes of it is not run. Each source has a folder of its own,
-the current one, and the last words name the output in it. Words that could have something else written, or another program run, are not
-given to it (`can_ask`).
+the current one, and the last words name the output in it. The words of a project are those of an allowlist (allowed.py), and the compiler
+runs in a sandbox (sandbox.py).
 """
-import dataclasses
+import functools
 import os
 import platform
 import re
-import secrets
 import shlex
 import shutil
 import tempfile
+import threading
+import time
 
-from tools.asking.processes import Done, run
+from tools import records as dataclasses
+from tools.asking.allowed import DANGER, Allowed
+from tools.asking.cache import Cache, label_of
+from tools.asking.evidence import Evidence, add_headers, add_linked, at_work, cut_headers, folders_in, gathered, stamp_of
+from tools.asking.processes import Done, NoAnswer, end_all, run
+from tools.asking.programs import after_launchers
+from tools.asking.sandbox import SECONDS, Sandbox, sandbox_of
 from tools.ending import Stop
-from tools.variables import words_of
+from tools.files import read_bytes
+from tools.side_by_side import side_by_side
+from tools.variables import pkg_config, words_of
 
+# The programs that a compiler runs, and what is looked at of all that it defines.
+TOOLS = ("cc1", "as", "collect2", "ld")
+OF_INTEREST = ("__clang__", "__GNUC__", "__VERSION__", "__x86_64__", "__BYTE_ORDER__")
 MAIN = "int main(void) { return 0; }"
-# Words that name a path and only read there, or don't look at it.
-READING = re.compile(r"-[DUILl].*|-(?:isystem|iquote|idirafter).+|-f(?:debug|file|macro|profile)-prefix-map=.*"
-                     r"|-Wl,-(?:-?rpath|-?rpath-link)[,=][^,]*|-Wl,-L[^,]*|-Wl,--?version-script[,=][^,]*", re.DOTALL)
-# Words that run another program, that hand the next word on, and that stand for words of a file.
-FORBIDDEN = re.compile(r"--?(?:wrapper|run)\b.*|-X.*|(?:.*,)?@.*", re.DOTALL)
-DANGER = "with %r the compiler could write elsewhere or run a program"
+# Included first, so that no header of the project is the first one: in place of that GCC would load a precompiled header beside it, whose
+# bytes it trusts.
+INCLUDED_FIRST = ["-include", os.devnull]
+ASSEMBLY = (".s", ".S")
 # Behind the words of a check, and of a project: a word of the linker that changes nothing, so that an option there, which takes the next
 # word as the name of a file to be written, has none of the compiler's own files.
 GUARD = "-Wl,-O0"
+MOST_BYTES = 1 << 26  # of a program that holds answers
+ALL_SECONDS = 1800  # that all commands may take together: a project can ask any number of questions
 # The words of the real Meson for each way to try a source.
 MODES = {"preprocess": ["-E", "-P"], "compile": ["-c"], "link": []}
 OF_CLANG = ["-Werror=implicit-function-declaration"]
 OF_CLANG_THAT_COMPILES = ["-Werror=unknown-warning-option", "-Werror=unused-command-line-argument", "-Werror=ignored-optimization-argument"]
 
 
-def can_ask(word: str) -> bool:
-    """Whether a word of a project can be given to the compiler: with it nothing is written elsewhere, and no other program runs."""
-    return not FORBIDDEN.fullmatch(word) and ("/" not in word or READING.fullmatch(word) is not None)
+@functools.cache
+def identity(words: tuple[str, ...]) -> tuple[object, ...]:
+    """Which program these words are."""
+    path = os.path.realpath(shutil.which(words[0]) or words[0])
+    return (words, path, stamp_of(path), run([*words, "--version"]).printed)
+
+
+def bytes_made(path: str) -> bytes:
+    """The bytes of a file that the compiler has made; none where it has made none, or more than a check is answered by."""
+    try:
+        return read_bytes(path, MOST_BYTES)
+    except OSError:
+        return b""
 
 
 @dataclasses.dataclass(frozen=True)
@@ -47,14 +69,25 @@ class Flags:
 
 
 class Compiler:
-    def __init__(self, scratch: str) -> None:
-        self.scratch = scratch
+    def __init__(self, scratch: str, sources: str, cache: Cache | None = None) -> None:
+        self.scratch, self.allowed, self.cache = scratch, Allowed((sources,)), cache or Cache(None)
+        self.folders: dict[Flags, list[str] | None] = {}  # that are searched for headers
+        self.searches = threading.Lock()
+        self.end = time.monotonic() + ALL_SECONDS  # after which no command is run
         self.c, self.ar = words_of("CC") or ["cc"], words_of("AR") or ["ar"]
+        self.own = after_launchers(self.c)  # as it is called for a check
         self.standard: list[str] = []
+        self.has_words_of_project = False  # among the flags in use
+        self.tried_out: dict[str, Sandbox] = {}  # the sandbox in which flags work
         self.c_args, self.c_link_args = words_of("CPPFLAGS") + words_of("CFLAGS"), words_of("CFLAGS") + words_of("LDFLAGS")
-        if not shutil.which(self.c[0]):
-            raise Stop(f"no C compiler: {self.c[0]!r} isn't on PATH (CC names another)")
-        defined = dict(re.findall(r"^#define (\w+) (.*)$", run([*self.c, "-dM", "-E", "-x", "c", "/dev/null"]).printed, re.M))
+        for word in (self.c[0], self.own[0]):
+            if not shutil.which(word):
+                raise Stop(f"no C compiler: {word!r} isn't on PATH (CC names another)")
+        with tempfile.TemporaryDirectory(dir=scratch) as folder:
+            self.sandbox = sandbox_of(self.own, pkg_config(), folder)
+        self.itself = [*identity(tuple(self.own))]
+        defined, tools = self.found_out()
+        self.itself += [[it, stamp_of(it)] for it in tools]
         self.id = "clang" if "__clang__" in defined else "gcc" if "__GNUC__" in defined else "unknown"
         self.version = (re.search(r"\d+(\.\d+)+", defined.get("__VERSION__", "")) or ["unknown"])[0]
         cpu = platform.machine() or "unknown"
@@ -65,36 +98,127 @@ class Compiler:
         endian = "big" if defined.get("__BYTE_ORDER__") == "__ORDER_BIG_ENDIAN__" else "little"
         self.host = {"system": platform.system().lower(), "cpu_family": family, "cpu": cpu, "endian": endian}
 
+    def found_out(self) -> tuple[dict[str, str], list[str]]:
+        """What the compiler defines before all sources, and the programs that it runs."""
+        label = label_of(["compiler", self.itself])
+        kept, is_good = self.cache.get(label)
+        if is_good and isinstance(kept, list):
+            return kept[0], kept[1]
+        defined = dict(re.findall(r"^#define (\w+) (.*)$", run([*self.own, "-dM", "-E", "-x", "c", "/dev/null"]).printed, re.M))
+        tools = side_by_side(self.tool, list(TOOLS), None, end_all) if self.cache.path else []
+        evidence = Evidence()
+        evidence.paths = set(filter(None, tools))
+        self.cache.put(evidence, {label: [{it: defined[it] for it in OF_INTEREST if it in defined}, sorted(evidence.paths)]})
+        return defined, sorted(evidence.paths)
+
+    def tool(self, name: str) -> str:
+        printed = run([*self.own, f"-print-prog-name={name}"]).printed.strip()
+        return shutil.which(printed) or "" if printed else ""
+
+    def words(self) -> list[object]:
+        """What an answer depends on beside its question: the compiler, and the words in use."""
+        return [self.itself, self.sandbox.lack, self.standard, self.c_args, self.c_link_args]
+
     def use(self, c_std: str, c_args: list[str], c_link_args: list[str], given: list[str]) -> None:
         """Takes over the options in use. What neither the environment nor a word `-D..` gives is the project's, and looked at."""
         for name, words, own in (("c_args", c_args, self.c_args), ("c_link_args", c_link_args, self.c_link_args)):
-            refused = next((it for it in words if not can_ask(it)), None)
-            if refused is not None and words != own and not any(it.startswith(f"-D{name}=") for it in given):
+            if words == own or any(it.startswith(f"-D{name}=") for it in given):
+                continue
+            self.has_words_of_project = True
+            refused = self.allowed.refused(words)
+            if refused is not None:
                 raise Stop(f"{name} of the project: {DANGER % refused}; -D{name}=.. gives others")
         self.standard = [] if c_std == "none" else ["-std=" + c_std]
         self.c_args, self.c_link_args = c_args, c_link_args
 
     def try_out(self) -> None:
         """Stops where an empty program can't be compiled and linked with the flags in use: every check would be false then."""
+        fault = self.choose_sandbox()
+        if fault:
+            raise Stop(fault)
+
+    def choose_sandbox(self) -> str:
+        """Takes the strongest sandbox in which an empty program can be made with the flags in use; why that fails, where it fails in each.
+        Words of the project take no weaker one than the user's words."""
+        sandboxes = [self.sandbox] if self.has_words_of_project else list(self.sandbox.weaker())
+        label, faults = label_of(["works", self.words()]), []
+        kept, is_kept = self.cache.get(label)
+        if label in self.tried_out or is_kept and kept in range(len(sandboxes)):
+            self.sandbox = self.tried_out.get(label) or sandboxes[int(str(kept))]
+            return ""
+        for number, self.sandbox in enumerate(sandboxes):
+            with gathered() as evidence:
+                faults.append(self.fault_of_empty())
+            if not faults[-1]:
+                self.cache.put(evidence, {label: number})
+                self.tried_out[label] = self.sandbox
+                return ""
+        self.sandbox = sandboxes[0]
+        return faults[0]
+
+    def fault_of_empty(self) -> str:
+        """Why it can't compile and link an empty program; empty where it can."""
         for mode in ("compile", "link"):
             done = self.attempt(mode, MAIN, Flags(tuple(self.standard)), hears=True)
             if not done.is_good:
                 given = shlex.join([*self.c, *self.standard, *self.c_args, *(self.c_link_args if mode == "link" else [])])
-                raise Stop(f"the C compiler can't {mode} an empty program: `{given}`: {done.why}")
+                return f"the C compiler can't {mode} an empty program: `{given}`: {done.why}"
+        asked = [*pkg_config(), "--version"]
+        is_broken = not self.ask(asked).is_good and run(asked, self.scratch).is_good
+        return "pkg-config doesn't work in the sandbox" if is_broken else ""
 
-    def attempt(self, mode: str, source: str, flags: Flags = Flags(), hears: bool = False, ending: str = ".c") -> Done:
-        """How it takes a source, in a file of this ending, with the words of a check in the order of the real Meson."""
+    def in_sandbox(self, words: list[str], folder: str, hears: bool = True) -> Done:
+        """Runs a command that may write in this folder alone."""
+        left = int(self.end - time.monotonic())
+        if left <= 0:
+            raise NoAnswer(f"is not asked: the commands before it took {ALL_SECONDS} seconds")
+        with self.sandbox.entrance(folder) as enter:
+            return run(words, folder, hears=hears, seconds=min(SECONDS, left), variables=self.sandbox.variables(folder), enter=enter)
+
+    def ask(self, words: list[str]) -> Done:
+        """Runs a command in the sandbox, in an empty folder."""
+        with tempfile.TemporaryDirectory(dir=self.scratch) as folder:
+            return self.in_sandbox(words, folder)
+
+    def attempt(self, mode: str, source: str, flags: Flags = Flags(), hears: bool = False, ending: str = ".c",
+                reads: bool = False) -> Done:
+        """How it takes a source, in a file of this ending, with the words of a check in the order of the real Meson. What is made is
+        read where that is asked for."""
         with tempfile.TemporaryDirectory(dir=self.scratch) as folder:
             # The words of a check can't name the source, whose text is the project's too.
-            file = os.path.join(folder, secrets.token_hex(8) + ending)
+            file = os.path.join(folder, os.urandom(8).hex() + ending)
             with open(file, "w", encoding="utf-8", errors="surrogatepass") as it:
                 it.write(source + "\n")
             own = (OF_CLANG + (OF_CLANG_THAT_COMPILES if mode == "compile" else [])) if self.id == "clang" else []
-            given = [*self.c, file, *MODES[mode], *flags.compile_args, *self.c_args, "-O0", *own, *flags.args]
-            given += [GUARD, *flags.link_args, *self.c_link_args, GUARD] if mode == "link" else []
-            to = [] if hears and mode == "preprocess" else ["-o", os.path.join(folder, "made")]
-            done = run([*given, *to], folder, hears=hears)
-            return dataclasses.replace(done, said=done.said.replace(file, "empty" + ending))
+            evidence = at_work() if self.cache.path else None
+            tells = ["-H"] if evidence else []
+            first = [] if ending in ASSEMBLY else INCLUDED_FIRST
+            given = [*self.own, file, *first, *MODES[mode], *tells, *flags.compile_args, *self.c_args, "-O0", *own, *flags.args]
+            given += [GUARD, *flags.link_args, *self.c_link_args, GUARD, *(["-Wl,--verbose"] if evidence else [])] if mode == "link" else []
+            path = os.path.join(folder, "made")
+            to = [] if hears and mode == "preprocess" else ["-o", path]
+            done = self.in_sandbox([*given, *to], folder, hears or evidence is not None)
+            done = self.noted(evidence, mode, source, flags, done) if evidence else done
+            made = bytes_made(path) if reads and done.is_good else b""
+            return dataclasses.replace(done, said=done.said.replace(file, "empty" + ending), made=made)
+
+    def noted(self, evidence: Evidence, mode: str, source: str, flags: Flags, done: Done) -> Done:
+        """Takes what a run tells of the files that it has read out of what it says, and adds it to the evidence."""
+        said, headers = cut_headers(done.said)
+        if headers or "#" in source:
+            add_headers(evidence, source, said, headers, self.searched(flags))
+        if mode == "link":
+            add_linked(evidence, done.is_good, done.printed, said)
+        return dataclasses.replace(done, said=said)
+
+    def searched(self, flags: Flags) -> list[str] | None:
+        """The folders that are searched for headers, with the words of a check."""
+        with self.searches:
+            if flags not in self.folders:
+                with tempfile.TemporaryDirectory(dir=self.scratch) as folder:
+                    words = [*flags.compile_args, *self.c_args, *flags.args, "-x", "c", os.devnull, "-o", os.path.join(folder, "made")]
+                    self.folders[flags] = folders_in(self.in_sandbox([*self.own, "-E", "-v", *words], folder).said)
+            return self.folders[flags]
 
     def takes(self, mode: str, source: str, flags: Flags = Flags()) -> bool:
         return self.attempt(mode, source, flags).is_good

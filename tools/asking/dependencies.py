@@ -2,12 +2,16 @@
 
 Of these the words and the order are those of the real Meson: what the C library has needs no word, else the library is linked.
 """
+import functools
+import os
 from collections.abc import Callable
 
+from tools.asking.allowed import DANGER, is_package
 from tools.asking.checks import answer
 from tools.asking.compiler import MAIN, Compiler, Flags
-from tools.asking.processes import run
-from tools.variables import words_in, words_of
+from tools.asking.evidence import add_packages, at_work
+from tools.asking.processes import NoAnswer
+from tools.variables import pkg_config, words_in
 
 Found = dict[str, object]
 # Each candidate of curses: a library, and the headers that it may have.
@@ -18,20 +22,32 @@ OPENMP = {"202111": "5.2", "202011": "5.1", "201811": "5.0", "201611": "5.0-revi
           "201107": "3.1", "200805": "3.0", "200505": "2.5", "200203": "2.0", "199810": "1.0"}
 
 
-def pkg_config() -> list[str]:
-    return words_of("PKG_CONFIG") or ["pkg-config"]
-
-
 def found(compile_args: list[str], link_args: list[str], version: str = "") -> Found:
     return {**({"version": version} if version else {}), "compile_args": compile_args, "link_args": link_args}
 
 
-def of_pkg_config(name: str) -> Found | None:
-    version, cflags, libs = (run([*pkg_config(), it, "--", name]) for it in ("--modversion", "--cflags", "--libs"))
+@functools.cache
+def package_folders(compiler: Compiler) -> list[str]:
+    """The folders that pkg-config searches."""
+    own = os.environ.get("PKG_CONFIG_LIBDIR")
+    searched = own if own is not None else compiler.ask([*pkg_config(), "--variable", "pc_path", "pkg-config"]).printed.strip()
+    return [it for it in [*os.environ.get("PKG_CONFIG_PATH", "").split(":"), *searched.split(":")] if it]
+
+
+def of_pkg_config(compiler: Compiler, name: str) -> Found | None:
+    """What pkg-config says of a package, where all of its words are such as a project may give."""
+    if at_work():
+        add_packages(name, package_folders(compiler))
+    asked = lambda word: compiler.ask([*pkg_config(), word, "--", name])
+    version = asked("--modversion")
     if not version.is_good:
         return None
-    return found(*(words_in(it.printed.strip(), f"dependency {name}: {word}") for it, word in ((cflags, "--cflags"), (libs, "--libs"))),
-                 version.printed.strip())
+    lists = [words_in(asked(word).printed.strip(), f"dependency {name}: {word}") for word in ("--cflags", "--libs")]
+    for words in lists:
+        refused = compiler.allowed.refused(words)
+        if refused is not None:
+            raise NoAnswer(f"pkg-config names words for it, of which {DANGER % refused}")
+    return found(*lists, version.printed.strip())
 
 
 def has_library(compiler: Compiler, library: str, header: str) -> bool:
@@ -64,7 +80,7 @@ def of_c_library(header: str, call: str, library: str) -> Callable[[Compiler], F
 
 
 def curses(compiler: Compiler) -> Found | None:
-    known = filter(None, map(of_pkg_config, ("pdcurses", "ncursesw", "ncurses", "curses")))
+    known = filter(None, (of_pkg_config(compiler, it) for it in ("pdcurses", "ncursesw", "ncurses", "curses")))
     by_hand = ((library, header) for library, headers in CURSES for header in headers if has_library(compiler, library, header))
     return next(known, None) or next((found([], ["-l" + library], compiler.define("NCURSES_VERSION", f"#include <{header}>"))
                                       for library, header in by_hand), None)
@@ -81,5 +97,7 @@ BY_COMPILING: dict[str, Callable[[Compiler], Found | None]] = {
 
 def dependency(compiler: Compiler, name: str) -> Found | None:
     """The lines of its section, or none where it isn't found."""
+    if not is_package(name):
+        raise NoAnswer("is not asked: pkg-config would read the file of this name, or take it for other words")
     by_compiling = BY_COMPILING.get(name)
-    return of_pkg_config(name) or (by_compiling(compiler) if by_compiling else None)
+    return of_pkg_config(compiler, name) or (by_compiling(compiler) if by_compiling else None)

@@ -3,14 +3,20 @@ import os
 import shutil
 from collections.abc import Iterator
 
+from tools import records as dataclasses
+from tools.asking.bundles import Check, ask_together, bundles_of
+from tools.asking.cache import label_of
 from tools.asking.checks import METHODS, NUMBERS, OF_WORDS, answer, arguments_of
-from tools.asking.compiler import DANGER, Compiler, Flags, can_ask
-from tools.asking.dependencies import dependency, pkg_config
+from tools.asking.allowed import DANGER, is_package
+from tools.asking.compiler import Compiler, Flags, identity
+from tools.asking.dependencies import dependency
+from tools.asking.evidence import gathered
 from tools.asking.packages import who_has
 from tools.asking.processes import NoAnswer, end_all
 from tools.asking.questions import Question
 from tools.asking.text import Sections, can_hold, is_written, spelled
 from tools.side_by_side import side_by_side
+from tools.variables import pkg_config
 
 OWN = ""  # what a program is that is a file of the project, which the run finds by itself
 AS_UNSAID = ("false", "-1", spelled(OWN))  # answers without which a machine file means the same
@@ -25,9 +31,14 @@ def each_once(questions: list[Question]) -> list[Question]:
     return list(found.values())
 
 
+def is_no_file(method: str, arguments: list[str]) -> bool:
+    """Whether a word is that of another compiler, as /utf-8: to this one it names a source that isn't there."""
+    return method == "has_argument" and arguments[0].startswith("/") and not os.path.lexists(arguments[0])
+
+
 class Machine:
-    def __init__(self, compiler: Compiler, sources: str) -> None:
-        self.compiler, self.sources = compiler, os.path.abspath(sources)
+    def __init__(self, compiler: Compiler, sources: str, in_bundles: bool = True) -> None:
+        self.compiler, self.sources, self.in_bundles = compiler, os.path.abspath(sources), in_bundles
         args = {"c_args": compiler.c_args, "c_link_args": compiler.c_link_args}
         self.itself: Sections = {
             "binaries": {"c": compiler.c, "ar": compiler.ar}, "built-in options": {name: it for name, it in args.items() if it},
@@ -53,22 +64,73 @@ class Machine:
         is_mine = lambda it: it.section in ("binaries", "checks") or it.dependency is not None
         fresh = [it for it in each_once(questions) if is_mine(it) and it.label not in self.answers]
         # A check may have dependencies and libraries beside it, so these are answered first.
-        is_first = lambda it: it.method in ("", "find_library")
-        for group in ([it for it in fresh if is_first(it)], [it for it in fresh if not is_first(it)]):
-            self.answers.update(zip([it.label for it in group], side_by_side(self.answered, group, None, end_all)))
+        is_last = lambda it: it.method not in ("", "find_library") and it.texts("dependencies") != ()
+        self.answer_together([it for it in fresh if not is_last(it)])
+        self.answer_together([it for it in fresh if is_last(it)])
+
+    def answer_each(self, questions: list[Question]) -> None:
+        self.answers.update(zip([it.label for it in questions], side_by_side(self.answered, questions, None, end_all)))
+
+    def answer_together(self, questions: list[Question]) -> None:
+        """Answers checks in bundles, and beside them what no bundle takes; then the checks that no bundle has settled."""
+        checks: dict[Check, list[Question]] = {}
+        alone = []
+        for question in questions:
+            kept, is_kept = self.compiler.cache.get(self.cache_label(question))
+            if is_kept:
+                self.answers[question.label] = kept
+            elif question.method and not self.refused(question):
+                checks.setdefault(self.check_of(question), []).append(question)
+            else:
+                alone.append(question)
+        bundles, rest = bundles_of(list(checks)) if self.in_bundles else ([], list(checks))
+        alone += [it for check in rest for it in checks[check]]
+        settled: dict[Check, bool | int] = {}
+
+        def work(item: list[Check] | Question) -> None:
+            if isinstance(item, Question):
+                self.answers[item.label] = self.answered(item)
+            else:
+                settled.update(self.together(item))
+
+        side_by_side(work, [*bundles, *alone], None, end_all)
+        for check, answered in settled.items():
+            self.answers.update({it.label: answered for it in checks[check]})
+        self.answer_each([it for bundle in bundles for check in bundle if check not in settled for it in checks[check]])
+
+    def together(self, bundle: list[Check]) -> dict[Check, bool | int]:
+        """What a bundle settles; nothing where it can't be asked, since each is asked alone then."""
+        try:
+            with gathered() as evidence:
+                settled = ask_together(self.compiler, bundle)
+        except NoAnswer:
+            return {}
+        self.compiler.cache.put(evidence, {self.label_of_check(check): it for check, it in settled.items()})
+        return settled
 
     def answered(self, question: Question) -> object:
         """The answer, none where nothing is found, or what says that there is none."""
         try:
             if question.section == "binaries":
                 return self.program(question, question.key or "")
-            return self.check(question, question.key or "") if question.section == "checks" else self.package(question.dependency or "")
+            with gathered() as evidence:
+                came = self.check(question) if question.section == "checks" else self.package(question.dependency or "")
         except NoAnswer as open_question:
             return open_question
+        self.compiler.cache.put(evidence, {self.cache_label(question): came})
+        return came
+
+    def label_of_check(self, check: Check) -> str:
+        return label_of(["check", check.key, check.prefix, dataclasses.astuple(check.flags), self.compiler.words()])
+
+    def cache_label(self, question: Question) -> str:
+        """By which name the answer of a check or a dependency is kept; empty where it isn't."""
+        if question.method and not self.refused(question):
+            return self.label_of_check(self.check_of(question))
+        name = question.dependency
+        return label_of(["dependency", name, identity(tuple(pkg_config())), self.compiler.words()]) if name and is_package(name) else ""
 
     def package(self, name: str) -> dict[str, object] | None:
-        if name.endswith(".pc"):
-            raise NoAnswer("is not asked: pkg-config would read this file, which may be one of the project")
         found = dependency(self.compiler, name)
         if found is None and not shutil.which(pkg_config()[0]):
             raise NoAnswer("there is no pkg-config (PKG_CONFIG names another)")
@@ -82,17 +144,29 @@ class Machine:
             raise NoAnswer(f"no machine file can hold the path {path!r}")
         return self.itself["binaries"].get(name, path)
 
-    def check(self, question: Question, key: str) -> bool | int:
+    def check(self, question: Question) -> bool | int:
+        refused = self.refused(question)
+        if refused:
+            raise NoAnswer(refused)
+        check = self.check_of(question)
+        if is_no_file(question.method, arguments_of(check.key)[1]):
+            return False
+        return answer(self.compiler, check.key, check.prefix, check.flags)
+
+    def check_of(self, question: Question) -> Check:
+        """A question as the compiler is asked."""
+        return Check(question.key or "", "\n".join(question.texts("prefix")), self.flags(question, question.method))
+
+    def refused(self, question: Question) -> str:
+        """Why a check isn't asked; empty where it is."""
+        key = question.key or ""
         method, arguments = arguments_of(key)
         if method not in METHODS:
-            raise NoAnswer("is no check that is known here")
-        words = question.texts("args") if method not in OF_WORDS else tuple(arguments) if method != "find_library" else ()
-        # A name that begins with a slash is one of a source: a flag of another compiler, as /utf-8, is a file that isn't there.
-        is_no_file = method == "has_argument" and key.startswith("has_argument /") and not os.path.lexists(words[0])
-        refused = next((it for it in words if not can_ask(it)), None)
-        if refused is not None and not is_no_file:
-            raise NoAnswer(f"is not asked: {DANGER % refused}")
-        return answer(self.compiler, key, "\n".join(question.texts("prefix")), self.flags(question, method))
+            return "is no check that is known here"
+        of_arguments = tuple("-l" + it if method == "find_library" else it for it in arguments)
+        words = of_arguments if method in OF_WORDS else question.texts("args")
+        refused = self.compiler.allowed.refused(words)
+        return f"is not asked: {DANGER % refused}" if refused is not None and not is_no_file(method, arguments) else ""
 
     def flags(self, question: Question, method: str) -> Flags:
         """The words beside a check, as the real Meson has them: an alignment has fewer."""
@@ -114,7 +188,7 @@ class Machine:
         """What is missing where a question stands that a run ended with, and who has it; nothing where its answer is no reason to end."""
         came = self.answers.get(question.label, OWN)
         if came is None or came is False:
-            return f"{question.name} is not found; {who_has(question.name)}"
+            return f"{question.name} is not found; {who_has(self.compiler, question.name)}"
         wanted = ", ".join(question.texts("version"))
         return f"{question.name} has version {came.get('version', 'unknown')}, and {wanted} is wanted" if isinstance(came, dict) else ""
 

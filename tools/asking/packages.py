@@ -2,8 +2,10 @@
 import re
 import shutil
 
-from tools.asking.dependencies import pkg_config
+from tools.asking.allowed import is_package
+from tools.asking.compiler import Compiler
 from tools.asking.processes import run
+from tools.variables import pkg_config
 
 # The end of the path of what is missing, by its kind.
 FILES = {"dependency": "/{}.pc", "program": "/bin/{}", "find_library": "/lib{}.so", "has_header": "/include/{}",
@@ -17,9 +19,9 @@ TOOLS = (
 SHOWN = 3  # packages
 
 
-def lacks(name: str) -> str:
+def lacks(compiler: Compiler, name: str) -> str:
     """The dependency of a dependency that stands in its way, as pkg-config says it."""
-    said = run([*pkg_config(), "--print-errors", "--exists", "--", name]).said
+    said = compiler.ask([*pkg_config(), "--print-errors", "--exists", "--", name]).said if is_package(name) else ""
     match = re.search(r"Package '?([^\s']+)'?, required by '([^']+)', not found", said)
     return match[1] if match and match[2] != "virtual:world" else ""
 
@@ -36,10 +38,10 @@ def of_file(path: str, stem: str) -> str:
     return "no package is known that has it"
 
 
-def who_has(name: str) -> str:
+def who_has(compiler: Compiler, name: str) -> str:
     """What can be said of a missing thing."""
     kind, _, plain = name.partition(" ")
-    other = lacks(plain) if kind == "dependency" else ""
+    other = lacks(compiler, plain) if kind == "dependency" else ""
     wanted = other or plain
     said = of_file(FILES[kind].format(wanted), wanted.removeprefix("lib").partition("-")[0].rstrip("+")) if kind in FILES else ""
     return f"its package wants {other}, and {said}" if other else said

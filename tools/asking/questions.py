@@ -1,14 +1,14 @@
 """What a run of the program asks of the machine, as `meson questions` tells it."""
-import dataclasses
 import json
 import os
 import tempfile
 
 from porting.lexer import SyntaxFault, tokens_of
+from tools import records as dataclasses
 from tools.asking.checks import OF_WORDS
-from tools.asking.processes import run
+from tools.asking.processes import MOST_TOLD, run
 from tools.ending import Stop
-from tools.files import read_text
+from tools.files import DEFINITION, read_text
 from tools.links import linked_copy
 
 ROOT_FILE = "meson.build"
@@ -85,7 +85,7 @@ class Project:
         with open(path, "w", encoding="utf-8") as it:
             it.write(machine_file)
         words = ["meson", "questions", *self.words, "--native-file", path, BUILD]
-        done = run(words, folder or self.sources, os.path.abspath(self.program))
+        done = run(words, folder or self.sources, os.path.abspath(self.program), most=MOST_TOLD)
         if done.status not in (0, 1):
             raise Stop(done.why)
         return Told([question_of(it) for it in done.printed.split("\n") if it], done.why if done.status else "")
@@ -105,7 +105,7 @@ def first_statement(sources: str) -> str:
     """The text of a project's root file up to the end of its first statement."""
     try:
         path = os.path.join(sources, ROOT_FILE)
-        text = read_text(path)
+        text = read_text(path, DEFINITION)
         tokens = tokens_of(text)
     except OSError as error:
         raise Stop(f"{path}: {error.strerror}") from error

@@ -21,7 +21,7 @@ def spelled(value: object) -> str:
     if isinstance(value, list):
         return "[" + ", ".join(map(spelled, value)) + "]"
     plain = str(value).replace("\\", "\\\\").replace("'", "\\'")
-    return "'" + "".join(it if it >= " " and it != "\x7f" else f"\\x{ord(it):02x}" for it in plain) + "'"
+    return "'" + "".join(it if " " <= it < "\x7f" or it >= "\xa0" else f"\\x{ord(it):02x}" for it in plain) + "'"
 
 
 def text_of(sections: Sections) -> str:

@@ -1,1 +1,1 @@
-"""What `build-program` is made of: the crates, what checks one, and which checks are at work."""
+"""What `build-program` and `build-library` are made of: the crates, what checks one, and which checks are at work."""

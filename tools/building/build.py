@@ -2,6 +2,7 @@
 import concurrent.futures
 import functools
 import hashlib
+import pathlib
 import subprocess
 import sys
 import time
@@ -14,11 +15,12 @@ GB = 1_000_000_000
 
 
 class Build:
-    """What is proved, what is being proved, and the processors and the memory that all of it may take."""
+    """What is proved, what is being proved, and the processors and the memory that all of it may take. `below` has libraries that checks
+    have made, by the names of their crates: with some, the last crate alone is left."""
 
-    def __init__(self, kit: Kit, crates: dict[str, Crate], jobs: int, room: int) -> None:
-        self.kit, self.crates, self.jobs, self.room = kit, crates, jobs, room
-        self.proved = {it.name for it in crates.values() if self.is_made(it)}
+    def __init__(self, kit: Kit, crates: dict[str, Crate], jobs: int, room: int, below: dict[str, pathlib.Path] | None = None) -> None:
+        self.kit, self.crates, self.jobs, self.room, self.below = kit, crates, jobs, room, below or {}
+        self.proved = {it.name for it in crates.values() if it.name in self.below or self.is_made(it)}
         self.plan = Plan([it for it in longest_way_first(crates) if it.name not in self.proved], jobs, room)
         self.commands: set[subprocess.Popen] = set()
         self.failed: list[str] = []
@@ -42,10 +44,10 @@ class Build:
         return crate.made.exists() and crate.stamp.is_file() and crate.stamp.read_text() == self.digest(crate.name)
 
     def make(self, check: Check) -> bool:
-        """Proves a crate, and makes its library or the program."""
+        """Proves a crate, and makes its library, the program or the library for C."""
         crate = check.crate
         crate.stamp.unlink(missing_ok=True)
-        steps = [self.kit.build(self.crates, crate), *([self.kit.link()] if crate.name == PROGRAM else [])]
+        steps = [self.kit.build(crate, check.processors, self.below), *([self.kit.link()] if crate.name == PROGRAM else [])]
         with open(crate.log, "wb") as log:
             for words in steps:
                 with subprocess.Popen(words, cwd=crate.folder, stdin=subprocess.DEVNULL, stdout=log, stderr=subprocess.STDOUT) as command:
@@ -59,7 +61,7 @@ class Build:
     def end(self, check: Check, is_proved: bool, at_work: list[Check]) -> None:
         """Keeps what came of a check, and says how much is done."""
         now, name = time.monotonic(), check.crate.name
-        self.measured += check.crate.work
+        self.measured += check.crate.seconds(check.processors)
         self.taken += now - check.begin
         if not is_proved:
             self.failed.append(name)

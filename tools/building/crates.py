@@ -1,13 +1,16 @@
-"""The crates of the program: what each is made from, where that stands, and what a check of it takes of time and of memory."""
+"""The crates of the program and of the library for C: what each is made from, where that stands, and what a check of it takes of time and
+of memory."""
 import dataclasses
 import functools
 import hashlib
 import pathlib
 
 CHECKOUT = pathlib.Path(__file__).resolve().parents[2]
-PROGRAM = "hawkottoman"
+PROGRAM, LIBRARY = "hawkottoman", "hawkottoman_c"
 OUT = CHECKOUT / "crates" / PROGRAM / "out"
 LIBRARIES = OUT / "libraries"
+# What is made of the crates that no other stands on: the program, and the library for C without the toolchain's part.
+MADE = {PROGRAM: OUT / PROGRAM, LIBRARY: CHECKOUT / "crates" / LIBRARY / "out" / f"lib{LIBRARY}.a"}
 MEASURED = pathlib.Path(__file__).resolve().with_name("measured.txt")
 CODE, DEFINITIONS = ".rt", ".antt"
 SOURCES = ("src", "specs", "proofs")
@@ -19,18 +22,24 @@ SECONDS, SECONDS_A_LINE = 60, 0.13
 SIZE, SIZE_A_LINE = 1300, 0.5
 # The share of the memory at its end that a check takes from the begin on, by what is loaded. The rest comes evenly.
 FIRST_SHARE = 0.6
+# What several processors do to a check: its seconds of loading stay, and this share of the others, where no share was measured. With MOST
+# of them interp took 379 seconds where it took 900 with one. Each further one takes some of the memory again.
+LOADING, ALONE, MOST = 20, 0.2, 4
+SIZE_A_PROCESSOR = 0.25
 
 
 @dataclasses.dataclass(eq=False)
 class Crate:
-    """A crate of the program: the libraries that crates.txt lists for it, the crates below it, a digest of its files, and what its check
-    is guessed to take: seconds, where that was measured, and MiB at its end."""
+    """A crate: the libraries that crates.txt lists for it, the crates below it, a digest of its files, and what its check
+    is guessed to take by one processor: seconds, where that was measured, and MiB at its end. `shared` is the share of these seconds that
+    it took by MOST processors, where that was measured."""
     name: str
     listed: list[str]
     below: set[str]
     digest: str
     work: float
     size: float
+    shared: float | None = None
 
     @property
     def folder(self) -> pathlib.Path:
@@ -38,8 +47,13 @@ class Crate:
 
     @property
     def made(self) -> pathlib.Path:
-        """What is made of it: a library, a folder with its statements; or the program."""
-        return OUT / PROGRAM if self.name == PROGRAM else LIBRARIES / f"{self.name}.rlib"
+        """What is made of it: a folder with its statements; or the program, or the library for C."""
+        return MADE.get(self.name, LIBRARIES / f"{self.name}.rlib")
+
+    @property
+    def checked(self) -> pathlib.Path:
+        """The library that `rt ci` makes of it, as `rt check` does of those below a crate."""
+        return self.folder / "out" / "rlib" / f"{self.name}.rlib"
 
     @property
     def stamp(self) -> pathlib.Path:
@@ -50,9 +64,20 @@ class Crate:
     def log(self) -> pathlib.Path:
         return OUT / f"build-{self.name}.log"
 
-    def bytes_at(self, share: float) -> float:
+    def seconds(self, processors: int) -> float:
+        """How long its check is guessed to take by the clock with so many processors."""
+        loading = min(LOADING, self.work)
+        rest = self.work - loading
+        if self.shared is None or not rest:
+            alone = ALONE
+        else:
+            of_rest = (self.shared * self.work - loading) / rest
+            alone = min(1, max(0, (of_rest - 1 / MOST) / (1 - 1 / MOST)))
+        return loading + rest * (alone + (1 - alone) / processors)
+
+    def bytes_at(self, share: float, processors: int = 1) -> float:
         """The memory that its check is guessed to take once this share of it is done."""
-        return self.size * MIB * (FIRST_SHARE + (1 - FIRST_SHARE) * min(share, 1))
+        return self.size * (1 + SIZE_A_PROCESSOR * (processors - 1)) * MIB * (FIRST_SHARE + (1 - FIRST_SHARE) * min(share, 1))
 
 
 def files_of(folder: pathlib.Path) -> list[pathlib.Path]:
@@ -70,14 +95,14 @@ def crates_below(name: str, listed: dict[str, list[str]]) -> set[str]:
     return found
 
 
-def crate_of(name: str, listed: dict[str, list[str]], measured: dict[str, tuple[float, float]]) -> Crate:
+def crate_of(name: str, listed: dict[str, list[str]], measured: dict[str, list[float]]) -> Crate:
     folder, lines, digest = CHECKOUT / "crates" / name, 0, hashlib.sha256(" ".join(listed[name]).encode())
     for path in files_of(folder):
         content = path.read_bytes()
         lines += content.count(b"\n") if path.suffix == CODE else 0
         digest.update(f"\n{path.relative_to(folder)} {len(content)}\n".encode() + content)
-    work, size = measured.get(name, (SECONDS + SECONDS_A_LINE * lines, SIZE + SIZE_A_LINE * lines))
-    return Crate(name, listed[name], crates_below(name, listed), digest.hexdigest(), work, size)
+    taken = measured.get(name, [SECONDS + SECONDS_A_LINE * lines, SIZE + SIZE_A_LINE * lines])
+    return Crate(name, listed[name], crates_below(name, listed), digest.hexdigest(), *taken)
 
 
 def rows_of(text: str) -> list[str]:
@@ -88,21 +113,33 @@ def rows_of(text: str) -> list[str]:
 def crates_listed() -> dict[str, list[str]]:
     """The libraries that crates.txt lists for each crate, without what only tests make use of: its groups are set apart by empty lines."""
     groups = (CHECKOUT / "crates.txt").read_text().split("\n\n")
-    uses_of = [{name: uses.split() for name, _, uses in (row.partition(":") for row in rows_of(it))} for it in groups]
+    # Behind a name may stand what is made of the crate.
+    uses_of = [{name.split()[0]: uses.split() for name, _, uses in (row.partition(":") for row in rows_of(it))} for it in groups]
     of_tests = {name for group, uses in zip(groups, uses_of) if group.startswith(TESTS) for name in uses}
     return {name: [it for it in uses if it not in of_tests] for group in uses_of for name, uses in group.items() if name not in of_tests}
 
 
-def crates_of_program() -> dict[str, Crate]:
-    """The program's crate and those that it stands on, by their names, as crates.txt lists them."""
+def crates_of(root: str = PROGRAM) -> dict[str, Crate]:
+    """The crate of the program, or that of the library, and those that it stands on, by their names, as crates.txt lists them."""
     listed = crates_listed()
-    measured = {name: (float(work), float(size)) for name, work, size in map(str.split, rows_of(MEASURED.read_text()))}
-    needed = {PROGRAM, *crates_below(PROGRAM, listed)}
+    measured = {name: [*map(float, numbers)] for name, *numbers in map(str.split, rows_of(MEASURED.read_text()))}
+    needed = {root, *crates_below(root, listed)}
     return {name: crate_of(name, listed, measured) for name in listed if name in needed}
 
 
+def checked_below(crates: dict[str, Crate], root: str) -> dict[str, pathlib.Path]:
+    """The libraries that checks have made of the crates below one, by their names; none unless all are there, and each is newer than what
+    it is made from: its files, and the libraries below it."""
+    def is_new(crate: Crate) -> bool:
+        made_from = [*files_of(crate.folder), *(crates[it].checked for it in crate.listed if it in crates)]
+        return all(it.exists() and it.stat().st_mtime <= crate.checked.stat().st_mtime for it in [crate.checked, *made_from])
+
+    below = [crates[it] for it in sorted(crates[root].below)]
+    return {it.name: it.checked for it in below} if all(it.checked.exists() and is_new(it) for it in below) else {}
+
+
 def longest_way_first(crates: dict[str, Crate]) -> list[Crate]:
-    """The crates by the work of the longest chain from each up to the program, so each before those that stand on it."""
+    """The crates by the work of the longest chain from each up to the last, so each before those that stand on it."""
     @functools.cache
     def chain(name: str) -> float:
         return crates[name].work + max((chain(it.name) for it in crates.values() if name in it.listed), default=0)

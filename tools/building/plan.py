@@ -1,37 +1,40 @@
 """Which check begins next: orders of the crates are tried on a model of the build, and that is taken by which all are proved first.
 
 What a check takes of memory grows until it ends, so a crate begins only where there is memory until all that are at work have ended; and
-a long check that begins early can keep a crate waiting that more others wait for. The first is asked of the model, the second is tried.
+a long check that begins early can keep a crate waiting that more others wait for. The first is asked of the model, the second is tried. So
+is which crates take all processors that are idle when they begin: one that is alone gains by it, and beside others it takes more work.
 """
 import dataclasses
 import random
 
 from tools.building.crates import Crate
 
-TRIES = 300
+TRIES = 600
 
 
 @dataclasses.dataclass
 class Check:
-    """A check at work: its crate, when it began, and how long it takes, about. It has one process: by two it would take more work."""
+    """A check at work: its crate, when it began, how long it takes, about, and by how many processors."""
     crate: Crate
     begin: float
     length: float
+    processors: int = 1
 
     @property
     def end(self) -> float:
         return self.begin + self.length
 
     def bytes_at(self, time: float) -> float:
-        return self.crate.bytes_at((time - self.begin) / self.length)
+        return self.crate.bytes_at((time - self.begin) / self.length, self.processors)
 
 
 class Plan:
-    """The order in which the crates that are left begin, each once those before it have begun."""
+    """The order in which the crates that are left begin, each once those before it have begun, and the names of those that take all idle
+    processors."""
 
     def __init__(self, crates: list[Crate], jobs: int, room: float) -> None:
         self.jobs, self.room = jobs, room
-        self.left = crates
+        self.left, self.wide = crates, frozenset[str]()
         self.tried = random.Random(0)
 
     def fits(self, check: Check, at_work: list[Check]) -> bool:
@@ -41,20 +44,26 @@ class Plan:
         taken = (sum(it.bytes_at(time) for it, end in zip(checks, ends) if end >= time) for time in ends)
         return not at_work or max(taken) <= self.room
 
-    def next_check(self, order: list[Crate], at_work: list[Check], now: float, pace: float) -> Check | None:
+    def next_check(self, order: list[Crate], wide: frozenset[str], at_work: list[Check], now: float, pace: float) -> Check | None:
         """The check that begins now, if any: of the first crate, where all below it is proved and a processor and memory are free. The
         pace is the seconds here for one of those that were measured."""
-        if not order or len(at_work) >= self.jobs:
+        idle = self.jobs - sum(it.processors for it in at_work)
+        if not order or idle < 1:
             return None
         waited_for = {it.name for it in order[1:]} | {it.crate.name for it in at_work}
-        check = Check(order[0], now, order[0].work * pace)
-        return check if waited_for.isdisjoint(order[0].below) and self.fits(check, at_work) else None
+        if not waited_for.isdisjoint(order[0].below):
+            return None
+        for processors in range(idle if order[0].name in wide else 1, 0, -1):
+            check = Check(order[0], now, order[0].seconds(processors) * pace, processors)
+            if self.fits(check, at_work):
+                return check
+        return None
 
-    def end_of(self, order: list[Crate], at_work: list[Check], now: float, pace: float) -> float:
+    def end_of(self, order: list[Crate], wide: frozenset[str], at_work: list[Check], now: float, pace: float) -> float:
         """When all is proved, by the model."""
         left, at_work = list(order), list(at_work)
         while left or at_work:
-            while check := self.next_check(left, at_work, now, pace):
+            while check := self.next_check(left, wide, at_work, now, pace):
                 at_work.append(check)
                 del left[0]
             first = min(at_work, key=lambda it: it.end)
@@ -72,22 +81,26 @@ class Plan:
         return order
 
     def improve(self, at_work: list[Check], now: float, pace: float) -> None:
-        """Tries other orders, and keeps what is done no later."""
-        best = self.end_of(self.left, at_work, now, pace)
-        for _ in range(TRIES if len(self.left) > 1 else 0):
-            order = self.moved()
-            end = self.end_of(order, at_work, now, pace)
-            if end <= best:
-                best, self.left = end, order
+        """Tries other orders, and other crates that take all idle processors, from one to the next that is done no later; kept is the
+        first that is done soonest."""
+        kept = best = self.end_of(self.left, self.wide, at_work, now, pace), self.left, self.wide
+        for number in range(TRIES if self.left else 0):
+            _, self.left, self.wide = kept
+            order, wide = (self.moved(), self.wide) if number % 2 else (self.left, self.wide ^ {self.tried.choice(self.left).name})
+            end = self.end_of(order, wide, at_work, now, pace)
+            if end <= kept[0]:
+                kept = end, order, wide
+                best = kept if end < best[0] else best
+        _, self.left, self.wide = best
 
     def begin(self, at_work: list[Check], now: float, pace: float) -> list[Check]:
         """The checks that begin now."""
         self.improve(at_work, now, pace)
         begun: list[Check] = []
-        while check := self.next_check(self.left, [*at_work, *begun], now, pace):
+        while check := self.next_check(self.left, self.wide, [*at_work, *begun], now, pace):
             begun.append(check)
             del self.left[0]
         return begun
 
     def seconds_left(self, at_work: list[Check], now: float, pace: float) -> float:
-        return self.end_of(self.left, at_work, now, pace) - now
+        return self.end_of(self.left, self.wide, at_work, now, pace) - now

@@ -2,16 +2,18 @@
 from __future__ import annotations
 
 import os
-import subprocess
 
-from tools.ending import Stop, one_line, say, show
+from tools.asking.processes import NoAnswer
+from tools.ending import Stop, as_called, help_as_called, one_line, say, show
 from tools.explaining import arguments, devices, grammar, machine, names, operators, others, settings
 from tools.explaining.context import Context, read, set_in
 from tools.explaining.detail import Detail, detail, shown
 from tools.explaining.place import place_of
 from tools.explaining.probe import Probe
-from tools.explaining.run import LONGEST, MACHINE, MOST_BYTES, WORDS, Asked, Fault, Outcome, about, in_place, machine_path, room_of
+from tools.explaining.run import MACHINE, MOST_BYTES, WORDS, Asked, Fault, Outcome, about, in_place, room_of
 from tools.explaining.told import Told, told_of
+from tools.files import DEFINITION, read_bytes
+from tools.last_setup import machine_path
 
 DONE, NOT_READ, BAD_WORDS = 0, 2, 4
 ON_STATEMENTS = {
@@ -33,14 +35,10 @@ def main(told: str, program: str, words: list[str]) -> int:
     before = words[:words.index("--")] if "--" in words else words
     if {"-h", "--help"} & set(before):
         subject, usage, more = told.strip().split("\n\n", 2)
-        show(f"usage: {usage.strip()}\n\n{subject}\n\n{more}")
+        show(help_as_called(f"usage: {usage.strip()}\n\n{subject}\n\n{more}"))
         return DONE
     asked = Asked(program, os.getcwd(), words, machine_of(words))
-    try:
-        outcome = in_place(asked)
-    except subprocess.TimeoutExpired as error:
-        raise Stop(f"the program had not ended after {LONGEST} seconds") from error
-    return explain(asked, outcome)
+    return explain(asked, in_place(asked))
 
 
 def machine_of(words: list[str]) -> bytes | None:
@@ -68,7 +66,7 @@ def explain(asked: Asked, outcome: Outcome) -> int:
             show(line)
         return outcome.status
     if outcome.status == NOT_READ:
-        why = devices.unread(asked) or devices.unwritten(asked)
+        why = devices.failed(asked)
         raise Stop(why or outcome.complaint.strip().split("\n")[-1].removeprefix("meson: "))
     if outcome.status == BAD_WORDS:
         complaint = outcome.complaint.strip().replace("meson questions", "meson explain")
@@ -84,9 +82,10 @@ def explained(asked: Asked, fault: Fault) -> list[str]:
     text = text_of(asked, fault)
     try:
         found = detail_of(asked, fault, told_of(about(asked, fault) if fault.number in TOLD else ""), text)
-    except subprocess.TimeoutExpired:
+    except NoAnswer:
         found = detail("it takes too long to ask what stands there")
-    return [one_line(fault.shown()), *(shown(text, fault.line, found.at) if text is not None else []), *map(one_line, found.lines)]
+    source = shown(text, fault.line, found.at) if text is not None else []
+    return [one_line(fault.shown()), *source, *(as_called(one_line(it)) for it in found.lines)]
 
 
 def text_of(asked: Asked, fault: Fault) -> str | None:
@@ -97,8 +96,7 @@ def text_of(asked: Asked, fault: Fault) -> str | None:
         if fault.file == MACHINE:
             data = asked.machine or b""
         else:
-            with open(os.path.join(asked.root, fault.file), "rb") as it:
-                data = it.read()
+            data = read_bytes(os.path.join(asked.root, fault.file), DEFINITION)
     except OSError:
         return None
     return data.decode(errors="backslashreplace")
@@ -111,8 +109,10 @@ def detail_of(asked: Asked, fault: Fault, told: Told, text: str | None) -> Detai
         return settings.of_value(asked, told)
     if fault.file == MACHINE:
         return settings.of_machine(asked, fault, told) if fault.number in (15, 23) else of_machine(asked, fault, told)
+    if text is None and fault.number == 22:
+        return detail(TOO_LONG)
     if text is None:
-        return detail(f"the folder has no {fault.file}: `meson explain` is called in the folder of the sources, as `meson setup`")
+        return detail(f"the folder has no {fault.file}: run `meson explain` in the source directory, as `meson setup`")
     if len(text) > MOST_CHARACTERS:
         return detail(UNSEEN.get(fault.number, f"the file has more than {MOST_CHARACTERS:,} characters, and isn't looked at"))
     if fault.number in ON_TEXTS:
@@ -131,8 +131,7 @@ def of_machine(asked: Asked, fault: Fault, told: Told) -> Detail:
 def bytes_of(asked: Asked, fault: Fault) -> bytes:
     if fault.file == MACHINE:
         return asked.machine or b""
-    with open(os.path.join(asked.root, fault.file), "rb") as it:
-        return it.read()
+    return read_bytes(os.path.join(asked.root, fault.file), DEFINITION)
 
 
 def on_statement(asked: Asked, fault: Fault, told: Told, text: str) -> Detail:

@@ -1,7 +1,6 @@
 """What an explanation is made from."""
 from __future__ import annotations
 
-import dataclasses
 import json
 import os
 import re
@@ -10,11 +9,13 @@ from collections.abc import Iterator
 from porting import tree
 from porting.lexer import SyntaxFault
 from porting.parser import parse
+from tools import records as dataclasses
 from tools.explaining.place import Place
 from tools.explaining.probe import Probe
 from tools.explaining.run import Asked, Fault
 from tools.explaining.told import Told
 from tools.explaining.values import DICTIONARY, OWN, Value
+from tools.files import DEFINITION, read_text
 
 
 @dataclasses.dataclass
@@ -105,7 +106,6 @@ def statements_below(root: str) -> Iterator[tuple[str, tree.Statement]]:
 def read(path: str) -> str | None:
     """The text of a file of the sources, where it can be had."""
     try:
-        with open(path, "rb") as it:
-            return it.read().decode()
+        return read_text(path, DEFINITION)
     except (OSError, ValueError):
         return None

@@ -1,9 +1,11 @@
 """What is told of a fault, and how it is shown."""
 from __future__ import annotations
 
-import dataclasses
 import difflib
 from collections.abc import Iterable
+
+from porting.lexer import line_at
+from tools import records as dataclasses
 
 # How much of a text is shown, and of a line.
 LONGEST, WIDEST = 40, 400
@@ -39,10 +41,6 @@ def near(word: str, known: Iterable[str]) -> str:
     """The known name that is nearest, as the end of a sentence; nothing where none is near."""
     found = difflib.get_close_matches(word, sorted(set(known) - {word}), 1, 0.6)
     return f"; near: {quoted(found[0])}" if found else ""
-
-
-def line_at(text: str, at: int) -> int:
-    return text.count("\n", 0, at) + 1
 
 
 def shown(text: str, line: int, at: int | None) -> list[str]:

@@ -5,9 +5,9 @@ import re
 from collections.abc import Iterator
 
 from porting import tree
-from porting.lexer import TOKEN, SyntaxFault, Token, tokens_of
+from porting.lexer import TOKEN, SyntaxFault, Token, line_at, tokens_of
 from porting.parser import Parser
-from tools.explaining.detail import Detail, detail, line_at, named, quoted
+from tools.explaining.detail import Detail, detail, named, quoted
 from tools.explaining.place import with_loops
 
 WORD = re.compile(r"[A-Za-z_0-9]+|'''|f?'[^'\n]*'?|\S")

@@ -137,8 +137,8 @@ def of_statement(context: Context) -> Detail:
             for branch in on_line or [it for it in statement.branches if it.condition]:
                 if branch.condition:
                     what = said(context, branch.condition)
-                    return detail(f"the condition is {what}, and no truth value: of a text write != '', of a list .length() > 0",
-                                  at=branch.condition.start)
+                    way = "say .enabled()" if what.startswith("a feature option") else "of a text write != '', of a list .length() > 0"
+                    return detail(f"the condition is {what}, and no truth value: {way}", at=branch.condition.start)
         case tree.Foreach():
             names = "two names walk a dictionary" if len(statement.names) == 2 else "one name walks a list"
             return detail(f"foreach: {names}, and this is {said(context, statement.items)}", at=statement.items.start)

@@ -5,9 +5,11 @@ import os
 import re
 
 from porting import tree
+from porting.lexer import line_at
 from tools.explaining.context import Context
-from tools.explaining.detail import Detail, detail, line_at, listed, quoted
+from tools.explaining.detail import Detail, detail, listed, quoted
 from tools.explaining.values import TEXT, flat
+from tools.files import DEFINITION, read_text
 
 TARGETS = ("executable", "static_library", "shared_library", "library")
 MAKERS = (*TARGETS, "custom_target", "configure_file")
@@ -107,8 +109,7 @@ def made_before(context: Context, call: tree.Call, node: tree.Node | None, names
 
 
 def open_text(context: Context, path: str) -> str:
-    with open(os.path.join(context.asked.root, path), encoding="utf-8", newline="") as it:
-        return it.read()
+    return read_text(os.path.join(context.asked.root, path), DEFINITION)
 
 
 def folder(context: Context) -> Detail:

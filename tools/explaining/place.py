@@ -1,13 +1,12 @@
 """The statement of a file that a fault's line belongs to, and its nodes."""
 from __future__ import annotations
 
-import dataclasses
 from collections.abc import Iterator
 
 from porting import tree
-from porting.lexer import SyntaxFault
+from porting.lexer import Lines, SyntaxFault, line_at
 from porting.parser import parse
-from tools.explaining.detail import line_at
+from tools import records as dataclasses
 
 
 @dataclasses.dataclass(frozen=True)
@@ -45,11 +44,10 @@ def with_loops(body: list[tree.Statement], is_in_loop: bool) -> Iterator[tuple[t
             yield from with_loops(inner, is_in_loop or isinstance(statement, tree.Foreach))
 
 
-def head_lines(text: str, statement: tree.Statement) -> tuple[int, int]:
-    """The first and last line of a statement, without those of its body."""
+def head_end(statement: tree.Statement) -> int:
+    """Where a statement ends without its body."""
     ends = [it.end for it in tree.expressions_of(statement)]
-    last = max(ends, default=statement.end)
-    return line_at(text, statement.start), line_at(text, max(last, statement.start))
+    return max(max(ends, default=statement.end), statement.start)
 
 
 def place_of(file: str, text: str, line: int) -> Place | None:
@@ -58,7 +56,8 @@ def place_of(file: str, text: str, line: int) -> Place | None:
         body = parse(text)
     except (SyntaxFault, RecursionError):
         return None
-    fitting = [it for it in tree.statements_in(body) if head_lines(text, it)[0] <= line <= head_lines(text, it)[1]]
+    lines = Lines(text)
+    fitting = [it for it in tree.statements_in(body) if lines.at(it.start) <= line <= lines.at(head_end(it))]
     if not fitting:
         return None
     return Place(file, text, line, body, fitting[-1])

@@ -117,7 +117,7 @@ class Probe:
         came = self.outcome([*edits, (self.begin, self.begin, f"{COUNT}_all = 0\n")])
         if came.fault is None or came.fault.number != self.number:
             return []
-        keys = [json.loads(it)["key"] or "" for it in came.asked.splitlines()]
+        keys = [json.loads(it)["key"] or "" for it in came.asked.split("\n") if it]
         found = [it.removeprefix(f"sizeof {MARK} ").split(" ", 2) for it in keys if it.startswith(f"sizeof {MARK} ")]
         return [(nodes[int(number)][1], text) for _, number, text in found]
 

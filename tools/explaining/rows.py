@@ -1,8 +1,8 @@
 """What functions and methods have and take, for words of explanations: keywords and kinds of values."""
 from __future__ import annotations
 
-import dataclasses
 
+from tools import records as dataclasses
 from tools.explaining.values import DICTIONARY, INTEGER, LIST, OBJECT, TEXT, TRUTH, Value, flat
 
 

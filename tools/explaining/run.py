@@ -2,15 +2,15 @@
 from __future__ import annotations
 
 import contextlib
-import dataclasses
 import os
 import re
-import subprocess
 import tempfile
 import time
 from collections.abc import Iterator
 
-from tools.last_setup import build_folder_of
+from tools import records as dataclasses
+from tools.asking.processes import MOST_TOLD, NoAnswer, run
+from tools.last_setup import build_folder_of, settings_of
 from tools.links import linked_copy
 
 FAULT = re.compile(r"(.+?):(\d+): ERROR: E(\d+) ?(.*)", re.S)
@@ -65,32 +65,7 @@ class Asked:
 
     def settings(self) -> list[str]:
         """The words `-D..`, as the program counts them, without `-D`."""
-        found, waiting = [], iter(self.words)
-        for word in waiting:
-            if word == "--":
-                break
-            if word == "-D":
-                found += [next(waiting, "")]
-            elif word.startswith("-D"):
-                found.append(word[2:].removeprefix("="))
-            elif word == "--native-file":
-                next(waiting, None)
-        return found
-
-
-def machine_path(words: list[str]) -> str | None:
-    """The path of the machine file among the words."""
-    waiting, path = iter(words), None
-    for word in waiting:
-        if word == "--":
-            break
-        if word == "-D":
-            next(waiting, None)
-        elif word == "--native-file":
-            path = next(waiting, None)
-        elif word.startswith("--native-file="):
-            path = word.partition("=")[2]
-    return path
+        return settings_of(self.words)
 
 
 def with_machine(words: list[str], path: str) -> list[str]:
@@ -111,7 +86,7 @@ def with_machine(words: list[str], path: str) -> list[str]:
 
 def questions(asked: Asked, folder: str, scratch: str, task: str = "questions") -> Outcome:
     """What the program says of a folder, which it writes nothing in: the fault that `setup` would end in, and what was asked before; of
-    the task `fault` what that is about in place of what was asked.
+    the task `fault` what that is about in place of what was asked. A NoAnswer where it can't be run, or says too much.
 
     The bytes of the machine file stand in a file of their own, since they may have come through a pipe.
     """
@@ -121,12 +96,13 @@ def questions(asked: Asked, folder: str, scratch: str, task: str = "questions") 
         with open(path, "wb") as it:
             it.write(asked.machine)
         words = with_machine(words, path)
-    done = subprocess.run(["meson", task, *words], executable=asked.program, cwd=folder, stdin=subprocess.DEVNULL,
-                          capture_output=True, timeout=LONGEST)
-    told, complaint = (it.decode(errors="backslashreplace") for it in (done.stdout, done.stderr))
-    found = FAULT.fullmatch(complaint.removesuffix("\n"))
-    fault = Fault(found[1], int(found[2]), int(found[3]), found[4], told) if found and done.returncode == 1 else None
-    return Outcome(done.returncode, fault, told, complaint)
+    done = run(["meson", task, *words], folder, asked.program, seconds=LONGEST, variables=dict(os.environ), errors="backslashreplace",
+               most=MOST_TOLD)
+    if done.status is None:
+        raise NoAnswer(done.said)
+    found = FAULT.fullmatch(done.said.removesuffix("\n"))
+    fault = Fault(found[1], int(found[2]), int(found[3]), found[4], done.printed) if found and done.status == 1 else None
+    return Outcome(done.status, fault, done.printed, done.said)
 
 
 def in_place(asked: Asked) -> Outcome:

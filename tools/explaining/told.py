@@ -1,10 +1,10 @@
 """What the program tells that a fault is about, as `meson fault` does, and where that stands in a call."""
 from __future__ import annotations
 
-import dataclasses
 import re
 
 from porting import tree
+from tools import records as dataclasses
 from tools.explaining.detail import WIDEST
 
 # The forms of what is told: what it is about, and what is so of that.

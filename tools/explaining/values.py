@@ -1,8 +1,8 @@
 """What values are, by the text that they are printed as inside of a list."""
 from __future__ import annotations
 
-import dataclasses
 
+from tools import records as dataclasses
 from tools.explaining.detail import quoted
 
 TEXT, INTEGER, TRUTH, LIST, DICTIONARY, OBJECT = "text", "integer", "truth value", "list", "dictionary", "object"

@@ -9,9 +9,10 @@ import tempfile
 from collections.abc import Iterator
 
 from tools.asking.checks import number
-from tools.asking.compiler import Compiler, Flags, can_ask
+from tools.asking.compiler import Compiler, Flags
 from tools.asking.dependencies import dependency
 from tools.ending import Stop
+from tools.files import DEFINITION, read_text
 
 from porting import tree
 from porting.commands import spoken
@@ -93,7 +94,7 @@ def question_of(project: Project, site: Site) -> str:
 def answer_of(project: Project, site: Site, text: str) -> bool | int | str:
     """What the compiler says of a question."""
     with tempfile.TemporaryDirectory() as scratch:
-        compiler = Compiler(scratch)
+        compiler = Compiler(scratch, project.root)
         prefix = prefix_of(project, site)
         flags = flags_of(project, site, compiler)
         if site.call.name == "get_define":
@@ -119,9 +120,8 @@ def file_of(project: Project, site: Site) -> str:
 
 def read(path: str) -> str | None:
     try:
-        with open(path, encoding="utf-8") as it:
-            return it.read()
-    except (OSError, UnicodeDecodeError):
+        return read_text(path, DEFINITION)
+    except OSError:
         return None
 
 
@@ -137,8 +137,8 @@ def flags_of(project: Project, site: Site, compiler: Compiler) -> Flags:
     """The words of a check: its arguments, its folders, and what its dependencies give."""
     words = site.call.keywords
     args = texts_at(project, words["args"].value) if "args" in words else []
-    if args is None or not all(map(can_ask, args)):
-        raise NotFollowed("its arguments are not known here, or such that the compiler could write elsewhere")
+    if args is None or compiler.allowed.refused(args) is not None:
+        raise NotFollowed("its arguments are not known here, or with them the compiler could do more than read code")
     compile_args: list[str] = []
     link_args: list[str] = []
     for thing in things_at(project, words.get("dependencies")):

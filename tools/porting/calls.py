@@ -10,7 +10,7 @@ from porting.lexer import escaped
 from porting.project import Project, Site
 from porting.rule import (REAL_ALONE, assigned_name, before_statement, can_hoist, free_name, guarded,
                           is_whole_statement, renamed, replaced, text_of)
-from porting.values import Many, Table, Thing, flat, kind_of
+from porting.values import ROOT, UNKNOWN, Item, Many, Table, Thing, flat, kind_of
 
 OBJECTS_FOUND = ("dependency", "library", "internal", "program")
 RENAMED = {"add_global_arguments": "add_project_arguments", "add_global_link_arguments": "add_project_link_arguments",
@@ -136,6 +136,20 @@ def lists_in_calls(project: Project) -> Iterator[Change]:
             items = arguments[0].items
             yield site.change(f"{site.call.name}: takes its texts one by one",
                               replaced(site, arguments[0], site.file.text[items[0].start:items[-1].end]))
+        elif len(arguments) == 1 and site.call.name == "join_paths":
+            is_list = kind_of(project.known.value(arguments[0])) == "list" and isinstance(arguments[0], (tree.Name, tree.Index))
+            if is_list and all(is_joined_plainly(it.arguments[0]) for it in project.known.things[site.call]):
+                text = f"'/'.join({site.file.source(arguments[0])})"
+                yield site.change("join_paths: of a list is its texts with slashes between", replaced(site, site.call, text))
+
+
+def is_joined_plainly(value: object) -> bool:
+    """Whether a list is a path's parts, of which none after the first begins at the root of the disk; the first may be any text."""
+    first, *rest = flat(value) or [Item(UNKNOWN)]
+    texts = [it.value for it in [first, *rest]]
+    return (all(it.is_sure for it in [first, *rest]) and kind_of(first.value) == "text"
+            and all(isinstance(it, str) and not it.startswith(("/", ROOT)) for it in texts[1:])
+            and not any(isinstance(it, str) and it.endswith("/") for it in texts[:-1]))
 
 
 def files_of_files(project: Project) -> Iterator[Change]:

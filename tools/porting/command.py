@@ -1,38 +1,54 @@
 """The command `meson port`: its words, its order, what it prints and writes."""
 from __future__ import annotations
 
-import argparse
+import contextlib
 import difflib
 import os
+import re
 import sys
-import tempfile
 
+from porting.build import first_failure
 from porting.edits import Change
+from porting.journal import Journal, locked
 from porting.left import Left, left_in
 from porting.project import Project, Unreadable
+from porting.real import real_meson, refusal
 from porting.rule import Rule
 from porting.table import BY_NAME, RULES
-from porting.trial import first_fault, program_of
+from porting.trial import first_fault, machine_file, program_of
+from tools.ending import Stop, one_line, show
+from tools.words import Parser
 
+TYPE_CHECKING = False
+if TYPE_CHECKING:
+    from tools.words import Given
+
+SCRIPT, BAD_WORDS = "meson port", 2
 # How often a rule is tried again over what it has changed.
 MOST_PASSES = 200
 
 
-def arguments(doc: str | None, given: list[str] | None) -> argparse.Namespace:
-    parser = argparse.ArgumentParser(prog="meson port", description=doc, formatter_class=argparse.RawDescriptionHelpFormatter)
-    parser.error = lambda message: parser.exit(2, f"meson port: {message} (--help says more)\n")
+def arguments(doc: str | None, given: list[str] | None) -> Given:
+    parser = Parser(SCRIPT, doc or "", BAD_WORDS)
     parser.add_argument("source", metavar="SOURCE-DIR", nargs="?", help="the folder of the project's meson.build")
-    parser.add_argument("--dry-run", action="store_true", help="show the changes as a unified diff, and write nothing")
+    parser.add_argument("--dry-run", action="store_true",
+                        help="print the changes as a patch, write nothing, and say the rest on the standard error")
     parser.add_argument("--run", action="store_true", help="run what the project runs while configuring, and write down what it says")
     parser.add_argument("--only", metavar="RULE", action="append", default=[], help="carry out this rule alone; may be given again")
-    parser.add_argument("--also", metavar="RULE", action="append", default=[], help="carry out a rule that has to be asked for, too")
+    parser.add_argument("--also", metavar="RULE", action="append", default=[],
+                        help="carry out a rule that has to be asked for, too; `--also help` lists these")
+    parser.add_argument("--all", action="store_true", help="carry out every rule that keeps what is built and installed")
     parser.add_argument("--list-rules", action="store_true", help="list the rules, and do nothing")
-    parser.add_argument("--program", metavar="PATH", help="the program that is asked at the end; without it the one of this checkout")
-    parser.add_argument("--no-trial", action="store_true", help="don't ask the program at the end")
+    parser.add_argument("--program", metavar="PATH", help="the program that is asked at the end; without it the one of this command")
+    parser.add_argument("--no-trial", action="store_true", help="ask neither the program nor the real Meson at the end")
+    parser.add_argument("--no-real", action="store_true", help="don't ask the real Meson at the end, where it is installed")
+    parser.add_argument("--no-build", action="store_true", help="don't build the result at the end")
     parser.add_argument("-D", metavar="NAME=VALUE", action="append", default=[], dest="options", help="a word for the run at the end")
     words = parser.parse_args(given)
     for name in words.only + words.also:
-        if name not in BY_NAME:
+        if name == "help" and name in words.also:
+            words.list_rules = True
+        elif name not in BY_NAME:
             parser.error(f"there is no rule {name!r}; --list-rules lists them")
     if words.source is None and not words.list_rules:
         parser.error("a SOURCE-DIR is wanted")
@@ -41,16 +57,21 @@ def arguments(doc: str | None, given: list[str] | None) -> argparse.Namespace:
     return words
 
 
-def list_rules() -> None:
-    width = max(len(it.name) for it in RULES)
-    for rule in RULES:
-        print(f"{rule.name:{width}}  {'' if rule.is_sure else 'asked for: '}{rule.does}")
+def tell(text: str) -> None:
+    """Shows a line, in which a name of the project can't be more than a name."""
+    show(one_line(text))
 
 
-def chosen(words: argparse.Namespace) -> list[Rule]:
+def list_rules(rules: list[Rule]) -> None:
+    width = max(len(it.name) for it in rules)
+    for rule in rules:
+        tell(f"{rule.name:{width}}  {'' if rule.is_sure else 'asked for: '}{rule.does}")
+
+
+def chosen(words: Given) -> list[Rule]:
     if words.only:
         return [it for it in RULES if it.name in words.only]
-    return [it for it in RULES if it.is_sure or it.name in words.also]
+    return [it for it in RULES if it.is_sure or it.name in words.also or words.all and it.keeps]
 
 
 def carry_out(project: Project, rules: list[Rule]) -> None:
@@ -59,6 +80,10 @@ def carry_out(project: Project, rules: list[Rule]) -> None:
         before = len(project.done)
         for rule in rules:
             for _ in range(MOST_PASSES):
+                if project.has_spent_all:
+                    project.said.append("the definitions take too many steps to follow: not all changes were tried; "
+                                        "run this again to go on")
+                    return
                 if not project.make(rule.name, found_by(rule, project)):
                     break
         if len(project.done) == before:
@@ -78,102 +103,128 @@ def found_by(rule: Rule, project: Project) -> list[Change]:
         return []
 
 
-def show_changes(project: Project, is_dry: bool) -> None:
+def show_patch(project: Project) -> None:
+    """The changes as a patch, which is all that a dry run writes to the standard output."""
+    for path, (before, after) in project.results().items():
+        old, new = (re.findall(r"[^\n]*\n|[^\n]+", text) for text in (before or "", after))
+        for line in difflib.unified_diff(old, new, f"a/{path}" if before is not None else "/dev/null", f"b/{path}"):
+            show(line_of_diff(line.removesuffix("\n")) + ("" if line.endswith("\n") else "\n\\ No newline at end of file"))
+
+
+def show_changes(project: Project) -> None:
     results = project.results()
-    if is_dry:
-        for path, (before, after) in results.items():
-            old, new = (text.splitlines(keepends=True) for text in (before or "", after))
-            for line in difflib.unified_diff(old, new, f"a/{path}" if before is not None else "/dev/null", f"b/{path}"):
-                print(line if line.endswith("\n") else line + "\n\\ No newline at end of file\n", end="")
-        return
     for it in sorted(project.done, key=lambda it: (it.path, it.line)):
-        print(f"{it.path}:{it.line}: {it.rule}: {it.what}")
+        tell(f"{it.path}:{it.line}: {it.rule}: {it.what}")
     for path, (before, _) in results.items():
         if before is None:
-            print(f"{path}: new")
+            tell(f"{path}: new")
+
+
+def line_of_diff(line: str) -> str:
+    """A line of a diff as a terminal shows it: what would steer that is written as an escape."""
+    body = line.removesuffix("\r")
+    return "\t".join(map(one_line, body.split("\t"))) + line[len(body):]
 
 
 def show_left(project: Project) -> list[Left]:
     left = left_in(project)
     for path, line, text in sorted({(it.path, it.line, it.what) for it in project.notes}):
-        print(f"note: {path}:{line}: {text}")
+        tell(f"note: {path}:{line}: {text}")
+    for path, why in sorted(project.outside.items()):
+        tell(f"left: {path}: {why}")
     for it in sorted(left, key=lambda it: (it.path, it.line)):
-        print(f"left: {it.path}:{it.line}: {it.text}{'' if it.is_sure else ' (in a branch that an option or the machine decides)'}")
+        tell(f"left: {it.path}:{it.line}: {it.text}{'' if it.is_sure else ' (in a branch that an option or the machine decides)'}")
     return left
 
 
 def write(project: Project) -> None:
-    """All changed files are written beside their places, and renamed to them once all are whole."""
-    beside: list[tuple[str, str]] = []
-    try:
-        for path, (before, text) in project.results().items():
-            place = os.path.realpath(os.path.join(project.root, path))
-            mode = os.stat(place).st_mode & 0o7777 if before is not None else 0o666 & ~current_umask()
-            handle, name = tempfile.mkstemp(prefix=os.path.basename(place) + ".", suffix=".new~", dir=os.path.dirname(place))
-            beside.append((name, place))
-            with os.fdopen(handle, "w", encoding="utf-8", newline="") as it:
-                it.write(text)
-            os.chmod(name, mode)
-        while beside:
-            os.replace(*beside[0])
-            beside.pop(0)
-    finally:
-        for name, _ in beside:
-            os.unlink(name)
+    """All changed files are put in their places, or none."""
+    encoded = lambda text: None if text is None else text.encode()
+    texts = {path: (encoded(before), after.encode()) for path, (before, after) in project.results().items()}
+    if texts:
+        Journal(project.root).put(texts)
 
 
-def current_umask() -> int:
-    mask = os.umask(0)
-    os.umask(mask)
-    return mask
+def try_out(project: Project, words: Given) -> int:
+    """What the program and the real Meson say of the result; the status."""
+    if words.no_trial:
+        tell("the program was not asked")
+        return 0
+    return max(ask_program(project, words), ask_real(project, words))
 
 
-def try_out(project: Project, words: argparse.Namespace) -> int:
-    """What the program says of the result; the status."""
+def ask_program(project: Project, words: Given) -> int:
+    """What the program says of the result, and what comes of a build; the status."""
     program = program_of(words.program)
-    if words.no_trial or program is None:
-        print("the program was not asked" + ("" if words.no_trial else ": it isn't built (--program names another)"))
+    if program is None:
+        tell("the program was not asked: it isn't built (--program names another)")
         return 0
     unwritten = {path: text for path, (_, text) in project.results().items()} if words.dry_run else {}
-    fault = first_fault(program, project.root, unwritten, [f"-D{it}" for it in words.options], lambda text: print(f"note: {text}"))
-    print("meson setup takes the result" if fault is None else f"meson setup stops at: {fault}")
-    return 0 if fault is None else 1
+    options = [f"-D{it}" for it in words.options]
+    fault = first_fault(program, project.root, unwritten, options, lambda text: tell(f"note: {text}"))
+    tell("meson setup takes the result" if fault is None else f"meson setup stops at: {fault}")
+    if fault is not None or words.no_build:
+        return 0 if fault is None else 1
+    machine = machine_file(program, project.root, options)
+    text, is_good = first_failure(program, project.root, unwritten, options, machine, words.run)
+    tell(text)
+    return 0 if is_good else 1
+
+
+def ask_real(project: Project, words: Given) -> int:
+    """What the real Meson says of the result where it took the sources before; the status."""
+    results = project.results()
+    meson = real_meson() if results and not words.no_real else None
+    if meson is None:
+        return 0
+    if not words.run:
+        tell("the real Meson was not asked: it runs commands of the project: --run allows that")
+        return 0
+    options = [f"-D{it}" for it in words.options]
+    why = refusal(meson, project.root, {path: text for path, (_, text) in results.items()}, options)
+    if why is None:
+        tell("the real Meson takes the result")
+        return 0
+    old = refusal(meson, project.root, {path: text or "" for path, (text, _) in results.items()}, options)
+    tell(f"the real Meson refuses the result: {why}" if old is None else f"the real Meson refuses the sources as they were: {old}")
+    return 1 if old is None else 0
 
 
 def main(doc: str | None, given: list[str] | None = None) -> int:
     """The command over these words, else over those of the program; its status."""
-    try:
-        return carried_out(arguments(doc, given))
-    except BrokenPipeError:
-        os.dup2(os.open(os.devnull, os.O_WRONLY), sys.stdout.fileno())
-        return 1
-    except KeyboardInterrupt:
-        print("meson port: interrupted", file=sys.stderr)
-        return 130
-
-
-def carried_out(words: argparse.Namespace) -> int:
+    words = arguments(doc, given)
     if words.list_rules:
-        list_rules()
+        list_rules([it for it in RULES if not it.is_sure or "help" not in words.also])
         return 0
+    with locked(words.source):
+        return carried_out(words)
+
+
+def carried_out(words: Given) -> int:
+    recovered = Journal(words.source).recover()
+    if recovered:
+        tell(recovered)
     try:
         project = Project(words.source)
         project.is_asked_to_run = words.run
         carry_out(project, chosen(words))
     except Unreadable as why:
-        print(f"meson port: {why}", file=sys.stderr)
-        return 1
+        raise Stop(str(why)) from why
+    if words.dry_run:
+        show_patch(project)
+    # All that is said of a patch is no part of it.
+    with contextlib.redirect_stdout(sys.stderr if words.dry_run else sys.stdout):
+        return tell_and_write(project, words)
+
+
+def tell_and_write(project: Project, words: Given) -> int:
+    """Says what was changed and what is left, writes it, and asks the program about the result; the status."""
     for line in project.said:
-        print(line)
-    show_changes(project, words.dry_run)
+        tell(line)
+    show_changes(project)
     if not project.done:
-        print("nothing to change")
+        tell("nothing to change")
     show_left(project)
-    sys.stdout.flush()
-    try:
-        if not words.dry_run:
-            write(project)
-        return try_out(project, words)
-    except OSError as error:
-        print(f"meson port: {error.filename or words.source}: {error.strerror}", file=sys.stderr)
-        return 1
+    if not words.dry_run:
+        write(project)
+    return try_out(project, words)

@@ -8,11 +8,16 @@ import shutil
 import subprocess
 from collections.abc import Iterator
 
+from tools import files
+from tools.asking import processes
+from tools.variables import pkg_config
+
 from porting import tree
 from porting.edits import Change
 from porting.lexer import escaped
 from porting.options import declared, option_name, with_option
 from porting.project import Project, Site
+from porting.rounds import known_parts
 from porting.rule import assigned_name, identifier, replaced, text_of, texts_at, uses_of
 from porting.scripts import interpreter_of
 from porting.values import ROOT, Item, Thing, choices_of, flat, kind_of
@@ -21,6 +26,9 @@ from porting.values import ROOT, Item, Thing, choices_of, flat, kind_of
 LONGEST = 60
 # A text of more bytes than this is not written into a definition file.
 LARGEST = 1 << 20
+# In a loop of more rounds than these no command is run.
+MOST_ROUNDS = 64
+MARK = "/value-of-the-project"  # stands for a value that a project gives to a variable of a .pc file
 QUESTIONS = {"exists": os.path.exists, "is_file": os.path.isfile, "is_dir": os.path.isdir, "is_symlink": os.path.islink}
 NOT_ASKED = "needs to be run once: --run does that, and writes what it says"
 
@@ -29,11 +37,15 @@ def spoken(project: Project, text: str) -> None:
     project.said.append(text)
 
 
-def command_words(project: Project, site: Site) -> list[str] | None:
-    """The words of a run_command, or none where one is not known here."""
+class NotRun(Exception):
+    """A command that can't be run or written down here; the text says why."""
+
+
+def words_of(project: Project, site: Site, values: list[object]) -> list[str] | None:
+    """The words of a run_command with these arguments, or none where one is not known here."""
     words: list[str] = []
-    for number, node in enumerate(site.call.arguments):
-        for item in flat(project.known.placed(node)):
+    for number, value in enumerate(values):
+        for item in flat(value):
             word = word_of(project, site, item, number == 0 and not words)
             if word is None:
                 return None
@@ -70,13 +82,22 @@ def run(project: Project, words: list[str], folder: str) -> subprocess.Completed
     if key not in project.runs:
         spoken(project, f"ran: {shlex.join(words)}")
         variables = dict(os.environ, MESON_SOURCE_ROOT=os.path.abspath(project.root), MESON_SUBDIR=os.path.relpath(folder, project.root))
+        project.runs[key] = None
         try:
-            project.runs[key] = subprocess.run(words, cwd=folder, env=variables, stdin=subprocess.DEVNULL, capture_output=True,
-                                               encoding="utf-8", errors="strict", timeout=LONGEST)
-        except (OSError, subprocess.TimeoutExpired, UnicodeDecodeError) as error:
+            done = processes.run(words, folder, seconds=LONGEST, variables=variables, errors="strict")
+        except (processes.NoAnswer, UnicodeDecodeError) as error:
             spoken(project, f"ran: {words[0]}: {error}")
-            project.runs[key] = None
+            return None
+        if done.status is None:
+            spoken(project, f"ran: {done.said}")
+        else:
+            project.runs[key] = subprocess.CompletedProcess(words, done.status, in_lines(done.printed), in_lines(done.said))
     return project.runs[key]
+
+
+def in_lines(text: str) -> str:
+    """A text whose lines end as those of Linux do, as the real Meson reads it."""
+    return text.replace("\r\n", "\n").replace("\r", "\n")
 
 
 def run_command(project: Project) -> Iterator[Change]:
@@ -85,19 +106,47 @@ def run_command(project: Project) -> Iterator[Change]:
         if not project.is_asked_to_run:
             project.doubt(site, f"run_command {NOT_ASKED}")
             continue
-        words = None if "env" in site.call.keywords else command_words(project, site)
-        done = run(project, words, os.path.join(project.root, site.folder)) if words else None
-        if done is None or len(done.stdout) + len(done.stderr) > LARGEST:
-            project.doubt(site, "run_command: its words can't be followed" if words is None else "run_command: it can't be run here")
+        try:
+            change = answered(project, site, answers_of(project, site))
+        except NotRun as why:
+            project.doubt(site, f"run_command: {why}")
             continue
-        check = site.call.keywords.get("check")
-        if done.returncode != 0 and check is not None and project.known.value(check.value) is True:
-            project.doubt(site, f"run_command: it fails here, with status {done.returncode}: {done.stderr.strip()[:200]!r}")
-            continue
-        answers = {"returncode": str(done.returncode), "stdout": escaped(done.stdout), "stderr": escaped(done.stderr)}
-        change = answered(project, site, answers)
         if change is not None:
             yield change
+
+
+def answers_of(project: Project, site: Site) -> dict[str, str]:
+    """What the methods of a result give, by their names; in a loop by what is another text in each round."""
+    rounds = project.known.things[site.call]
+    commands = [words_of(project, site, it.arguments) for it in rounds[:MOST_ROUNDS]]
+    if "env" in site.call.keywords or len(rounds) > MOST_ROUNDS or None in commands:
+        raise NotRun("its words can't be followed")
+    done = [outcome(project, site, it) for it in commands if it]
+    texts = {"returncode": [str(it.returncode) for it in done], "stdout": [escaped(it.stdout) for it in done],
+             "stderr": [escaped(it.stderr) for it in done]}
+    return {name: by_round(site, rounds, it) for name, it in texts.items()}
+
+
+def outcome(project: Project, site: Site, words: list[str]) -> subprocess.CompletedProcess[str]:
+    """What a command comes to, where that can be written down."""
+    done = run(project, words, os.path.join(project.root, site.folder))
+    if done is None or len(done.stdout) + len(done.stderr) > LARGEST:
+        raise NotRun("it can't be run here")
+    check = site.call.keywords.get("check")
+    if done.returncode != 0 and check is not None and project.known.value(check.value) is True:
+        raise NotRun(f"it fails here, with status {done.returncode}: {done.stderr.strip()[:200]!r}")
+    return done
+
+
+def by_round(site: Site, rounds: list[Thing], texts: list[str]) -> str:
+    """The expression that is each of these texts in its round."""
+    if len(set(texts)) == 1:
+        return texts[0]
+    for source, values in known_parts(site, rounds):
+        table = dict(zip(values, texts))
+        if [table[it] for it in values] == texts:
+            return f"{{{', '.join(f'{escaped(key)}: {text}' for key, text in table.items())}}}[{source}]"
+    raise NotRun("it is another command in rounds that no text tells apart")
 
 
 def answered(project: Project, site: Site, answers: dict[str, str]) -> Change | None:
@@ -164,13 +213,12 @@ def read_text(project: Project, site: Site, node: tree.Node) -> str | None:
         project.doubt(site, f"the text of a file is wanted here, which {NOT_ASKED}")
         return None
     try:
-        with open(path or "", encoding="utf-8", newline="") as it:
-            text = it.read(LARGEST + 1)
-    except (OSError, UnicodeDecodeError) as error:
+        text = files.read_text(path or "", LARGEST)
+    except OSError as error:
         project.doubt(site, f"the text of a file is wanted here, which can't be read: {error}")
         return None
     spoken(project, f"read: {os.path.relpath(path or '', project.root)}")
-    return text if len(text) <= LARGEST else None
+    return text
 
 
 def asked_files(project: Project) -> Iterator[Change]:
@@ -188,14 +236,14 @@ def asked_files(project: Project) -> Iterator[Change]:
 
 
 def texts_of_rounds(project: Project, site: Site) -> list[str]:
-    """The absolute paths of which a call is given one in each round of a loop; none where not all are known."""
+    """The paths of which a call is given one in each round of a loop; none where not all are known."""
     texts = choices_of(project.known.value(site.call.arguments[0])) if site.call.arguments else ()
-    return [str(it) for it in texts] if all(isinstance(it, str) and it.startswith("/") for it in texts) else []
+    return [str(it) for it in texts] if all(isinstance(it, str) for it in texts) else []
 
 
 def answer_of_several(project: Project, site: Site, texts: list[str]) -> str:
     """Whether the path of a round is one of those that are there."""
-    there = [it for it in texts if QUESTIONS[site.call.name](it)]
+    there = [it for it in texts if QUESTIONS[site.call.name](os.path.join(project.root, site.folder, it))]
     if len(there) in (0, len(texts)):
         return str(bool(there)).lower()
     return f"({grouped(site)} in [{', '.join(map(escaped, there))}])"
@@ -208,8 +256,7 @@ def answer_of(project: Project, site: Site, path: str) -> str | None:
         if site.call.name == "size":
             return str(os.path.getsize(path))
         kind = text_of(project, site.call.arguments[1]) if len(site.call.arguments) > 1 else None
-        with open(path, "rb") as it:
-            return escaped(hashlib.new(kind or "", it.read()).hexdigest())
+        return escaped(hashlib.new(kind or "", files.read_bytes(path)).hexdigest())
     except (OSError, ValueError):
         return None
 
@@ -219,7 +266,9 @@ def path_methods(project: Project) -> Iterator[Change]:
     for site in module_sites(project, "fs", "name", "stem", "parent", "replace_suffix", "is_absolute", "as_posix", "suffix"):
         arguments = [project.known.value(it) for it in site.call.arguments]
         name = site.call.name
-        if arguments and all(isinstance(it, str) for it in arguments):
+        if len(arguments) != 1 + (name == "replace_suffix"):
+            continue
+        if all(isinstance(it, str) for it in arguments):
             yield site.change(f"fs.{name} becomes its text", replaced(site, site.call, text_answer(name, *arguments)))
         elif name in ("name", "stem") and kind_of(arguments[0]) == "text":
             text = grouped(site)
@@ -261,6 +310,11 @@ def variables(project: Project) -> Iterator[Change]:
         if not project.is_asked_to_run or name is None or package is None:
             project.doubt(site, f"{site.call.name} of a dependency {NOT_ASKED if not project.is_asked_to_run else 'can not be followed'}")
             continue
+        if definition_of(site) is not None and texts_at(project, definition_of(site)) is None:
+            change = variable_below(project, site, package, name)
+            if change is not None:
+                yield change
+            continue
         program = program_of_variable(project, site, package, name)
         if program is not None:
             yield site.change(f"{site.call.name} of a program that PATH has becomes its name", replaced(site, site.call, escaped(program)))
@@ -276,6 +330,34 @@ def variables(project: Project) -> Iterator[Change]:
             text = f"option('{option}', type: 'string', value: {escaped(value)}, description: {escaped(description)})\n"
             change.edits.append(with_option(project, text))
         yield change
+
+
+def definition_of(site: Site) -> tree.Node | None:
+    """The list of a keyword that gives variables other values."""
+    word = site.call.keywords.get("pkgconfig_define") or site.call.keywords.get("define_variable")
+    return word.value if word else None
+
+
+def variable_below(project: Project, site: Site, package: str, name: str) -> Change | None:
+    """A variable whose text begins with another one, to which the project gives a value: that value, and an option for the rest."""
+    node = tree.plain(definition_of(site)) if definition_of(site) else None
+    key = text_of(project, node.items[0]) if isinstance(node, tree.List) and len(node.items) == 2 else None
+    if not isinstance(node, tree.List) or key is None:
+        project.doubt(site, f"{site.call.name}: `pkgconfig_define:` can not be followed: an option")
+        return None
+    done = run(project, [*pkg_config(), f"--variable={name}", f"--define-variable={key}={MARK}", package], project.root)
+    rest = done.stdout.strip().removeprefix(MARK + "/") if done is not None and done.returncode == 0 else MARK
+    if MARK in rest or rest == "" or rest.startswith("/"):
+        project.doubt(site, f"{site.call.name}: the variable {name} of {package} is none below {key}: an option")
+        return None
+    description = f"The variable {name} of {package}, below its {key}"
+    option = option_name(project, f"{identifier(package)}_{identifier(name)}", description)
+    text = f"({site.file.source(node.items[1])}) / get_option('{option}')"
+    change = site.change(f"{site.call.name} becomes the option {option}", replaced(site, site.call, f"({text})"))
+    if declared(project, option) is None:
+        line = f"option('{option}', type: 'string', value: {escaped(rest)}, description: {escaped(description)})\n"
+        change.edits.append(with_option(project, line))
+    return change
 
 
 def program_of_variable(project: Project, site: Site, package: str, name: str) -> str | None:
@@ -297,10 +379,6 @@ def lack_of_variable(project: Project, package: str, name: str) -> str:
         return f"pkg-config has no variable {name} of {package}"
     return (f"the variable {name} of {package} is not known, as pkg-config has no {package}: install it and run this again, "
             "or write an option")
-
-
-def pkg_config() -> list[str]:
-    return shlex.split(os.environ.get("PKG_CONFIG") or "pkg-config")
 
 
 def variable_name(project: Project, site: Site) -> str | None:

@@ -48,14 +48,6 @@ def type_name(value: object) -> str | None:
     return "pkgconfig" if names and names[0] not in ("threads", "openmp", "dl", "") else None
 
 
-def dependency_link_whole(project: Project) -> Iterator[Change]:
-    for site in project.functions("declare_dependency"):
-        word = site.call.keywords.get("link_whole")
-        if word is not None and "link_with" not in site.call.keywords:
-            edit = (word.start, word.start + len("link_whole"), "link_with")
-            yield site.change("declare_dependency: `link_whole:` becomes `link_with:`", edit)
-
-
 def static_libraries(project: Project, site: Site) -> list[str]:
     """How the static libraries are named at a call that are linked there, by `link_with:` or by dependencies that the project declares."""
     rounds = project.known.things[site.call]

@@ -1,9 +1,9 @@
 """Changes of a text that keep all bytes outside of them, and the line of the first text that each line came from."""
 from __future__ import annotations
 
-import dataclasses
 
 from porting import tree
+from tools import records as dataclasses
 
 BLANKS = " \t\r"
 
@@ -58,8 +58,9 @@ def without_item(text: str, call: tree.Call, item: tree.Node) -> tuple[int, int]
     if text[begun:item.start].strip() == "" and begun > call.opened and is_blank_or_comment(text[ended:line_end(text, ended)]):
         return begun, line_end(text, ended)
     if number + 1 < len(items):
-        same_line = "\n" not in text[ended:items[number + 1].start]
-        return item.start, items[number + 1].start if same_line else ended
+        if "\n" not in text[ended:items[number + 1].start]:
+            return item.start, items[number + 1].start
+        return len(text[:item.start].rstrip(BLANKS)), ended
     return (items[number - 1].end if number else item.start), item.end
 
 
@@ -95,6 +96,25 @@ def whole_lines(text: str, statement: tree.Statement) -> tuple[int, int] | None:
 def do_overlap(edits: list[Edit], others: list[Edit]) -> bool:
     return any(a.path == b.path and a.start < max(b.end, b.start + 1) and b.start < max(a.end, a.start + 1)
                for a in edits for b in others)
+
+
+class Taken:
+    """Edits by the parts of the files in which they are, so that those near an edit are found without a look at all others."""
+    PART = 10  # a part has 1,024 characters
+
+    def __init__(self) -> None:
+        self.parts: dict[tuple[str, int], list[Edit]] = {}
+
+    def parts_of(self, edit: Edit) -> list[tuple[str, int]]:
+        return [(edit.path, it) for it in range(edit.start >> self.PART, (max(edit.end, edit.start + 1) >> self.PART) + 1)]
+
+    def overlaps(self, edits: list[Edit]) -> bool:
+        return any(do_overlap([edit], self.parts.get(part, [])) for edit in edits for part in self.parts_of(edit))
+
+    def add(self, edits: list[Edit]) -> None:
+        for edit in edits:
+            for part in self.parts_of(edit):
+                self.parts.setdefault(part, []).append(edit)
 
 
 def changed(text: str, origins: list[int], edits: list[Edit]) -> tuple[str, list[int]]:

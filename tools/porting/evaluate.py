@@ -11,11 +11,11 @@ from collections.abc import Callable
 from porting import tree
 from porting.operators import binary, indexed, truth_of
 from porting.text_methods import method_of_value, version_compare
-from porting.values import (ROOT, UNKNOWN, Either, Item, Many, Table, Thing, Unknown, choices_of, either, flat, kind_of, texts_of,
-                            without_root)
+from porting.values import (ROOT, UNKNOWN, Either, Item, Many, Table, Thing, Unknown, bounded, choices_of, cost_of, either, flat, is_same,
+                            kind_of, size_of, texts_of, without_root)
 
 PREDEFINED = ("meson", "host_machine", "build_machine", "target_machine")
-# Beyond this many steps all is taken as reached, and nothing as known.
+# Beyond this many steps of one pass all is taken as reached, and nothing as known.
 MOST_STEPS = 400_000
 # What a call gives, by its function.
 THINGS = {
@@ -41,6 +41,11 @@ GIVES = {
     ("meson", "source_root"): "text", ("meson", "build_root"): "text", ("meson", "project_version"): "text",
     ("meson", "project_name"): "text", ("machine", "cpu_family"): "text", ("machine", "cpu"): "text", ("machine", "endian"): "text",
     ("generator", "process"): "generated",
+    **{("compiler", it): "truth" for it in ("has_function", "has_header", "check_header", "has_type", "has_member", "has_members",
+                                            "compiles", "has_header_symbol", "has_argument", "has_multi_arguments", "has_link_argument",
+                                            "links")},
+    **{("feature", it): "truth" for it in ("enabled", "disabled", "auto", "allowed")},
+    **{(it, "found"): "truth" for it in ("dependency", "library", "program")},
     **{("feature", it): "feature" for it in ("require", "disable_if", "enable_if", "disable_auto_if", "enable_auto_if")},
 }
 # Answers that are the same on every machine that this is for.
@@ -67,10 +72,12 @@ class TooMuch(Exception):
 
 
 class Evaluation:
-    """One pass over the files from meson.build on."""
+    """One pass over the files from meson.build on, of at most so many steps."""
 
-    def __init__(self, root: str, body_of: Callable[[str], list[tree.Statement] | None], options: list[tree.Call]) -> None:
-        self.root, self.body_of = root, body_of
+    def __init__(self, root: str, body_of: Callable[[str], list[tree.Statement] | None], options: list[tree.Call],
+                 most_steps: int = MOST_STEPS, is_usual: bool = False) -> None:
+        """With `is_usual` each option has its default."""
+        self.root, self.body_of, self.most_steps, self.is_usual = root, body_of, most_steps, is_usual
         self.entered: list[str] = []
         self.reached: set[tree.Node] = set()
         self.values: dict[tree.Node, object] = {}
@@ -78,8 +85,8 @@ class Evaluation:
         self.folder, self.path, self.steps = "", "meson.build", 0
         self.doubt = 0  # how many branches and rounds round this may not be taken
         self.called_maybe: set[tree.Node] = set()
-        self.names: dict[str, object] = {"meson": Thing("meson")}
-        self.names.update((it, Thing("machine")) for it in PREDEFINED[1:])
+        self.names: dict[str, object] = {it: Thing("machine") for it in PREDEFINED} | {"meson": Thing("meson")}
+        self.are_names_held = False  # the dictionary is kept elsewhere too, and doesn't change any more
         self.version: object = "undefined"
         self.options = {name: self.option_value(it) for it in options for name in choices_of(self.literal(it.arguments[:1]))}
         self.enter("meson.build")
@@ -92,6 +99,11 @@ class Evaluation:
         words = call.keywords
         kind = self.literal([words["type"].value]) if "type" in words else ""
         choices = words["choices"].value if "choices" in words else None
+        default = words["value"].value if "value" in words else None
+        if self.is_usual and kind == "boolean" and (default is None or isinstance(default, tree.Truth)):
+            return default is None or default.value
+        if self.is_usual and kind in ("string", "combo") and isinstance(default, tree.Text):
+            return default.value
         if kind == "combo" and isinstance(choices, tree.List) and all(isinstance(it, tree.Text) for it in choices.items):
             return either(it.value for it in choices.items if isinstance(it, tree.Text))
         kinds = {"string": "text", "combo": "text", "boolean": "truth", "integer": "integer", "array": "texts", "feature": "feature"}
@@ -155,15 +167,34 @@ class Evaluation:
                     if not self.doubt:
                         raise Left(statement.word)
 
+    # Variables
+
+    def held_names(self) -> dict[str, object]:
+        """The variables as they are now, for one who keeps them."""
+        self.are_names_held = True
+        return self.names
+
+    def set_names(self, changed: dict[str, object]) -> None:
+        if self.are_names_held:
+            self.spend(len(self.names) >> 5)
+            self.names, self.are_names_held = dict(self.names), False
+        self.names.update(changed)
+
+    def take_names(self, *ends: dict[str, object]) -> None:
+        """Takes the variables that are left by one of several ways."""
+        self.spend(len(ends[0]) * (len(ends) - 1) >> 5)
+        self.names, self.are_names_held = self.merged(list(ends)), True
+
     def assign(self, statement: tree.Assignment) -> None:
         value = self.evaluate(statement.value)
         if statement.operator == "+=":
-            value = binary("+", self.names.get(statement.name, UNKNOWN), value)
-        self.names[statement.name] = value
+            value = bounded(binary("+", self.names.get(statement.name, UNKNOWN), value))
+            self.spend(cost_of(value))
+        self.set_names({statement.name: value})
 
     def run_if(self, statement: tree.If) -> None:
         ends: list[dict[str, object]] = []
-        before = dict(self.names)
+        before = self.held_names()
         doubt = self.doubt
         is_open = True
         for branch in statement.branches:
@@ -171,17 +202,17 @@ class Evaluation:
             if truth is False:
                 continue
             self.doubt = doubt + 1 if truth is None or ends or self.doubt > doubt else doubt
-            outer = dict(self.names)
+            outer = self.held_names()
             if self.run_maybe(branch.body, truth is None or self.doubt > doubt):
-                ends.append(self.names)
-            self.names = outer
+                ends.append(self.held_names())
+            self.take_names(outer)
             if truth:
                 is_open = False
                 break
         self.doubt = doubt
         if is_open:
             ends.append(before)
-        self.names = self.merged(ends or [before])
+        self.take_names(*(ends or [before]))
 
     def run_maybe(self, body: list[tree.Statement], is_doubtful: bool) -> bool:
         """Whether what stands behind the branch may come after it."""
@@ -193,12 +224,15 @@ class Evaluation:
             return left.word != "error"
         return True
 
-    @staticmethod
-    def merged(ends: list[dict[str, object]]) -> dict[str, object]:
+    def merged(self, ends: list[dict[str, object]]) -> dict[str, object]:
         if len(ends) == 1:
             return ends[0]
-        keys = dict.fromkeys(key for it in ends for key in it)
-        return {key: either(it.get(key, UNKNOWN) for it in ends if key in it) for key in keys}
+        first, *others = ends
+        # Most variables are those of before in each branch.
+        changed = dict.fromkeys(key for it in others for key, value in it.items() if first.get(key, it) is not value)
+        new = {key: either(it[key] for it in ends if key in it) for key in changed}
+        self.spend(sum(size_of(it)[0] for it in new.values()) >> 2)
+        return {**first, **new}
 
     def run_foreach(self, statement: tree.Foreach) -> None:
         items = self.evaluate(statement.items)
@@ -215,8 +249,8 @@ class Evaluation:
 
     def run_round(self, statement: tree.Foreach, values: tuple, is_sure: bool) -> bool:
         """Whether there may be a next round."""
-        before = dict(self.names)
-        self.names.update(zip(statement.names, values))
+        before = self.held_names()
+        self.set_names(dict(zip(statement.names, values)))
         self.doubt += not is_sure
         goes_on = True
         try:
@@ -228,18 +262,25 @@ class Evaluation:
         finally:
             self.doubt -= not is_sure
         if not is_sure:
-            self.names = self.merged([self.names, before])
+            self.take_names(self.names, before)
         return goes_on
 
     # Expressions
 
-    def evaluate(self, node: tree.Node) -> object:
-        self.steps += 1
-        if self.steps > MOST_STEPS:
+    def spend(self, steps: int) -> None:
+        self.steps += steps
+        if self.steps > self.most_steps:
             raise TooMuch
-        value = self.evaluated(node)
+
+    def evaluate(self, node: tree.Node) -> object:
+        self.spend(1)
+        value = bounded(self.evaluated(node))
+        self.spend(cost_of(value))
         known = self.values.get(node)
-        self.values[node] = value if known is None else either([known, value])
+        if known is None:
+            self.values[node] = value
+        elif not is_same(known, value):
+            self.values[node] = either([known, value])
         return value
 
     def evaluated(self, node: tree.Node) -> object:
@@ -315,7 +356,7 @@ class Evaluation:
         self.reached.add(node)
         if self.doubt:
             self.called_maybe.add(node)
-        thing = Thing("", node, self.path, arguments, keywords, dict(self.names))
+        thing = Thing("", node, self.path, arguments, keywords, self.held_names())
         self.things.setdefault(node, []).append(thing)
         if node.receiver:
             return either(self.method(it, thing) for it in choices_of(receiver))
@@ -334,7 +375,7 @@ class Evaluation:
             raise Left("error")
         elif name == "project":
             self.version = thing.keywords.get("version", "undefined")
-            self.names["meson"] = Thing("meson", None, "", thing.arguments)
+            self.set_names({"meson": Thing("meson", None, "", thing.arguments)})
         elif name == "files":
             return Many([Item(self.file(thing.call, it.value), it.is_sure) for it in flat(Many([Item(it) for it in thing.arguments]))])
         elif name == "get_option":
@@ -346,7 +387,7 @@ class Evaluation:
         elif name in ("set_variable", "get_variable") and isinstance(first, str):
             if name == "get_variable":
                 return self.names.get(first, UNKNOWN)
-            self.names[first] = thing.arguments[1] if len(thing.arguments) > 1 else UNKNOWN
+            self.set_names({first: thing.arguments[1] if len(thing.arguments) > 1 else UNKNOWN})
         return UNKNOWN
 
     def file(self, call: tree.Call | None, name: object) -> object:

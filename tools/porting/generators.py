@@ -10,7 +10,7 @@ from porting.edits import Change
 from porting.lexer import escaped
 from porting.project import Project, Site
 from porting.rule import (assigned_name, before_statement, can_hoist, free_name, identifier, in_place_of_statement, replaced, texts_at)
-from porting.values import Thing, choices_of, flat
+from porting.values import Many, Thing, choices_of, flat, kind_of
 
 
 def generators(project: Project) -> Iterator[Change]:
@@ -68,7 +68,7 @@ def processed(project: Project, site: Site, maker: Thing, command: str = "") -> 
     is_all = isinstance(statement, tree.Assignment) and tree.plain(statement.value) is site.call
     name = statement.name if is_all else free_name(project, "generated")
     lines = [*([] if is_all and statement.operator == "+=" else [f"{name} = []"]),
-             f"foreach input : [{', '.join(map(escaped, inputs))}]",
+             f"foreach input : [{', '.join(inputs)}]",
              f"  {name} += {one_target(project, site, maker, name, outputs, command or texts)}", "endforeach"]
     what = "generator: a custom_target for each input"
     if is_all:
@@ -89,10 +89,33 @@ def one_target(project: Project, site: Site, maker: Thing, name: str, outputs: l
 
 
 def inputs_of(project: Project, site: Site) -> list[str] | None:
-    """The paths that a generator is given, from the folder of the call; none where one is not known."""
-    items = [item for it in site.call.arguments for item in flat(project.known.value(it))]
-    names = [input_name(site, it.value) if it.is_sure else None for it in items]
-    return None if None in names else [os.path.relpath(str(it), site.folder or ".") for it in names]
+    """The inputs that a generator is given, as expressions in the folder of the call; none where one is not known.
+
+    A path of which only the kind is known stays as it is written.
+    """
+    found: list[str] = []
+    for node in site.call.arguments:
+        plain = tree.plain(node)
+        for it in plain.items if isinstance(plain, tree.List) else [node]:
+            shown = paths_at(project, site, it)
+            if shown is None:
+                return None
+            found += shown
+    return found
+
+
+def paths_at(project: Project, site: Site, node: tree.Node) -> list[str] | None:
+    """The paths that one argument names, as expressions; of a variable's list an item each."""
+    value, source = project.known.value(node), site.file.source(node)
+    names = [input_name(site, it.value) if it.is_sure else None for it in flat(value)]
+    if None not in names:
+        return [escaped(os.path.relpath(str(it), site.folder or ".")) for it in names]
+    if kind_of(value) == "text":
+        return [source]
+    is_list = isinstance(value, Many) and value.is_exact and all(kind_of(it.value) == "text" for it in value.items)
+    if is_list and isinstance(node, tree.Name):
+        return [f"{source}[{number}]" for number in range(len(value.items))]
+    return None
 
 
 def input_name(site: Site, value: object) -> str | None:

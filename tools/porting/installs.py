@@ -2,15 +2,20 @@
 from __future__ import annotations
 
 import os
+import re
 from collections.abc import Iterator
+
+from tools.asking.text import is_written
 
 from porting import tree
 from porting.edits import Change
+from porting.journal import place_of
 from porting.lexer import escaped
 from porting.project import Project, Site
 from porting.rule import REAL_ALONE, guarded, in_place_of_statement, is_whole_statement, replaced, text_of, texts_at
 from porting.values import Thing, flat, kind_of
 
+PLACES = re.compile("@(?:BASE|PLAIN)NAME@")  # in an output's name
 STEPS = ("add_install_script", "add_postconf_script", "add_dist_script", "add_devenv", "install_dependency_manifest")
 STEP_FUNCTIONS = ("install_symlink", "install_emptydir", "add_test_setup")
 
@@ -47,9 +52,9 @@ def output_names(project: Project) -> Iterator[Change]:
         output, source = site.call.keywords.get("output"), site.call.keywords.get("input")
         name = text_of(project, output.value) if output else None
         texts = input_names(project, source.value) if source else None
-        if output is None or name is None or ("@BASENAME@" not in name and "@PLAINNAME@" not in name):
+        if output is None or name is None or not PLACES.search(name):
             continue
-        if not texts:
+        if not texts or PLACES.search(os.path.basename(texts[0])):
             project.doubt(site, "configure_file: @BASENAME@ and @PLAINNAME@ stay as they are in `output:`: "
                                 "in a loop over texts, the name by `split('/')[-1]`")
             continue
@@ -84,7 +89,8 @@ def files_to_install(project: Project, site: Site) -> list[str] | None:
     strips = project.known.value(words["strip_directory"].value) if "strip_directory" in words else False
     left = [texts_at(project, words[it].value) if it in words else [] for it in ("exclude_files", "exclude_directories")]
     top = os.path.join(project.root, site.folder, name)
-    if None in left or not isinstance(strips, bool) or not os.path.isdir(top):
+    is_inside = place_of(project.root, os.path.normpath(os.path.join(site.folder, name))) is not None
+    if None in left or not isinstance(strips, bool) or not is_inside or not os.path.isdir(top):
         return None
     target = site.file.source(words["install_dir"].value)
     if not strips:
@@ -95,6 +101,8 @@ def files_to_install(project: Project, site: Site) -> list[str] | None:
         below = os.path.relpath(folder, top)
         inner[:] = sorted(it for it in inner if os.path.normpath(os.path.join(below, it)) not in (left[1] or []))
         named = sorted(it for it in files if os.path.normpath(os.path.join(below, it)) not in (left[0] or []))
+        if not all(map(is_written, [below, *named])):
+            return None
         if named:
             shown = [f"  {escaped(os.path.normpath(os.path.join(name, below, it)))}," for it in named]
             place = target if below == "." else f"{target} / {escaped(below)}"

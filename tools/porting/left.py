@@ -1,11 +1,11 @@
 """What is left out here and stands where it may be carried out, with what to write in its place."""
 from __future__ import annotations
 
-import dataclasses
 
 from porting import tree
 from porting.project import Project, Site
 from porting.values import Thing, choices_of, flat, kind_of
+from tools import records as dataclasses
 
 FUNCTIONS = {
     "subproject": "install what it stands on first, and ask for it by dependency",
@@ -53,29 +53,36 @@ METHODS = {
     "feature": {it: "an `if` that sets a variable to another feature option" for it in ("require", "disable_if", "enable_if",
                                                                                        "disable_auto_if", "enable_auto_if")},
     "environment": {"append": "a script that sets it", "prepend": "a script that sets it", "unset": "a script that leaves it out"},
-    "program": {"version": "an option", "cmd_array": "full_path"},
+    "program": {"version": "an option", "cmd_array": "full_path",
+                **{it: "an option: a program is no installation of Python" for it in (
+                    "language_version", "dependency", "extension_module", "get_install_dir", "get_path", "get_variable", "has_path",
+                    "has_variable", "install_sources")}},
 }
 METHODS["library"] = METHODS["internal"] = METHODS["dependency"]
+OF_MODE = "a step of the package; or `--also install-modes`, which drops it"
+OF_NAME = "or a custom_target with the link command, which `--also named-modules` writes"
 KEYWORDS = {
     **{name: {"kwargs": "the keywords themselves"} for name in ("*",)},
-    "library": {"link_whole": "the sources of that library, in both targets", "override_options": "`c_args:` and `link_args:`",
-                "objects": "a static library that both targets link", "install_mode": "a step of the package",
-                "name_prefix": "a name that begins with lib", "name_suffix": "the usual ending", "c_pch": "the header in each source",
+    "library": {"link_whole": "the sources of that library, in each target that has it", "override_options": "`c_args:` and `link_args:`",
+                "objects": "a static library that both targets link", "install_mode": OF_MODE,
+                "name_prefix": "a name that begins with lib; " + OF_NAME, "name_suffix": "the usual ending; " + OF_NAME,
+                "c_pch": "the header in each source",
                 "install_rpath": "`link_args: '-Wl,-rpath,..'`", "gnu_symbol_visibility": "`c_args:` with -fvisibility=..",
                 "export_dynamic": "`link_args: '-rdynamic'`", "c_static_args": "`c_args:`", "c_shared_args": "`c_args:`"},
     "custom_target": {"feed": "`sh -c` that feeds the command", "env": "a script that does it",
-                      "build_always_stale": "a script that does it", "install_mode": "a step of the package"},
+                      "build_always_stale": "a script that does it", "install_mode": OF_MODE},
     "configure_file": {"command": "a custom_target", "copy": "`configuration: {}`, or a custom_target with cp",
                        "capture": "a custom_target",
-                       "depfile": "a custom_target", "install_mode": "a step of the package", "install": "`install_dir:` alone"},
-    "install_headers": {"install_mode": "a step of the package", "preserve_path": "a call for each folder"},
-    "install_data": {"install_mode": "a step of the package", "rename": "configure_file with the other name",
+                       "depfile": "a custom_target", "install_mode": OF_MODE, "install": "`install_dir:` alone"},
+    "install_headers": {"install_mode": OF_MODE, "preserve_path": "a call for each folder"},
+    "install_data": {"install_mode": OF_MODE, "rename": "configure_file with the other name",
                      "preserve_path": "a call for each folder"},
-    "install_man": {"install_mode": "a step of the package", "locale": "`install_dir:`"},
-    "test": {"protocol": "a program that ends with 0, 77 or another status"},
+    "install_man": {"install_mode": OF_MODE, "locale": "`install_dir:`"},
+    "test": {"protocol": "a program that ends with 0, 77 or another status; or `--also test-protocol`, so that its status alone decides"},
     "dependency": {"fallback": "install what it stands on first", "modules": "the dependency of each part",
                    "components": "the dependency of each part"},
-    "find_program": {"dirs": "the machine file"}, "declare_dependency": {"link_whole": "`link_with:`", "objects": "a static library"},
+    "find_program": {"dirs": "the machine file"},
+    "declare_dependency": {"link_whole": "the sources of that library, in each target that has it", "objects": "a static library"},
     "find_library": {"has_headers": "has_header", "header_include_directories": "has_header", "disabler": "an `if`"},
 }
 for _name in ("executable", "static_library", "shared_library"):

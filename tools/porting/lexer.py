@@ -2,8 +2,9 @@
 from __future__ import annotations
 
 import bisect
-import dataclasses
 import re
+
+from tools import records as dataclasses
 
 TOKEN = re.compile(r"""
     (?P<skip> [ \t\r]+ | \#[^\n]* | \\[ \t\r]*(?:\#[^\n]*)?\n )
@@ -15,7 +16,13 @@ TOKEN = re.compile(r"""
 """, re.VERBOSE | re.DOTALL)
 ESCAPE = re.compile(r"\\(?:([\\'abfnrtv])|([0-7]{1,3})|x([0-9a-fA-F]{2})|u([0-9a-fA-F]{4})|U([0-9a-fA-F]{8}))")
 PLAIN_ESCAPES = dict(zip("\\'abfnrtv", "\\'\a\b\f\n\r\t\v"))
+# Characters that steer a terminal, and halves of a pair, which are no characters: a literal names them by their numbers.
+UNSHOWN = re.compile("[\\x00-\\x1f\\x7f-\\x9f\ud800-\udfff]")
 KEYWORDS = {"true", "false", "if", "elif", "else", "endif", "and", "or", "not", "in", "foreach", "endforeach", "break", "continue"}
+
+
+MOST_DIGITS = 140  # of a number, which has 128 bits at most
+MOST_TOKENS = 1 << 18  # of a file: it takes hundreds of bytes to hold one
 
 
 class SyntaxFault(Exception):
@@ -34,8 +41,13 @@ class Token:
     end: int
 
 
+def line_at(text: str, at: int) -> int:
+    """The line of a place of a text."""
+    return text.count("\n", 0, at) + 1
+
+
 class Lines:
-    """The line of each place of a text."""
+    """The line of each place of a text, for those who ask often."""
 
     def __init__(self, text: str) -> None:
         self.starts = [0, *(match.end() for match in re.finditer("\n", text))]
@@ -58,7 +70,7 @@ def unescaped(text: str) -> str:
 def escaped(text: str) -> str:
     """A text as a literal between plain quotes."""
     plain = text.replace("\\", "\\\\").replace("'", "\\'").replace("\n", "\\n").replace("\t", "\\t")
-    return "'" + "".join(it if it >= " " and it != "\x7f" else f"\\x{ord(it):02x}" for it in plain) + "'"
+    return "'" + UNSHOWN.sub(lambda match: f"\\x{ord(match[0]):02x}" if match[0] < "\u0100" else f"\\u{ord(match[0]):04x}", plain) + "'"
 
 
 def value_of_text(literal: str) -> str:
@@ -68,6 +80,9 @@ def value_of_text(literal: str) -> str:
 
 
 def value_of_number(literal: str) -> int:
+    """The value of a number; one of many digits is greater than any that the program takes, and no more is known of it."""
+    if len(literal) > MOST_DIGITS:
+        return 1 << 128
     return int(literal, 0) if literal[:1] == "0" and len(literal) > 1 and literal[1].isalpha() else int(literal)
 
 
@@ -79,12 +94,14 @@ def tokens_of(text: str) -> list[Token]:
         match = TOKEN.match(text, at)
         if not match:
             rest = text[at:at + 20].splitlines()[0]
-            raise SyntaxFault(Lines(text).at(at), f"no token begins here: {rest!r}")
+            raise SyntaxFault(line_at(text, at), f"no token begins here: {rest!r}")
         kind, word = match.lastgroup or "", match.group()
         if kind == "mark":
             depth = depth + 1 if word in "([{" else max(depth - 1, 0) if word in ")]}" else depth
         if kind == "name" and word in KEYWORDS:
             kind = "keyword"
+        if len(tokens) > MOST_TOKENS:
+            raise SyntaxFault(line_at(text, at), f"a file of more than {MOST_TOKENS:,} tokens is not read here")
         if kind != "skip" and (kind != "newline" or depth == 0):
             tokens.append(Token(kind, word, at, match.end()))
         at = match.end()

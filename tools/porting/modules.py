@@ -16,6 +16,18 @@ SOURCES = {"cpp": (".cpp", ".cc", ".cxx", ".c++", ".cp"), "objc": (".m",), "objc
            "cuda": (".cu",), "d": (".d",), "fortran": (".f", ".for", ".f90", ".f95"), "cython": (".pyx",)}
 
 
+# What a program answers as an installation of Python does.
+OF_PROGRAM = {"found", "path", "full_path"}
+
+
+def calls_upon(project: Project, call: tree.Call) -> Iterator[Site]:
+    """The methods of what a call gives."""
+    for site in project.methods():
+        things = [it.value for it in flat(project.known.value(site.call.receiver))] if site.call.receiver else []
+        if any(isinstance(it, Thing) and it.call is call for it in things):
+            yield site
+
+
 def python(project: Project) -> Iterator[Change]:
     """`import('python').find_installation()` is a program here."""
     for site in project.methods("find_installation", "find_python"):
@@ -25,6 +37,10 @@ def python(project: Project) -> Iterator[Change]:
             continue
         name = text_of(project, site.call.arguments[0]) if site.call.arguments else "python3"
         if name is None or name.startswith("/"):
+            continue
+        asked = sorted({it.call.name for it in calls_upon(project, site.call)} - OF_PROGRAM)
+        if asked:
+            project.doubt(site, f"{site.call.name}: {', '.join(asked)} of an installation of Python: an option, and find_program")
             continue
         inner = "".join(f", {site.file.source(it)}" for it in site.call.items if isinstance(it, tree.Keyword))
         yield site.change("the Python of a module becomes find_program",
@@ -39,6 +55,8 @@ def unused_imports(project: Project) -> Iterator[Change]:
         if not is_whole_statement(site) and (name is None or not all(is_never_sure(project, name, it) for it in uses)):
             continue
         what = f"import({escaped(project.known.things[site.call][0].name or '')})"
+        if uses and is_usual(project, name or "", uses):
+            continue
         if uses:
             yield guarded(site, REAL_ALONE, f"{what} is left to the real Meson: what uses it is never reached here, or by an option alone")
         else:
@@ -50,6 +68,14 @@ def is_never_sure(project: Project, name: str, statement: tree.Statement) -> boo
     calls = [it for expression in tree.expressions_of(statement) for it in tree.inside(expression)
              if isinstance(it, tree.Call) and name in tree.names_in(it)]
     return statement not in project.known.reached or (bool(calls) and all(it in project.known.called_maybe for it in calls))
+
+
+def is_usual(project: Project, name: str, statements: list[tree.Statement]) -> bool:
+    """Whether a module's name is used where each option has its default: what is left out is told there then, and not hidden."""
+    usual = project.usual()
+    return any(it in usual.reached and it not in usual.called_maybe for statement in statements
+               for expression in tree.expressions_of(statement) for it in tree.inside(expression)
+               if isinstance(it, tree.Call) and name in tree.names_in(it))
 
 
 def languages(project: Project) -> Iterator[Change]:

@@ -1,13 +1,13 @@
 """What a library needs where it is linked: the packages and libraries below it, and when they are there."""
 from __future__ import annotations
 
-import dataclasses
 import re
 
 from porting import tree
 from porting.lexer import escaped
 from porting.project import Project
-from porting.values import Either, Many, Thing, UNKNOWN, flat, kind_of, texts_of
+from porting.values import Either, Item, Many, Thing, UNKNOWN, flat, kind_of, texts_of
+from tools import records as dataclasses
 
 # Dependencies that have no .pc file: what compiles and links with them.
 WITHOUT_FILE = {"threads": ("-pthread", "-pthread"), "openmp": ("-fopenmp", "-fopenmp"), "dl": ("", "-ldl"), "m": ("", "-lm"),
@@ -147,8 +147,7 @@ class Needs:
             Need("requires", names[0], condition)]
 
     def needs_of_internal(self, thing: Thing) -> list[Need]:
-        needs = [Need("libs", it) for it in texts_of(thing.keywords.get("link_args", Many([]))) or []]
-        return needs + self.needs_below(thing)
+        return [Need("libs", it) for it in link_args_of(thing)] + self.needs_below(thing)
 
     def needs_of_library(self, thing: Thing) -> list[Need]:
         """A library that is linked: its .pc file where it has one, itself, and what it needs."""
@@ -165,8 +164,18 @@ class Needs:
         return own + self.needs_below(thing)
 
     def needs_below(self, thing: Thing) -> list[Need]:
-        """What those libraries and dependencies stand for that a library or a dependency is made with."""
-        items = [item for key in ("dependencies", "link_whole", "link_with") for item in flat(thing.keywords.get(key, Many([])))]
+        """What those libraries and dependencies stand for that a library or a dependency is made with.
+
+        The real Meson looks at each library that is linked, then at what is none of the project: packages are named in this order, and
+        libraries of each group before those of the groups that came first.
+        """
+        linked, whole, others = parts_below(thing)
+        groups = [self.known_needs([it]) for it in linked + whole] + [self.known_needs(others)]
+        return [*(need for group in groups for need in group if need.where == "requires"),
+                *(need for group in reversed(groups) for need in group if need.where != "requires")]
+
+    def known_needs(self, items: list[Item]) -> list[Need]:
+        """What items stand for, as far as that is known."""
         needs: list[Need] = []
         for item in items:
             try:
@@ -178,6 +187,25 @@ class Needs:
     def generated_name(self, thing: Thing) -> str | None:
         """The name of the .pc file that was made for a library before."""
         return self.project.pc_files.get(thing.name or "")
+
+
+def link_args_of(thing: Thing) -> list[str]:
+    return texts_of(thing.keywords.get("link_args", Many([]))) or []
+
+
+def parts_below(thing: Thing) -> tuple[list[Item], list[Item], list[Item]]:
+    """What a target or a dependency links, what it links whole, and what else it is made with; of dependencies that the project declares
+    what these are made with."""
+    linked, whole = (flat(thing.keywords.get(it, Many([]))) for it in ("link_with", "link_whole"))
+    others: list[Item] = []
+    for item in flat(thing.keywords.get("dependencies", Many([]))):
+        if isinstance(item.value, Thing) and item.value.kind == "internal":
+            below = parts_below(item.value)
+            linked, whole = linked + below[0], whole + below[1]
+            others += [*map(Item, link_args_of(item.value)), *below[2]]
+        else:
+            others.append(item)
+    return linked, whole, others
 
 
 def is_nothing(value: object) -> bool:

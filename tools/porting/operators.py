@@ -1,7 +1,8 @@
 """What operators and indexes give of values that may be unknown."""
 from __future__ import annotations
 
-from porting.values import UNKNOWN, Either, Item, Many, Table, Thing, Unknown, choices_of, either, is_same, kind_of
+from porting.values import (MOST_ITEMS, UNKNOWN, Either, Item, Many, Table, Thing, Unknown, bounded, choices_of, either, is_same,
+                            kind_of)
 
 OPERATORS = {
     "==": lambda a, b: a == b, "!=": lambda a, b: a != b, "<": lambda a, b: a < b, "<=": lambda a, b: a <= b,
@@ -28,6 +29,8 @@ def binary(operator: str, left: object, right: object) -> object:
 
 
 def added(left: Many, right: object) -> object:
+    if len(left.items) + (len(right.items) if isinstance(right, Many) else 1) > MOST_ITEMS:
+        return Unknown("list")
     if isinstance(right, Many):
         return Many([*left.items, *right.items], left.is_whole and right.is_whole)
     if isinstance(right, Either) and any(isinstance(it, Many) for it in right.choices):
@@ -46,18 +49,18 @@ def one(operator: str, a: object, b: object) -> object:
         return slash(a, b)
     if operator == "+":
         if isinstance(a, Table) and isinstance(b, Table):
-            return Table({**a.pairs, **b.pairs}, a.is_whole and b.is_whole)
-        return a + b if is_plain and not isinstance(a, bool) else Unknown(kind_of(a) or kind_of(b))
+            return bounded(Table({**a.pairs, **b.pairs}, a.is_whole and b.is_whole))
+        return bounded(a + b) if is_plain and not isinstance(a, bool) else Unknown(kind_of(a) or kind_of(b))
     if not is_plain or (operator not in TRUTHS and isinstance(a, str)):
         if operator in ("==", "!=") and isinstance(a, Thing) and a is b:
             return operator == "=="
         return Unknown("truth" if operator in TRUTHS else "integer")
-    return OPERATORS[operator](a, b)
+    return bounded(OPERATORS[operator](a, b))
 
 
 def slash(a: object, b: object) -> object:
     if isinstance(a, str) and isinstance(b, str):
-        return b if not a or b.startswith("/") else a + ("" if a.endswith("/") else "/") + b
+        return b if not a or b.startswith("/") else bounded(a + ("" if a.endswith("/") else "/") + b)
     if isinstance(a, int) and isinstance(b, int) and b:
         return a // b
     return Unknown("text" if "text" in (kind_of(a), kind_of(b)) else "")

@@ -59,7 +59,9 @@ def option_name(project: Project, wanted: str, description: str) -> str:
 def with_option(project: Project, text: str) -> Edit:
     """The edit that puts one declaration more at the end of the option file."""
     path, before = option_file(project)
-    return Edit(path, len(before), len(before), ("" if not before or before.endswith("\n") else "\n") + text)
+    if before and not before.endswith("\n"):
+        text = "\n" + text.removesuffix("\n")  # its last line has no end, and keeps none
+    return Edit(path, len(before), len(before), text)
 
 
 def folders(project: Project) -> Iterator[Change]:

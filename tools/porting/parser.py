@@ -1,16 +1,23 @@
 """Reads the tokens of a definition file as the tree that they spell."""
 from __future__ import annotations
 
+import sys
 from collections.abc import Callable
-from typing import TypeVar
 
 from porting import tree
-from porting.lexer import Lines, SyntaxFault, Token, tokens_of, value_of_number, value_of_text
+from porting.lexer import SyntaxFault, Token, line_at, tokens_of, value_of_number, value_of_text
 
-T = TypeVar("T")
+TYPE_CHECKING = False
+if TYPE_CHECKING:
+    from typing import TypeVar
+
+    T = TypeVar("T")
 COMPARISONS = {"==", "!=", "<", "<=", ">", ">="}
 # How deep brackets and blocks may stand in one another.
 DEEPEST = 64
+# How deep the nodes of an expression may stand in one another: `1 + 2 + 3` is three deep. What walks them takes some calls for each.
+DEEPEST_NODE = 1000
+sys.setrecursionlimit(max(sys.getrecursionlimit(), 12 * DEEPEST_NODE))
 
 
 class Parser:
@@ -22,7 +29,7 @@ class Parser:
         return self.tokens[self.at]
 
     def fault(self, why: str) -> SyntaxFault:
-        return SyntaxFault(Lines(self.text).at(self.token.start), why)
+        return SyntaxFault(line_at(self.text, self.token.start), why)
 
     def is_word(self, *words: str) -> bool:
         return self.token.kind in ("mark", "keyword") and self.token.text in words
@@ -77,10 +84,10 @@ class Parser:
             statement: tree.Statement = tree.Jump(start, self.last_end, word)
         elif self.token.kind == "name" and self.tokens[self.at + 1].text in ("=", "+="):
             name, operator = self.take().text, self.take().text
-            value = self.expression()
+            value = self.whole_expression()
             statement = tree.Assignment(start, self.last_end, name, operator, value)
         else:
-            value = self.expression()
+            value = self.whole_expression()
             statement = tree.Expression(start, self.last_end, value)
         self.end_of_line()
         return statement
@@ -89,7 +96,7 @@ class Parser:
         branches = []
         while True:
             begun, word = self.token.start, self.take().text
-            condition = None if word == "else" else self.expression()
+            condition = None if word == "else" else self.whole_expression()
             self.end_of_line()
             body = self.body()
             branches.append(tree.Branch(begun, self.token.start, condition, body))
@@ -107,7 +114,7 @@ class Parser:
             self.take()
             names.append(self.name().text)
         self.expect(":")
-        items = self.expression()
+        items = self.whole_expression()
         self.end_of_line()
         body = self.body()
         self.expect("endforeach")
@@ -119,6 +126,13 @@ class Parser:
         if self.token.kind != "name":
             raise self.fault(f"a name is wanted before {self.token.text!r}")
         return self.take()
+
+    def whole_expression(self) -> tree.Node:
+        """An expression that stands in no other."""
+        node = self.expression()
+        if tree.depth_of(node) > DEEPEST_NODE:
+            raise SyntaxFault(line_at(self.text, node.start), "expressions stand too deep in one another")
+        return node
 
     def expression(self) -> tree.Node:
         self.depth += 1
@@ -180,11 +194,13 @@ class Parser:
         return left
 
     def unary(self) -> tree.Node:
-        if not self.is_word("not", "-"):
-            return self.suffixed()
-        token = self.take()
-        operand = self.unary()
-        return tree.Unary(token.start, operand.end, token.text, operand)
+        before = []
+        while self.is_word("not", "-"):
+            before.append(self.take())
+        node = self.suffixed()
+        for token in reversed(before):
+            node = tree.Unary(token.start, node.end, token.text, node)
+        return node
 
     def suffixed(self) -> tree.Node:
         node = self.atom()

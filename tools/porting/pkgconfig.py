@@ -1,9 +1,10 @@
 """`pkg.generate`: one general template, and a `configure_file` with a dictionary for each call."""
 from __future__ import annotations
 
-import dataclasses
 import itertools
 from collections.abc import Iterator
+
+from tools.files import DEFINITION, read_text
 
 from porting import tree
 from porting.edits import Change
@@ -12,6 +13,7 @@ from porting.needs import Need, Needs, NotSure, with_blanks
 from porting.project import Project, Site
 from porting.rule import free_name, identifier, in_place_of_statement, is_whole_statement, path_from
 from porting.values import Table, Thing, flat, kind_of, texts_of
+from tools import records as dataclasses
 
 TEMPLATE_NAME = "pkgconfig.pc.in"
 TEMPLATE = """prefix=@prefix@
@@ -56,6 +58,32 @@ def joined(separator: str, parts: list[Part]) -> str:
         found = [it.source if it.text is None else escaped(it.text) for it in group]
         pieces += found if is_list else ["[" + ", ".join(found) + "]"]
     return f"{escaped(separator)}.join({' + '.join(pieces)})"
+
+
+def name_of(requirement: str) -> str:
+    """The package that is required, without a version."""
+    return requirement.split(" ", 1)[0]
+
+
+def names_of(requirements: list[Part]) -> set[str]:
+    return {name_of(it.text) for it in requirements if it.text is not None}
+
+
+def merged(requirements: list[Part], others: list[Part]) -> list[Part]:
+    """Each package once, where it was named first: with each version that it or another line wants, or its name alone."""
+    versions: dict[str, set[str]] = {}
+    for part in requirements + others:
+        if part.text is not None:
+            name, _, version = part.text.partition(" ")
+            versions.setdefault(name, set()).update([version] if version else [])
+    found: list[Part] = []
+    for part in requirements:
+        if part.text is None:
+            found.append(part)
+        elif name_of(part.text) in versions:
+            name = name_of(part.text)
+            found += [Part(f"{name} {it}") for it in sorted(versions.pop(name))] or [Part(name)]
+    return found
 
 
 class Writer(Needs):
@@ -161,6 +189,7 @@ class Writer(Needs):
         is_data = "dataonly" in self.words and self.value(self.words["dataonly"].value) is True
         libraries = [main] if main else []
         public: list[Need] = []
+        named: list[Need] = []
         private: list[Need] = []
         own: list[Part] = []
         if "libraries" in self.words:
@@ -173,9 +202,10 @@ class Writer(Needs):
                 needs = [] if library.function == "shared_library" else self.needs_below(library)
                 (public if library.function == "static_library" else private).extend(needs)
             else:
-                public += self.needs_of_item(library, True, True)
+                named += self.needs_of_item(library, True, True)
         self.keep_names(libraries)
-        return self.lines(main, own, public, private, is_data)
+        # What a static library needs stands before what the call names, as the real Meson has it.
+        return self.lines(main, own, public + named, private, is_data)
 
     def own_flags(self, library: Thing, before: list[Part]) -> list[Part]:
         if library.name is None:
@@ -193,11 +223,13 @@ class Writer(Needs):
         return [*([] if Part(folder) in before else [Part(folder)]), Part(f"-l{library.name}")]
 
     def lines(self, main: Thing | None, own: list[Part], public: list[Need], private: list[Need], is_data: bool) -> dict[str, str]:
-        requires = self.requires("requires") + self.as_parts("requires", [it for it in public if it.where == "requires"])
-        libs = own + self.as_parts("libs", [it for it in public if it.where == "libs"])
-        said = {part.text for part in requires + libs}
-        hidden = [it for it in private if it.text not in said and it.where != "cflags"]
         requires_private = self.requires("requires_private")
+        requires = self.as_parts("requires", [it for it in public if it.where == "requires"]) + self.requires("requires")
+        requires = merged(requires, requires_private)
+        libs = own + self.as_parts("libs", [it for it in public if it.where == "libs"])
+        said = {part.text for part in libs} | names_of(requires)
+        hidden = [it for it in private if name_of(it.text) not in said and it.where != "cflags"]
+        requires_private = merged([it for it in requires_private if it.text is None or name_of(it.text) not in said], [])
         below = self.as_parts("requires_private", [it for it in hidden if it.where == "requires"])
         libs_below = self.as_parts("libs_private", [it for it in hidden if it.where == "libs"])
         requires_private = below_shared(below) + requires_private
@@ -302,13 +334,13 @@ def template_of(project: Project) -> tuple[str, dict[str, str]]:
 
 def content(project: Project, path: str) -> str | None:
     try:
-        with open(f"{project.root}/{path}", encoding="utf-8", newline="") as it:
-            return it.read()
-    except (OSError, UnicodeDecodeError):
+        return read_text(f"{project.root}/{path}", DEFINITION)
+    except OSError:
         return None
 
 
-def written(project: Project, site: Site) -> Change:
+def written(project: Project, site: Site) -> tuple[Change, bool]:
+    """The change of a call, and whether it takes names of variables."""
     writer = Writer(project, site)
     dictionary = writer.dictionary()
     template, files = template_of(project)
@@ -321,7 +353,7 @@ def written(project: Project, site: Site) -> Change:
     change = site.change(f"pkg.generate becomes a configure_file of {template}",
                          in_place_of_statement(site.file, site.statement, lines), files=files)
     change.notes = list(dict.fromkeys(writer.notes))
-    return change
+    return change, bool(writer.before)
 
 
 def generate(project: Project) -> Iterator[Change]:
@@ -330,7 +362,10 @@ def generate(project: Project) -> Iterator[Change]:
         if not isinstance(receiver, Thing) or receiver.name != "pkgconfig" or not is_whole_statement(site):
             continue
         try:
-            yield written(project, site)
+            change, takes_names = written(project, site)
         except NotSure as why:
             project.doubt(site, f"pkg.generate: {why}")
-        return  # what the next one may name is known once this one is written
+            return  # what the next one may name is known once this one is written
+        yield change
+        if takes_names:
+            return  # which names are free for the next one is known once this one is written

@@ -1,16 +1,23 @@
 """A project's definition files as they stand and as they become."""
 from __future__ import annotations
 
-import dataclasses
+import functools
 import os
 import subprocess
 from collections.abc import Iterable, Iterator
 
 from porting import evaluate, tree
-from porting.edits import Change, Edit, changed, do_overlap
+from porting.edits import Change, Edit, Taken, changed, do_overlap
 from porting.lexer import Lines, SyntaxFault
+from porting.journal import place_of
 from porting.parser import parse
+from tools import records as dataclasses
+from tools.files import DEFINITION, read_text
 
+# What all passes over the files may cost: steps of evaluation, and characters that are read as statements.
+BUDGET, STEP = 12_000_000, 6  # a step costs as much as six characters
+MARK = "\ufeff"  # that a text of Unicode may begin with
+OUTSIDE = "is outside of SOURCE-DIR, or a link leads there: it is not read"
 OPTION_FILES = ("meson.options", "meson_options.txt")
 
 
@@ -27,11 +34,28 @@ class File:
     origins: list[int]
     body: list[tree.Statement]
 
+    @functools.cached_property
+    def calls(self) -> list[tuple[tree.Statement, tree.Call]]:
+        """All calls, each with the statement that it stands in."""
+        return [(statement, node) for statement in tree.statements_in(self.body) for expression in tree.expressions_of(statement)
+                for node in tree.inside(expression) if isinstance(node, tree.Call)]
+
+    @functools.cached_property
+    def variables(self) -> set[str]:
+        """The names of variables that are used or assigned in it."""
+        statements = list(tree.statements_in(self.body))
+        used = {name for statement in statements for it in tree.expressions_of(statement) for name in tree.names_in(it)}
+        return used | {it.name for it in statements if isinstance(it, tree.Assignment)}
+
+    @functools.cached_property
+    def lines(self) -> Lines:
+        return Lines(self.text)
+
     def source(self, node: tree.Node) -> str:
         return self.text[node.start:node.end]
 
     def line(self, place: int) -> int:
-        return Lines(self.text).at(place)
+        return self.lines.at(place)
 
     def line_before(self, place: int) -> int:
         return self.origins[self.line(place) - 1]
@@ -75,6 +99,9 @@ class Project:
         self.is_asked_to_run = False
         self.runs: dict[tuple[str, ...], subprocess.CompletedProcess[str] | None] = {}
         self.said: list[str] = []  # what was run and read, a line each
+        self.spent = 0
+        self.outside: dict[str, str] = {}  # definition files that are not read, and why
+        self.marked: set[str] = set()  # files that begin with MARK, which is no part of their text here
         self.pc_files: dict[str, str] = {}  # by the name of a library: its .pc file, without its ending
         self.known = self.look()
 
@@ -85,15 +112,19 @@ class Project:
         """A definition file of the project, or none where there is no such file."""
         if path not in self.files:
             full = os.path.join(self.root, path)
-            if not os.path.isfile(full):
+            if place_of(self.root, path) is None and os.path.lexists(full):
+                self.outside[path] = OUTSIDE
+                if path in ("meson.build", *OPTION_FILES):
+                    raise Unreadable(f"{path}: {OUTSIDE}")
+            if path in self.outside or not os.path.exists(full):
                 return None
             try:
-                with open(full, encoding="utf-8", newline="") as it:
-                    text = it.read()
+                text = read_text(full, DEFINITION)
             except OSError as error:
                 raise Unreadable(f"{path}: {error.strerror}") from error
-            except UnicodeDecodeError as error:
-                raise Unreadable(f"{path}: not UTF-8") from error
+            if text.startswith(MARK):
+                self.marked.add(path)
+                text = text.removeprefix(MARK)
             self.files[path] = self.parsed(path, text, text, list(range(1, text.count("\n") + 2)))
         return self.files[path]
 
@@ -113,8 +144,22 @@ class Project:
         """Reads the files that are reached, and works out what may happen in them."""
         if self.read("meson.build") is None:
             raise Unreadable(f"{os.path.join(self.root, 'meson.build')}: there is no such file")
-        self.known = evaluate.Evaluation(self.root, lambda path: self.body_of(path), self.options())
+        most = min(evaluate.MOST_STEPS, max(BUDGET - self.spent, 0) // STEP)
+        self.known = evaluate.Evaluation(self.root, lambda path: self.body_of(path), self.options(), most)
+        self.spent += STEP * self.known.steps + sum(len(self.files[it].text) for it in self.known.entered if it in self.files)
         return self.known
+
+    def usual(self) -> evaluate.Evaluation:
+        """What happens where each option has its default."""
+        most = min(evaluate.MOST_STEPS, max(BUDGET - self.spent, 0) // STEP)
+        usual = evaluate.Evaluation(self.root, lambda path: self.body_of(path), self.options(), most, is_usual=True)
+        self.spent += STEP * usual.steps
+        return usual
+
+    @property
+    def has_spent_all(self) -> bool:
+        """Whether no further pass over the files is made."""
+        return self.spent >= BUDGET
 
     def body_of(self, path: str) -> list[tree.Statement] | None:
         file = self.read(path)
@@ -129,12 +174,9 @@ class Project:
         """The calls of these functions or methods that may be carried out; of all where no name is given."""
         for path in self.known.entered:
             file = self.files[path]
-            for statement in tree.statements_in(file.body):
-                for expression in tree.expressions_of(statement):
-                    for node in tree.inside(expression):
-                        if (isinstance(node, tree.Call) and (not names or node.name in names) and node in self.known.reached
-                                and method in (None, node.receiver is not None)):
-                            yield Site(file, statement, node)
+            for statement, node in file.calls:
+                if ((not names or node.name in names) and node in self.known.reached and method in (None, node.receiver is not None)):
+                    yield Site(file, statement, node)
 
     def functions(self, *names: str) -> Iterator[Site]:
         return self.sites(*names, method=False)
@@ -152,11 +194,13 @@ class Project:
     def make(self, rule: str, changes: Iterable[Change]) -> bool:
         """Makes the changes that don't get in each other's way; whether there were any."""
         chosen: list[Change] = []
+        taken = Taken()
         for change in changes:
-            before = [edit for it in chosen for edit in it.edits]
-            is_free = not do_overlap(change.edits, before) and not do_overlap(change.edits[:1], change.edits[1:])
-            if is_free and (rule, change.path, change.place, change.what) not in self.refused:
+            is_free = not taken.overlaps(change.edits) and not do_overlap(change.edits[:1], change.edits[1:])
+            is_inside = all(place_of(self.root, it) for it in change.files)
+            if is_free and is_inside and (rule, change.path, change.place, change.what) not in self.refused:
                 chosen.append(change)
+                taken.add(change.edits)
         made = self.made(chosen)
         if made is None and len(chosen) > 1:  # one of them makes no file of the language
             return any([self.make(rule, [it]) for it in chosen[:1]])
@@ -168,6 +212,8 @@ class Project:
             self.done.append(self.told(change, rule, change.what))
             self.notes += [self.told(change, rule, it) for it in change.notes]
             self.new_files.update(change.files)
+            self.files.update((path, self.parsed(path, None, text, [1] * (text.count("\n") + 1)))
+                              for path, text in change.files.items() if os.path.basename(path) == "meson.build")
         self.files.update(made)
         if chosen:
             self.look()
@@ -195,8 +241,19 @@ class Project:
     def doubt(self, site: Site, why: str) -> None:
         self.doubts[site.call] = why
 
+    def note(self, site: Site, rule: str, text: str) -> None:
+        """Says what to look at where a rule changes nothing."""
+        found = self.told(site.change(""), rule, text)
+        if found not in self.notes:
+            self.notes.append(found)
+
     def results(self) -> dict[str, tuple[str | None, str]]:
         """The files that change: what each was, none where it wasn't, and what it becomes."""
         written: dict[str, tuple[str | None, str]] = {path: (None, text) for path, text in self.new_files.items()}
-        written.update((path, (it.before, it.text)) for path, it in self.files.items() if it.text != it.before)
+        written.update((path, (self.marking(path, it.before), self.marking(path, it.text) or "")) for path, it in self.files.items()
+                       if it.text != it.before)
         return dict(sorted(written.items()))
+
+    def marking(self, path: str, text: str | None) -> str | None:
+        """A file's text with the mark that it begins with."""
+        return MARK + text if text is not None and path in self.marked else text

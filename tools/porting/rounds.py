@@ -10,8 +10,8 @@ from porting.project import Project, Site
 from porting.values import Many, Thing, is_same, texts_of
 
 IDENTIFIER = re.compile(r"[A-Za-z0-9_]+")
-# More texts than these of one list are not tried.
-MOST_ITEMS = 8
+# More texts than these of one list are not tried, and of all texts no more than these.
+MOST_ITEMS, MOST_PARTS = 8, 16
 
 
 def ending_of(project: Project, site: Site) -> str | None:
@@ -22,10 +22,11 @@ def ending_of(project: Project, site: Site) -> str | None:
     rounds = project.known.things[site.call]
     if len(rounds) < 2 or all(is_same_question(rounds[0], it) for it in rounds):
         return ""
-    parts = [(source, values) for source, values in known_parts(site, rounds)]
+    parts = list(itertools.islice(known_parts(site, rounds), MOST_PARTS))
     for several in [*((it,) for it in parts), *itertools.combinations(parts, 2)]:
         names = ["_".join(re.sub(r"[^A-Za-z0-9]", "_", it) for it in texts) for texts in zip(*(values for _, values in several))]
-        if all(a != b or is_same_question(x, y) for (a, x), (b, y) in itertools.combinations(zip(names, rounds), 2)):
+        first: dict[str, Thing] = {}
+        if all(is_same_question(first.setdefault(name, it), it) for name, it in zip(names, rounds)):
             return " + '_' + ".join(source if all(map(IDENTIFIER.fullmatch, values)) else f"{source}.underscorify()"
                                     for source, values in several)
     return None

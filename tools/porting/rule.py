@@ -1,7 +1,6 @@
 """What a rule is, and what the rules are written with."""
 from __future__ import annotations
 
-import dataclasses
 import os
 from collections.abc import Callable, Iterable, Iterator
 
@@ -9,6 +8,7 @@ from porting import tree
 from porting.edits import Change, indent_at, indented, line_start, whole_lines, with_item, without_item
 from porting.project import File, Project, Site
 from porting.values import kind_of, texts_of
+from tools import records as dataclasses
 
 TARGETS = ("executable", "static_library", "shared_library", "library", "both_libraries", "shared_module", "build_target")
 # What only the real Meson does. `meson` is a variable of this program and none of the real one.
@@ -19,11 +19,13 @@ LIBRARIES = ("static_library", "shared_library", "library", "both_libraries")
 
 @dataclasses.dataclass(frozen=True)
 class Rule:
-    """`is_sure` where what is built and installed stays what it was; else the rule is carried out where it is asked for."""
+    """`is_sure` where what is built and installed stays what it was, and so do the tests; else the rule is carried out where it is asked
+    for, by its name or, where it keeps what is built and installed, by `--all`."""
     name: str
     does: str
     change: Callable[[Project], Iterable[Change]]
     is_sure: bool = True
+    keeps: bool = True
 
 
 def drop_keyword(site: Site, name: str, what: str = "") -> Change:
@@ -127,12 +129,9 @@ def uses_of(project: Project, name: str) -> Iterator[tuple[File, tree.Statement]
 
 def free_name(project: Project, wanted: str) -> str:
     """A variable's name that no file has."""
-    taken = {it.text for path in project.known.entered for statement in tree.statements_in(project.files[path].body)
-             for expression in tree.expressions_of(statement) for it in tree.inside(expression) if isinstance(it, tree.Name)}
-    taken |= {it.name for path in project.known.entered for it in tree.statements_in(project.files[path].body)
-              if isinstance(it, tree.Assignment)}
+    files = [project.files[path] for path in project.known.entered]
     number, name = 1, wanted
-    while name in taken:
+    while any(name in it.variables for it in files):
         number += 1
         name = f"{wanted}_{number}"
     return name

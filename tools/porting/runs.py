@@ -83,7 +83,7 @@ def outcome(project: Project, site: Site) -> subprocess.CompletedProcess[str]:
     """How the program of a check ended here, UNDEFINED where there is none."""
     text, path = question_of(project, site), file_of(project, site)
     with tempfile.TemporaryDirectory(prefix="meson-port-") as folder:
-        compiler = Compiler(folder)
+        compiler = Compiler(folder, project.root)
         flags = flags_of(project, site, compiler)
         file, made = os.path.join(folder, "source" + (os.path.splitext(path)[1] or ".c")), os.path.join(folder, "made")
         beside = ["-iquote", os.path.dirname(path)] if path else []

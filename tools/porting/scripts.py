@@ -5,22 +5,25 @@ import os
 import re
 from collections.abc import Iterator
 
+from tools.files import DEFINITION, open_file, read_text
+
 from porting import tree
 from porting.edits import Change
 from porting.lexer import escaped
 from porting.project import Project, Site
 from porting.rule import TARGETS, add_argument, renamed, replaced, text_of
-from porting.values import Many, Thing, choices_of, flat
+from porting.values import ROOT, Many, Thing, choices_of, flat, kind_of
 
 INTERPRETERS = {"python": "python3", "python3": "python3", "sh": "sh", "bash": "bash", "perl": "perl", "awk": "awk", "ruby": "ruby"}
+LONGEST_LINE = 200  # of which an interpreter is read
 PLACEHOLDER = re.compile(r"@[-A-Za-z0-9_]+@|^\s*#mesondefine", re.MULTILINE)
 
 
 def interpreter_of(path: str) -> str | None:
     """What a script is run by, by its first line."""
     try:
-        with open(path, "rb") as it:
-            first = it.readline(200).decode("utf-8", "replace")
+        with open_file(path) as it:
+            first = it.readline(LONGEST_LINE).decode("utf-8", "replace")
     except OSError:
         return None
     words = first[2:].split() if first.startswith("#!") else []
@@ -97,12 +100,28 @@ def copied_files(project: Project) -> Iterator[Change]:
         paths = [it for it in source_paths(project, site, source.value)]
         if paths and all(is_plain_text(it) for it in paths):
             yield site.change("configure_file: `copy: true` becomes an empty configuration", (word.start, word.end, "configuration: {}"))
+            continue
+        change = copied_by_command(project, site, word)
+        if change is None:
+            project.doubt(site, "configure_file: `copy:`: a custom_target with cp, of a name of its own for each file")
         else:
-            yield copied_by_command(project, site, word)
+            yield change
     for site in project.methods("copyfile"):
         module = project.known.value(site.call.receiver) if site.call.receiver else None
         if isinstance(module, Thing) and module.kind == "module" and module.name == "fs" and site.call.arguments:
             yield copied_by_module(project, site)
+
+
+def absolute_inputs(project: Project) -> Iterator[Change]:
+    """Changes nothing: notes where a command is given a path that the real Meson gives from the root of the disk."""
+    for site in project.functions("custom_target"):
+        word, command = site.call.keywords.get("input"), site.call.keywords.get("command")
+        items = flat(project.known.placed(word.value)) if word else []
+        if command and any(isinstance(it.value, str) and it.value.startswith(ROOT) for it in items) and (
+                "@INPUT" in site.file.source(command.value)):
+            project.note(site, "inputs",
+                         "custom_target: the path in @INPUT@ is one from the build folder here, and absolute in the real Meson")
+    return iter(())
 
 
 def source_paths(project: Project, site: Site, node: tree.Node) -> list[str]:
@@ -121,20 +140,34 @@ def source_paths(project: Project, site: Site, node: tree.Node) -> list[str]:
 def is_plain_text(path: str) -> bool:
     """Whether a template comes out of configure_file as it went in, mode and all."""
     try:
-        with open(path, "rb") as it:
-            text = it.read().decode("utf-8")
-    except (OSError, UnicodeDecodeError):
+        text = read_text(path, DEFINITION)
+    except OSError:
         return False
     return not os.access(path, os.X_OK) and not PLACEHOLDER.search(text) and "\\@" not in text and all(
         len(line) < 60000 for line in text.split("\n"))
 
 
-def copied_by_command(project: Project, site: Site, word: tree.Keyword) -> Change:
-    output = site.call.keywords.get("output")
-    name = site.file.source(output.value) if output else "'copy'"
-    known = text_of(project, output.value) if output else None
-    unsure = known is None or "@" in known
-    first = f"'copy-of-' + {name}" if unsure else escaped(f"copy-of-{known}")
+def name_of_copy(project: Project, site: Site, output: tree.Node, source: tree.Node) -> str | None:
+    """The name of a target that makes a copy, which no other copy has; none where its file isn't named by a text. In a loop an output that
+    has parts of the input's name is one for each round."""
+    known = text_of(project, output)
+    if known is not None and "@" not in known:
+        return escaped(f"copy-of-{known}")
+    if known is None:
+        return f"'copy-of-' + {site.file.source(output)}"
+    node = tree.plain(source)
+    node = tree.plain(node.items[0]) if isinstance(node, tree.List) and len(node.items) == 1 else node
+    if kind_of(project.known.value(node)) != "text":
+        return None
+    text = site.file.source(node) if isinstance(node, (tree.Name, tree.Text, tree.Index)) else f"({site.file.source(node)})"
+    return f"'copy-of-' + {text}.underscorify()"
+
+
+def copied_by_command(project: Project, site: Site, word: tree.Keyword) -> Change | None:
+    words = site.call.keywords
+    first = name_of_copy(project, site, words["output"].value, words["input"].value) if "output" in words else None
+    if first is None:
+        return None
     start = site.call.items[0].start
     edits = [renamed(site, "custom_target"), (start, start, f"{first}, "),
              (word.start, word.end, "command: ['cp', '@INPUT@', '@OUTPUT@'], build_by_default: true")]

@@ -1,10 +1,11 @@
 """Checks of a source that has to compile or to link, as checks of a type or a function that the source has."""
 from __future__ import annotations
 
-import dataclasses
 import os
 import re
 from collections.abc import Iterator
+
+from tools.files import DEFINITION, read_bytes
 
 from porting import tree
 from porting.edits import Change, without_item
@@ -13,6 +14,7 @@ from porting.project import Project, Site
 from porting.rounds import ending_of
 from porting.rule import added_behind, identifier, of_compiler, path_from, renamed, replaced, text_of
 from porting.values import Thing, choices_of, flat
+from tools import records as dataclasses
 
 # Keywords that a check keeps.
 KEPT = {"args", "dependencies", "include_directories", "required"}
@@ -129,8 +131,7 @@ def source_of(project: Project, site: Site) -> Source | None:
     if not path.endswith(".c"):
         return None
     try:
-        with open(path, encoding="utf-8", errors="replace") as it:
-            text = it.read()
+        text = read_bytes(path, DEFINITION).decode(errors="replace")
     except OSError:
         return None
     place = f"(meson.current_source_dir() / {escaped(path_from(site.folder, file.path))})"

@@ -1,8 +1,9 @@
 """The rules, in the order in which they are carried out."""
 from __future__ import annotations
 
-from porting import (asked, calls, commands, compiler, dependencies, features, generators, installs, keywords, modules, objects, options,
-                     outside, pkgconfig, runs, scripts, sources, test_calls, twice)
+from porting import (asked, calls, commands, compiler, dependencies, features, generators, gnome, headers, installs, keywords,
+                     link_commands, modules, objects, options, outside, pkgconfig, runs, scripts, sources, templates, test_calls,
+                     translations, twice, whole)
 from porting.rule import Rule
 
 RULES = (
@@ -17,6 +18,9 @@ RULES = (
     Rule("outside", "files() of a path outside of the project, in commands alone: the path", outside.files_outside),
     Rule("formatted", "a file that format puts into a text: its path", calls.files_in_texts),
     Rule("python", "import('python').find_installation(): find_program", modules.python),
+    Rule("translations", "i18n.gettext: a custom_target with msgfmt for each language", translations.translations),
+    Rule("merged-files", "i18n.merge_file: a custom_target with msgfmt", translations.merged_files),
+    Rule("gnome-tools", "gnome.mkenums, mkenums_simple, genmarshal, compile_resources: custom targets of their tools", gnome.tools),
     Rule("default-options", "values of default_options that no option has here: the nearest", keywords.default_options),
     Rule("folders", "libexecdir, localedir and other folders: options of the project", options.folders),
     Rule("built-in-options", "b_ndebug and other options: the value that the real Meson begins with", options.others),
@@ -32,6 +36,7 @@ RULES = (
     Rule("link-arguments", "get_supported_link_arguments: has_link_argument in a loop", compiler.link_arguments),
     Rule("first-argument", "first_supported_argument: has_argument in a loop", compiler.first_argument),
     Rule("set10", "a number that set10 is given: a truth value", calls.truth_values),
+    Rule("shown-truth", "a truth value for which a template has @NAME@: the text True or False", templates.truth_names),
     Rule("several", "has_multi_arguments, has_members: has_argument, has_member for each", compiler.several),
     Rule("compiler-answers", "get_argument_syntax, get_linker_id: by get_id, or a text", compiler.plain_answers),
     Rule("asked-twice", "has_function, has_type asked twice with other words beside them: a name of its own for each", twice.asked_twice),
@@ -45,6 +50,7 @@ RULES = (
     Rule("vcs-tag", "vcs_tag: configure_file with its fallback", installs.vcs_tag),
     Rule("environment", "environment: a dictionary", test_calls.environment),
     Rule("benchmark", "benchmark: a test of the suite 'benchmark'", test_calls.benchmark),
+    Rule("depends", "`depends:` of a test: these targets are built by default", test_calls.built_first),
     Rule("generator", "generator: a custom_target for each input", generators.generators),
     Rule("copy", "configure_file(copy: true): an empty configuration, or cp", scripts.copied_files),
     Rule("made-files", "configure_file(command:): a custom_target, where it is a source", scripts.commanded_files),
@@ -52,7 +58,11 @@ RULES = (
     Rule("test-program", "files() of one as a test's program: that one", test_calls.test_programs),
     Rule("test-arguments", "a program among a test's arguments: its path", test_calls.programs_as_arguments),
     Rule("workdir", "`workdir:` of a test: env -C", test_calls.workdir),
+    Rule("serial", "`is_parallel: false` of a test: the suite 'serial'", test_calls.serial),
     Rule("scripts", "a script of the project that a command begins with: find_program", scripts.named_scripts),
+    Rule("inputs", "`input:` of custom_target as a path from the root of the disk: noted, where the command names it",
+         scripts.absolute_inputs),
+    Rule("inputs-outside", "`input:` of custom_target outside of the project: a word of its command", outside.inputs_outside),
     Rule("exec-bit", "a script without its exec bit: run by its interpreter", scripts.unmarked_scripts),
     Rule("visibility", "`gnu_symbol_visibility:`: `c_args:`", keywords.visibility),
     Rule("override-options", "`override_options:`: `c_args:`", keywords.override_options),
@@ -65,7 +75,9 @@ RULES = (
     Rule("install", "`install:` of configure_file: `install_dir:` alone", keywords.configure_install),
     Rule("install-lists", "`install:`, `install_dir:` of one item: that item", keywords.install_lists),
     Rule("data-sources", "`sources:` of install_data: its arguments", keywords.data_sources),
-    Rule("link-whole", "`link_whole:` of declare_dependency: `link_with:`", dependencies.dependency_link_whole),
+    Rule("link-whole", "`link_whole:`: the sources of these libraries, in each target that has them", whole.whole_libraries),
+    Rule("made-headers", "a header of a custom target in another folder, among the sources: `include_directories:` of that folder",
+         headers.made_headers),
     Rule("prefixes", "`name_prefix: 'lib'`, `name_suffix: 'so'`: dropped", keywords.name_prefix),
     Rule("usual-modes", "`install_mode:` of the usual mode: dropped", keywords.usual_modes),
     Rule("keywords", "keywords that change nothing on Linux: dropped", keywords.drop_keywords),
@@ -83,7 +95,10 @@ RULES = (
     Rule("compiler-options", "compiles, links, get_define, compute_int that no check says: an option with the value of now (--run alone)",
          asked.answers),
     Rule("objects", "`objects:` of a whole target: a static library of its sources", objects.extracted, is_sure=False),
-    Rule("install-modes", "`install_mode:` of another mode: dropped; a step of the package", keywords.other_modes, is_sure=False),
+    Rule("install-modes", "`install_mode:` of another mode: dropped; a step of the package", keywords.other_modes, is_sure=False,
+         keeps=False),
+    Rule("named-modules", "`name_prefix:`, `name_suffix:` of a shared library: a custom_target with the link command",
+         link_commands.named_modules, is_sure=False, keeps=False),
     Rule("link-order", "static libraries of one target that use one another: named once more in `link_args:`", dependencies.link_order,
          is_sure=False),
     Rule("numbers", "compute_int of what isn't negative: sizeof of an array", compiler.numbers, is_sure=False),

@@ -6,9 +6,9 @@ from collections.abc import Iterator
 from porting import tree
 from porting.edits import Change, without_item
 from porting.lexer import escaped
-from porting.project import Project
+from porting.project import Project, Site
 from porting.rule import add_argument, added_to_list, assigned_name, is_whole_statement, renamed, replaced
-from porting.values import Many, flat, kind_of
+from porting.values import Many, Thing, flat, kind_of
 
 
 def benchmark(project: Project) -> Iterator[Change]:
@@ -19,6 +19,30 @@ def benchmark(project: Project) -> Iterator[Change]:
         else:
             edit = added_to_list(site, "suite", "'benchmark'")
         yield site.change("benchmark becomes a test of the suite 'benchmark'", renamed(site, "test"), edit)
+
+
+def built_first(project: Project) -> Iterator[Change]:
+    """What a test depends on is built by default, since that is built before tests."""
+    for site in project.functions("test"):
+        word = site.call.keywords.get("depends")
+        for item in flat(project.known.value(word.value)) if word else []:
+            thing = item.value
+            owner = next((it for it in project.functions() if isinstance(thing, Thing) and it.call is thing.call), None)
+            edit = edit_of_default(project, owner) if owner else None
+            if owner and edit:
+                yield owner.change(f"{owner.call.name}: what a test depends on is built by default", edit)
+            if not owner:
+                project.note(site, "depends", "test: what `depends:` names is not known here: it has to be built by default")
+
+
+def edit_of_default(project: Project, site: Site) -> tuple[int, int, str] | None:
+    """The edit that has a target built by default; none where it is."""
+    words = site.call.keywords
+    if "build_by_default" in words:
+        value = words["build_by_default"].value
+        return None if project.known.value(value) is not False else replaced(site, value, "true")
+    is_left_out = site.call.name == "custom_target" and ("install" not in words or project.known.value(words["install"].value) is False)
+    return add_argument(site, "build_by_default: true") if is_left_out else None
 
 
 def environment(project: Project) -> Iterator[Change]:
@@ -104,3 +128,15 @@ def workdir(project: Project) -> Iterator[Change]:
         else:
             edits.append(replaced(site, args.value, f"[{first}, {site.file.source(args.value)}]"))
         yield site.change("test: `workdir:` becomes `env -C`", *edits)
+
+
+def serial(project: Project) -> Iterator[Change]:
+    """A test that may not run beside others is one of the suite `serial`, whose tests run alone."""
+    for site in project.functions("test"):
+        words = site.call.keywords
+        if "is_parallel" not in words or project.known.value(words["is_parallel"].value) is not False:
+            continue
+        suite = tree.plain(words["suite"].value) if "suite" in words else None
+        items = suite.items if isinstance(suite, tree.List) else [suite] if suite is not None else []
+        if all(isinstance(it, tree.Text) and not it.has_names for it in items) and "serial" not in [it.value for it in items]:
+            yield site.change("test: `is_parallel: false` is the suite 'serial'", added_to_list(site, "suite", "'serial'"))

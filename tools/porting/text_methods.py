@@ -5,7 +5,7 @@ import re
 from collections.abc import Callable
 
 from porting.operators import is_in
-from porting.values import UNKNOWN, Item, Many, Table, Unknown, either, kind_of, texts_of
+from porting.values import MOST_CHARACTERS, MOST_ITEMS, UNKNOWN, Item, Many, Table, Unknown, bounded, either, kind_of, texts_of
 
 KINDS = {
     "format": "text", "join": "text", "replace": "text", "strip": "text", "substring": "text", "to_lower": "text", "to_upper": "text",
@@ -13,6 +13,9 @@ KINDS = {
     "version_compare": "truth", "to_int": "integer", "length": "integer", "has_key": "truth", "enabled": "truth", "disabled": "truth",
     "auto": "truth", "allowed": "truth", "is_even": "truth", "is_odd": "truth", "compiles": "truth", "links": "truth",
 }
+
+
+LONGEST_VERSION = 1000  # characters
 
 
 def printed(value: object) -> str | None:
@@ -24,24 +27,41 @@ def printed(value: object) -> str | None:
 
 def formatted(text: str, arguments: list) -> object:
     shown = [printed(it) for it in arguments]
-    numbers = [int(it) for it in re.findall(r"@(\d+)@", text)]
-    if any(it >= len(shown) or shown[it] is None for it in numbers):
+    places = [int(it) for it in re.findall(r"@([0-9]{1,9})@", text)]
+    if any(it >= len(shown) or shown[it] is None for it in places):
         return Unknown("text")
-    return re.sub(r"@(\d+)@", lambda match: shown[int(match[1])] or "", text)
+    if len(text) + sum(len(shown[it] or "") for it in places) > MOST_CHARACTERS:
+        return Unknown("text")
+    return re.sub(r"@([0-9]{1,9})@", lambda match: shown[int(match[1])] or "", text)
+
+
+def joined(text: str, texts: list[str]) -> object:
+    is_short = len(text) * len(texts) + sum(map(len, texts)) <= MOST_CHARACTERS
+    return text.join(texts) if is_short else Unknown("text")
+
+
+def replaced(text: str, before: str, after: str) -> object:
+    is_short = before != "" and len(text) + text.count(before) * (len(after) - len(before)) <= MOST_CHARACTERS
+    return text.replace(before, after) if is_short else Unknown("text")
 
 
 def split(text: str, arguments: list) -> object:
-    parts = text.split(arguments[0]) if arguments and arguments[0] else text.split()
-    return Many([Item(it) for it in parts])
+    """The parts of a text; of what has too many of them no more than that these are texts."""
+    parts = text.split(arguments[0], MOST_ITEMS) if arguments and arguments[0] else text.split(None, MOST_ITEMS)
+    return in_parts(parts)
+
+
+def in_parts(parts: list[str]) -> object:
+    return Many([Item(it) for it in parts]) if len(parts) <= MOST_ITEMS else Many([Item(Unknown("text"), False)], False)
 
 
 TEXT: dict[str, Callable[..., object]] = {
     "split": lambda text, *it: split(text, list(it)),
-    "splitlines": lambda text: Many([Item(it) for it in text.splitlines()]),
+    "splitlines": lambda text: in_parts(text.splitlines()),
     "strip": lambda text, *it: text.strip(*it), "underscorify": lambda text: re.sub(r"[^a-zA-Z0-9]", "_", text),
     "to_lower": lambda text: text.lower(), "to_upper": lambda text: text.upper(), "to_int": lambda text: int(text),
     "startswith": lambda text, it: text.startswith(it), "endswith": lambda text, it: text.endswith(it),
-    "contains": lambda text, it: it in text, "replace": lambda text, a, b: text.replace(a, b),
+    "contains": lambda text, it: it in text, "replace": replaced,
     "substring": lambda text, a=0, b=None: text[a:b],
 }
 
@@ -49,7 +69,7 @@ TEXT: dict[str, Callable[..., object]] = {
 def version_compare(version: str, wanted: str) -> bool | None:
     """Whether a version is as wanted, by an operator and another version; none where that is written in another way."""
     found = re.fullmatch(r"\s*(>=|<=|!=|==|=|>|<)?\s*([0-9.]+)\s*", wanted)
-    if found is None:
+    if found is None or max(len(version), len(wanted)) > LONGEST_VERSION:
         return None
     one, other = ([int(it) for it in re.findall(r"[0-9]+", text)] for text in (version, found[2]))
     return {">=": one >= other, "<=": one <= other, "!=": one != other, ">": one > other, "<": one < other}.get(found[1], one == other)
@@ -60,10 +80,10 @@ def method_of_text(text: str, name: str, arguments: list) -> object:
         return formatted(text, arguments)
     if name == "join":
         texts = texts_of(Many([Item(it) for it in arguments]))
-        return Unknown("text") if texts is None else text.join(texts)
+        return Unknown("text") if texts is None else joined(text, texts)
     if name in TEXT and all(isinstance(it, (str, int)) for it in arguments):
         try:
-            return TEXT[name](text, *arguments)
+            return bounded(TEXT[name](text, *arguments))
         except (ValueError, TypeError):
             pass
     return Unknown(KINDS.get(name, "list" if name.startswith("split") else ""))

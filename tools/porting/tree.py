@@ -1,8 +1,9 @@
 """The tree of a definition file. Each node knows where it begins and ends in the text."""
 from __future__ import annotations
 
-import dataclasses
 from collections.abc import Iterator
+
+from tools import records as dataclasses
 
 
 @dataclasses.dataclass(eq=False)
@@ -173,9 +174,24 @@ def parts_of(node: Node) -> list[Node]:
 
 def inside(node: Node) -> Iterator[Node]:
     """A node and all that stand in it, receivers first."""
-    for part in parts_of(node):
-        yield from inside(part)
-    yield node
+    waiting = [(node, False)]
+    while waiting:
+        it, has_parts_behind = waiting.pop()
+        if has_parts_behind:
+            yield it
+        else:
+            waiting.append((it, True))
+            waiting += [(part, False) for part in reversed(parts_of(it))]
+
+
+def depth_of(node: Node) -> int:
+    """How many nodes stand in one another at most."""
+    deepest, waiting = 0, [(node, 1)]
+    while waiting:
+        it, depth = waiting.pop()
+        deepest = max(deepest, depth)
+        waiting += [(part, depth + 1) for part in parts_of(it)]
+    return deepest
 
 
 def names_in(node: Node) -> set[str]:

@@ -2,32 +2,34 @@
 from __future__ import annotations
 
 import os
-import shutil
-import subprocess
 import tempfile
 from collections.abc import Callable
 
+from tools.asking.processes import MOST_TOLD, NoAnswer, run
+from tools.ending import one_line
 from tools.explaining.command import explained
 from tools.explaining.run import LONGEST, Asked, in_place
 from tools.links import linked_copy
 
 CHECKOUT = os.path.dirname(os.path.dirname(os.path.dirname(os.path.realpath(__file__))))
-BUILT = os.path.join(CHECKOUT, "crates", "hawkottoman", "out", "hawkottoman")
+# A checkout has the list of its crates; what is installed has the program itself.
+IS_CHECKOUT = os.path.exists(os.path.join(CHECKOUT, "crates.txt"))
+OWN = os.path.join(CHECKOUT, *(("crates", "hawkottoman", "out") if IS_CHECKOUT else ()), "hawkottoman")
 BUILD = "build-of-the-trial"
 
 
 def program_of(given: str | None) -> str | None:
-    """The program that is asked: the given one, else the checkout's or the installed one, where it is built."""
+    """Returns the program that is asked: the given one, else that of this checkout or of this installation; none where it isn't built."""
     if given is not None:
         return os.path.abspath(given)
-    installed = shutil.which("hawkottoman-meson")
-    return BUILT if os.access(BUILT, os.X_OK) else installed
+    return OWN if os.access(OWN, os.X_OK) else None
 
 
 def machine_file(program: str, root: str, words: list[str]) -> bytes:
     """A machine file of the sources, as far as one can be made."""
     command = [os.path.join(CHECKOUT, "tools", "machine-file"), program, "machine-file", *words, root]
-    return subprocess.run(command, stdout=subprocess.PIPE, stderr=subprocess.DEVNULL, stdin=subprocess.DEVNULL, timeout=LONGEST).stdout
+    # It is asked to end first, since it ends its compilers and takes its folder away.
+    return run(command, seconds=LONGEST, variables=dict(os.environ), most=MOST_TOLD, is_asked_first=True).printed.encode()
 
 
 def first_fault(program: str, root: str, changed: dict[str, str], words: list[str], show: Callable[[str], None]) -> str | None:
@@ -38,8 +40,8 @@ def first_fault(program: str, root: str, changed: dict[str, str], words: list[st
             linked_copy(root, folder, changed)
         try:
             return of_sources(program, folder, words, show)
-        except (OSError, subprocess.TimeoutExpired) as error:
-            return f"the program {program} could not be run: {error}"
+        except (OSError, NoAnswer) as error:
+            return one_line(f"the program {program} could not be run: {error}")
 
 
 def of_sources(program: str, root: str, words: list[str], show: Callable[[str], None]) -> str | None:
@@ -52,4 +54,4 @@ def of_sources(program: str, root: str, words: list[str], show: Callable[[str], 
         return "\n".join(explained(asked, outcome.fault))
     if outcome.status == 0:
         return None
-    return outcome.complaint.strip().split("\n")[-1] or f"it ended with status {outcome.status}"
+    return one_line(outcome.complaint.strip().split("\n")[-1]) or f"it ended with status {outcome.status}"

@@ -4,13 +4,16 @@ Texts, integers and truth values are Python's. All else stands below; `Unknown` 
 """
 from __future__ import annotations
 
-import dataclasses
+import functools
 from collections.abc import Iterable
 
 from porting import tree
+from tools import records as dataclasses
 
 # More possible values than these are one unknown value.
 MOST_CHOICES = 24
+# Greater texts, lists and numbers than these are values that aren't known: they grow with each round of a loop, and cost the more.
+MOST_CHARACTERS, MOST_ITEMS, MOST_LEVELS, MOST_NUMBER = 1 << 24, 1 << 16, 64, 1 << 127
 
 
 @dataclasses.dataclass(frozen=True)
@@ -40,6 +43,12 @@ class Many:
     @property
     def is_exact(self) -> bool:
         return self.is_whole and all(it.is_sure for it in self.items)
+
+    @functools.cached_property
+    def size(self) -> tuple[int, int]:
+        """How many items it has at every depth, and how deep these stand in one another."""
+        inner = [size_of(it.value) for it in self.items if isinstance(it.value, (Many, Either))]
+        return len(self.items) + sum(it[0] for it in inner), 1 + max((it[1] for it in inner), default=0)
 
 
 @dataclasses.dataclass(eq=False)
@@ -73,6 +82,33 @@ class Thing:
 UNKNOWN = Unknown()
 # Stands for the project's folder in what is known of a text: that folder is another one on each machine.
 ROOT = "\0root"
+
+
+def size_of(value: object) -> tuple[int, int]:
+    """How many items a value has at every depth of lists, in all that it may be, and how deep they stand in one another."""
+    if isinstance(value, Many):
+        return value.size
+    sizes = [size_of(it) for it in value.choices] if isinstance(value, Either) else []
+    return sum(it[0] for it in sizes), max((it[1] for it in sizes), default=0)
+
+
+def bounded(value: object) -> object:
+    """A value, or of one that is too great its kind."""
+    if isinstance(value, int) and not isinstance(value, bool):
+        return value if -MOST_NUMBER <= value < MOST_NUMBER else Unknown("integer")
+    if isinstance(value, str):
+        return value if len(value) <= MOST_CHARACTERS else Unknown("text")
+    if isinstance(value, Table):
+        return value if len(value.pairs) <= MOST_ITEMS else Unknown("dictionary")
+    items, levels = size_of(value)
+    return value if items <= MOST_ITEMS and levels <= MOST_LEVELS else Unknown(kind_of(value))
+
+
+def cost_of(value: object) -> int:
+    """What it costs to make a value or to look at it, in steps."""
+    if isinstance(value, str):
+        return len(value) >> 10
+    return len(value.pairs) >> 3 if isinstance(value, Table) else size_of(value)[0] >> 4
 
 
 def without_root(value: object) -> object:
@@ -109,13 +145,24 @@ def is_same(a: object, b: object) -> bool:
     return a is b or (type(a) is type(b) and isinstance(a, (str, int, bool, Unknown)) and a == b)
 
 
+def key_of(value: object) -> object:
+    """What two values have in common that count as one, as `is_same` says."""
+    if isinstance(value, Thing) and value.kind == "target" and value.name is not None:
+        return "target", value.name, value.function, value.path
+    return (type(value), value) if isinstance(value, (str, int, Unknown)) else id(value)
+
+
+def distinct(values: Iterable[object]) -> list[object]:
+    """Each value once, in the order of the first."""
+    found: dict[object, object] = {}
+    for value in values:
+        found.setdefault(key_of(value), value)
+    return list(found.values())
+
+
 def either(values: Iterable[object]) -> object:
     """What is known of one of several values."""
-    found: list[object] = []
-    for value in values:
-        for choice in choices_of(value):
-            if not any(is_same(choice, it) for it in found):
-                found.append(choice)
+    found = distinct(choice for value in values for choice in choices_of(value))
     if len(found) == 1:
         return found[0]
     if all(isinstance(it, Many) for it in found) and found:
@@ -135,10 +182,7 @@ def joined_lists(a: Many, b: Many) -> Many:
         same += 1
     first = [Item(x.value, x.is_sure and y.is_sure) for x, y in zip(a.items[:same], b.items[:same])]
     rest = [Item(it.value, False) for it in [*a.items[same:], *b.items[same:]]]
-    kept: list[Item] = []
-    for it in rest:
-        if not any(is_same(it.value, other.value) for other in kept):
-            kept.append(it)
+    kept = [Item(it, False) for it in distinct(it.value for it in rest)]
     return Many([*first, *kept], a.is_whole and b.is_whole)
 
 

@@ -1,8 +1,8 @@
 -- Dependencies in lists of any depth.
 use Rattle.std.specs.Prelude.{Bool, true, false, ◌&&◌}
-use Rattle.data.specs.Data.{Data, list, object, Items, no_items, item}
-use Rattle.data.specs.declared.object.Object.{Object}
-use Rattle.data.specs.declared.object.Object.TheVariants as objects
+use Rattle.values.specs.Data.{Data, list, object, Items, no_items, item}
+use Rattle.values.specs.declared.object.Object.{Object}
+use Rattle.values.specs.declared.object.Object.TheVariants as objects
 
 abbrev pub is_found : Object → Bool
 is_found (objects.Dependency d) = d.is_found

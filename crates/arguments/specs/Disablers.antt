@@ -1,6 +1,6 @@
 -- Disablers among arguments.
 use Rattle.std.specs.Prelude.{ℕ, Bool, false, ◌||◌, List, [], ◌∷◌}
-use Rattle.data.specs.Data.{Data, has_disabler}
+use Rattle.values.specs.Data.{Data, has_disabler}
 use Rattle.arguments.specs.Arguments.{ArgumentsData}
 
 abbrev pub one_has_disabler : List Data → Bool

@@ -1,11 +1,11 @@
 -- What is given to a call. Each of these is total: the row of the call sees to it that what is there is of the right type.
 use Rattle.std.specs.Prelude.{ℕ, ℤ, Bool, true, false, List, [], codes, drop, slice_get, Option, Some, None, unwrap_or, option_and_then}
-use Rattle.data.specs.Data.{Data, boolean, boolean_in, integer_in, text_in, object}
-use Rattle.data.specs.declared.object.Feature.{Feature}
-use Rattle.data.specs.declared.object.Feature.TheVariants as features
-use Rattle.data.specs.declared.object.Object.TheVariants as objects
+use Rattle.values.specs.Data.{Data, boolean, boolean_in, integer_in, text_in, object}
+use Rattle.values.specs.declared.object.Feature.{Feature}
+use Rattle.values.specs.declared.object.Feature.TheVariants as features
+use Rattle.values.specs.declared.object.Object.TheVariants as objects
 use Rattle.arguments.specs.Arguments.{ArgumentsData}
-use Rattle.data.specs.Flat.{flat, flat_all}
+use Rattle.values.specs.Flat.{flat, flat_all}
 use Rattle.arguments.specs.Row.{value_named}
 use Rattle.arguments.specs.declared.given.Requirement.{Requirement}
 use Rattle.arguments.specs.declared.given.Requirement.TheVariants as requirements

@@ -1,7 +1,7 @@
 -- What arguments hold, with all lists opened.
 use Rattle.std.specs.Prelude.{ℕ, List, [], drop, Option, Some, None}
-use Rattle.data.specs.Data.{Data}
-use Rattle.data.specs.Flat.{opened, opened_all}
+use Rattle.values.specs.Data.{Data}
+use Rattle.values.specs.Flat.{opened, opened_all}
 use Rattle.arguments.specs.Arguments.{ArgumentsData}
 use Rattle.arguments.specs.Row.{value_named}
 

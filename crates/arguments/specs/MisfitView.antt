@@ -1,5 +1,5 @@
 -- What a misfit is seen as.
-use Rattle.data.specs.View.{data_of}
+use Rattle.values.specs.View.{data_of}
 use Rattle.arguments.specs.Misfits.{MisfitData, Twice, LeftOut, TooFew, TooMany, Place, Unknown, Keyword, Missing}
 use Rattle.arguments.specs.declared.misfit.Misfit.{Misfit}
 use Rattle.arguments.specs.declared.misfit.Misfit.TheVariants as misfits

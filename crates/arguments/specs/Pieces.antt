@@ -1,8 +1,8 @@
 -- Things in lists of any depth.
 use Rattle.std.specs.Prelude.{Bool, true, false, ◌&&◌, ◌||◌}
-use Rattle.data.specs.Data.{Data, text, list, object, Items, no_items, item}
-use Rattle.data.specs.declared.object.Object.{Object}
-use Rattle.data.specs.declared.object.Object.TheVariants as objects
+use Rattle.values.specs.Data.{Data, text, list, object, Items, no_items, item}
+use Rattle.values.specs.declared.object.Object.{Object}
+use Rattle.values.specs.declared.object.Object.TheVariants as objects
 use Rattle.arguments.specs.declared.row.Piece.{Piece}
 use Rattle.arguments.specs.declared.row.Piece.TheVariants as pieces
 

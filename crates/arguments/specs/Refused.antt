@@ -1,8 +1,8 @@
 -- What a test of arguments refuses.
 use Rattle.std.specs.Prelude.{ℕ, List, Result, string_bytes}
 use Rattle.std.specs.Result.{result_map_both}
-use Rattle.basics.specs.declared.faults.refusal.Refusal.{Refusal}
-use Rattle.basics.specs.declared.faults.refusal.Refusal.TheVariants as refusals
+use Rattle.support.specs.declared.faults.refusal.Refusal.{Refusal}
+use Rattle.support.specs.declared.faults.refusal.Refusal.TheVariants as refusals
 use Rattle.arguments.specs.Rules.{broken}
 use Rattle.arguments.specs.declared.refused.Refused.{Refused}
 use Rattle.arguments.specs.declared.rule.Rule.{Rule}

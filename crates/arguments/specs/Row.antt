@@ -1,11 +1,11 @@
 -- What a call takes, and whether arguments are that.
 use Rattle.std.specs.Prelude.{ℕ, Bool, true, false, ◌||◌, List, [], ◌∷◌, slice_get}
 use Rattle.std.specs.Prelude.{Option, Some, None, is_some, bytes_eq, codes, if◌then◌else◌}
-use Rattle.data.specs.Data.{Data, boolean_in, integer_in, text_in, entries_in, object}
-use Rattle.data.specs.declared.object.Object.{Object}
+use Rattle.values.specs.Data.{Data, boolean_in, integer_in, text_in, entries_in, object}
+use Rattle.values.specs.declared.object.Object.{Object}
 use Rattle.arguments.specs.declared.row.Kind.{Kind}
 use Rattle.arguments.specs.declared.row.Kind.TheVariants as kinds
-use Rattle.data.specs.Flat.{is_texts}
+use Rattle.values.specs.Flat.{is_texts}
 use Rattle.arguments.specs.Pieces.{are_pieces, is_command, is_configuration, is_feature, is_file}
 
 pub record KeywordData : Type 0 where

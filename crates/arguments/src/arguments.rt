@@ -1,10 +1,10 @@
 //! The evaluated arguments of a call.
 ghost use Rattle.std.specs.Prelude.{◌≡◌, OnOk};
-ghost use Rattle.data.specs.Prelude.{data_of};
+ghost use Rattle.values.specs.Prelude.{data_of};
 ghost use Rattle.arguments.specs.Arguments.{arguments_data, no_arguments, with_argument};
 
-use data::{Text, Value};
 use std::alloc::{AllocError, Global};
+use values::{Text, Value};
 
 /// An argument that is given by a name.
 #[derive(Drop)]

@@ -1,9 +1,9 @@
 //! Dependencies in lists of any depth.
 ghost use Rattle.std.specs.Prelude.{◌≡◌};
 ghost use Rattle.arguments.specs.Dependencies.{all_found, are_found};
-ghost use Rattle.data.specs.Prelude.{data_of, items_of};
+ghost use Rattle.values.specs.Prelude.{data_of, items_of};
 
-use data::{Object, Value};
+use values::{Object, Value};
 
 /// Whether the dependencies that it is are all found.
 #[cycle(found)]

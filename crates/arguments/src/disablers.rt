@@ -2,10 +2,10 @@
 ghost use Rattle.std.specs.Prelude.{◌≡◌, map};
 ghost use Rattle.arguments.specs.Arguments.{arguments_data, named_data};
 ghost use Rattle.arguments.specs.Disablers.{gives_disabler, named_have_disabler, one_has_disabler};
-ghost use Rattle.data.specs.Prelude.{data_of};
+ghost use Rattle.values.specs.Prelude.{data_of};
 
 use crate::arguments::{Arguments, Named};
-use data::Value;
+use values::Value;
 
 fn one_has_disabler(values: &[Value]) -> bool
     ensures { result ≡ one_has_disabler (map data_of values.now) }

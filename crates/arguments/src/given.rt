@@ -1,19 +1,19 @@
 //! What is given to a call. The row of the call has been checked before, so nothing here tests a type again: an argument of
 //! another type counts as one that is not given.
 ghost use Rattle.std.specs.Prelude.{◌≡◌, IfOk, drop, map, option_map, string_bytes};
-ghost use Rattle.data.specs.Data.{text_in};
-ghost use Rattle.data.specs.Prelude.{data_of};
+ghost use Rattle.values.specs.Data.{text_in};
+ghost use Rattle.values.specs.Prelude.{data_of};
 ghost use Rattle.arguments.specs.Arguments.{arguments_data, named_data};
 ghost use Rattle.arguments.specs.Given.{argument, flag, flag_at, integer_of, keyword, of_boolean};
 ghost use Rattle.arguments.specs.Given.{of_feature, requirement, requirement_in, text_at, text_given, text_of, text_or, texts};
 ghost use Rattle.arguments.specs.Given.{texts_from};
-ghost use Rattle.data.specs.Flat.{flat_all};
+ghost use Rattle.values.specs.Flat.{flat_all};
 ghost use Rattle.arguments.specs.Row.{value_named};
 
 use crate::arguments::{Arguments, Named};
-use basics::text_lists::strings;
-use data::{Feature, Object, Text, Value, flat, flat_all};
 use std::alloc::{AllocError, Global};
+use support::text_lists::strings;
+use values::{Feature, Object, Text, Value, flat, flat_all};
 
 /// What the keyword `required` says of a thing that is looked up.
 #[derive(Clone, Copy)]

@@ -1,13 +1,13 @@
 //! What stands in lists of any depth.
 ghost use Rattle.std.specs.Prelude.{◌≡◌, map, IfOk};
-ghost use Rattle.data.specs.Prelude.{data_of};
+ghost use Rattle.values.specs.Prelude.{data_of};
 ghost use Rattle.arguments.specs.Arguments.{arguments_data};
 ghost use Rattle.arguments.specs.Leaves.{leaves_from, leaves_named};
 
 use crate::arguments::Arguments;
 use crate::given::behind;
-use data::{Value, open_all, open_up};
 use std::alloc::{AllocError, Global};
+use values::{Value, open_all, open_up};
 
 impl Arguments {
     /// What a keyword gives, with all lists opened, in order; nothing where it is not given.

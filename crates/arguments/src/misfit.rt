@@ -1,16 +1,17 @@
 //! What is wrong with the arguments of a call, and the words that say so.
 ghost use Rattle.std.specs.Prelude.{◌≡◌, IfOk, string_bytes};
 ghost use Rattle.arguments.specs.Refused.{refused_data};
-ghost use Rattle.data.specs.Prelude.{data_of};
+ghost use Rattle.values.specs.Prelude.{data_of};
 ghost use Rattle.arguments.specs.MisfitView.{misfit_data};
 ghost use Rattle.arguments.specs.Misfits.{Keyword, Place, TooFew, TooMany, keyword_is, refusal_of, refused_as, takes, words_of};
 
 use crate::refused::Refused;
 use crate::row::Kind;
 use crate::words::{kind_words, value_words};
-use basics::faults::Refusal;
-use data::Value;
+use itoa::Buffer;
 use std::alloc::{AllocError, Global};
+use support::faults::Refusal;
+use values::Value;
 
 /// What a row does not take of the arguments that it is held against.
 #[derive(Clone, Copy)]
@@ -53,7 +54,8 @@ fn place_is(alloc: Global, place: usize, kind: Kind, value: &Value) -> Result<St
     ensures { IfOk result (λ text. string_bytes text ≡ words_of (Place place kind (data_of value.now))) }
 {
     let takes = takes(alloc, kind, value)?;
-    let number = place as u128 + 1;
+    let mut buffer = Buffer::new();
+    let number = buffer.format(place as u128 + 1);
     format!(in alloc; "argument {number}: {takes}")
 }
 
@@ -67,12 +69,16 @@ fn value_is(alloc: Global, name: &str, kind: Kind, value: &Value) -> Result<Stri
 fn too_few(alloc: Global, needed: usize, given: usize) -> Result<String, AllocError>
     ensures { IfOk result (λ text. string_bytes text ≡ words_of (TooFew needed given)) }
 {
+    let (mut first, mut second) = (Buffer::new(), Buffer::new());
+    let (needed, given) = (first.format(needed), second.format(given));
     format!(in alloc; "arguments: needs {needed}, and got {given}")
 }
 
 fn too_many(alloc: Global, most: usize) -> Result<String, AllocError>
     ensures { IfOk result (λ text. string_bytes text ≡ words_of (TooMany most)) }
 {
+    let mut buffer = Buffer::new();
+    let most = buffer.format(most);
     format!(in alloc; "arguments: takes {most}, and got more")
 }
 

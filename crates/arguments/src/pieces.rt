@@ -2,10 +2,10 @@
 ghost use Rattle.std.specs.Prelude.{◌≡◌, ◌||◌};
 ghost use Rattle.arguments.specs.Pieces.{all_pieces, are_pieces, is_built, is_command, is_configuration, is_custom, is_feature, is_file};
 ghost use Rattle.arguments.specs.Pieces.{is_target, takes_object, takes_text};
-ghost use Rattle.data.specs.Prelude.{data_of, items_of};
+ghost use Rattle.values.specs.Prelude.{data_of, items_of};
 
 use crate::row::Piece;
-use data::{Object, Value};
+use values::{Object, Value};
 
 /// Whether it is a file.
 pub fn is_file(object: &Object) -> bool

@@ -2,9 +2,9 @@
 ghost use Rattle.std.specs.Prelude.{◌≡◌, ◌&&◌, ◌||◌, ◌++◌, ◌∷◌, [], IfOk, IsTrue, bytes_eq, false, not};
 ghost use Rattle.std.specs.Prelude.{flat_map, map, option_map, string_bytes};
 ghost use Rattle.std.specs.List.{list_any};
-ghost use Rattle.basics.specs.Among.{is_among};
+ghost use Rattle.support.specs.Among.{is_among};
 ghost use Rattle.arguments.specs.Refused.{answer_data};
-ghost use Rattle.data.specs.Prelude.{data_of};
+ghost use Rattle.values.specs.Prelude.{data_of};
 ghost use Rattle.arguments.specs.Arguments.{arguments_data, named_data};
 ghost use Rattle.arguments.specs.MisfitView.{misfit_data};
 ghost use Rattle.arguments.specs.Misfits.{at_place, checked, left_out, misfit, misnamed, misplaced, missing};
@@ -18,10 +18,10 @@ use crate::misfit::Misfit;
 use crate::pieces::{are_pieces, is_command, is_configuration, is_feature, is_file};
 use crate::refused::Refused;
 use crate::row::{Keyword, Kind, Row};
-use basics::tables::{SipSet, new_set};
-use basics::text_lists::is_among;
-use data::{Value, is_texts};
 use std::alloc::{AllocError, Global};
+use support::tables::{SipSet, new_set};
+use support::text_lists::is_among;
+use values::{Value, is_texts};
 
 // A text, an integer or a boolean.
 fn is_setting(value: &Value) -> bool

@@ -1,8 +1,10 @@
 //! What a test of arguments refuses.
-use basics::faults::Refusal;
+use support::faults::Refusal;
+use thiserror::Error;
 
 /// What is refused, and what that is about.
-#[derive(Drop)]
+#[derive(Debug, Drop, Error)]
+#[error("{refusal}{}{detail}", if .detail.is_empty() {""} else {": "})]
 pub struct Refused {
     pub refusal: Refusal,
     /// What the refusal is about, in words.

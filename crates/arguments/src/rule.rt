@@ -4,8 +4,8 @@ ghost use Rattle.arguments.specs.Refused.{breaks, refused_data};
 ghost use Rattle.arguments.specs.Rules.{broken, told_of};
 
 use crate::refused::Refused;
-use basics::faults::Refusal;
 use std::alloc::{AllocError, Global};
+use support::faults::Refusal;
 
 /// A rule that a text or the value of a keyword breaks.
 #[derive(Clone, Copy)]

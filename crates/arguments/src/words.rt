@@ -1,11 +1,12 @@
 //! Kinds and values in words.
 ghost use Rattle.std.specs.Prelude.{◌≡◌, IfOk, map, string_bytes};
 ghost use Rattle.arguments.specs.Words.{kind_words, object_words, pair_words, piece_words, value_words, values_words};
-ghost use Rattle.data.specs.Prelude.{data_of};
+ghost use Rattle.values.specs.Prelude.{data_of};
 
 use crate::row::{Kind, Piece};
-use data::{Object, Value};
+use itoa::Buffer;
 use std::alloc::{AllocError, Global};
+use values::{Object, Value};
 
 fn piece_words(piece: Piece) -> &'static str
     ensures { result.now ≡ piece_words piece }
@@ -95,6 +96,10 @@ pub fn values_words(alloc: Global, values: &[Value]) -> Result<String, AllocErro
         [] => String::from_str(alloc, "none"),
         [value] => String::from_str(alloc, value_words(value)),
         [first, second] => pair_words(alloc, first, second),
-        _ => format!(in alloc; "{} arguments", values.len()),
+        _ => {
+            let mut buffer = Buffer::new();
+            let count = buffer.format(values.len());
+            format!(in alloc; "{count} arguments")
+        }
     }
 }

@@ -12,12 +12,12 @@ use crate::option_inputs::{
 };
 use crate::stop::Stop;
 use crate::syntax_measures::tree;
-use grammar::tree::File;
 use options::{
     Declared, Machine, OptionValue, Options, ProjectDefault, Resolved, declare, resolve,
 };
 use std::alloc::Global;
 use std::time::Instant;
+use syntax::tree::File;
 
 // How many times `at` walks the options.
 const WALKS: usize = 100;

@@ -2,12 +2,12 @@
 
 use crate::measured::Measured;
 use crate::stop::Stop;
-use grammar::fault::SyntaxError;
-use grammar::parse;
-use grammar::tree::File;
 use std::alloc::Global;
 use std::fs;
 use std::time::Instant;
+use syntax::fault::SyntaxError;
+use syntax::parse;
+use syntax::tree::File;
 
 /// The tree of a source that parses.
 pub fn tree(alloc: Global, source: &str) -> Result<File<'_>, Stop> {

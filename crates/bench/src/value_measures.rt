@@ -7,12 +7,12 @@
 
 use crate::measured::{Measured, count_of};
 use crate::stop::Stop;
-use data::language_names::MethodName;
-use data::{List, Text, Value};
 use operations::methods::method;
 use operations::operators::{Binary, binary, dictionary, index};
 use std::alloc::Global;
 use std::time::Instant;
+use values::language_names::MethodName;
+use values::{List, Text, Value};
 
 /// Carries out the operations of this measure, and what they need, so many times.
 pub fn measure(rt: &HostRuntime, measure: &str, of: &str) -> Result<Measured, Stop> {

@@ -5,11 +5,11 @@ use Rattle.std.proofs.Math.Nat.{mul-add-div_right}
 use Rattle.std.proofs.lemmas.Bool.Decides.{nat_tests}
 use Rattle.std.proofs.lemmas.Nat.{div-mul-add}
 use Rattle.calls.specs.language_calls.Range.{how_many, integers_from}
-use Rattle.data.specs.Data.{item, no_items, integer, count}
-use Rattle.data.specs.Data.{list}
-use Rattle.data.specs.Limits.{within}
-use Rattle.data.specs.Weight.{items_weight, items_depth}
-use Rattle.data.specs.declared.refusal.Refusal.TheVariants as refusals
+use Rattle.values.specs.Data.{item, no_items, integer, count}
+use Rattle.values.specs.Data.{list}
+use Rattle.values.specs.Limits.{within}
+use Rattle.values.specs.Weight.{items_weight, items_depth}
+use Rattle.values.specs.declared.refusal.Refusal.TheVariants as refusals
 
 -- none where the start is not below the stop
 pub none_left : (start stop less : ℕ) → stop ≤ start → how_many start stop less ≡ 0

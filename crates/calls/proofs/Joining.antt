@@ -4,7 +4,7 @@ use Rattle.std.proofs.Common.{◌∙◌, append_assoc, arith}
 use Rattle.std.specs.Prelude.{◌||◌, if◌then◌else◌}
 use Rattle.std.proofs.lemmas.Bool.Decides.{nat_tests}
 use Rattle.std.proofs.lemmas.List.{get_or-map, length-map, take_more}
-use Rattle.paths.specs.Below.{ends_with_slash, is_absolute, path_below}
+use Rattle.support.specs.paths.Below.{ends_with_slash, is_absolute, path_below}
 use Rattle.calls.specs.language_calls.JoinPaths.{path_of}
 
 -- a path that is not empty, and a relative one below it

@@ -6,8 +6,8 @@ use Rattle.std.proofs.lemmas.Option.{get_or_from_slice_get, slice_get_within, sl
 use Rattle.options.specs.option_file.Declarations.{Declaration}
 use Rattle.machine.specs.option_values.Values.{Value}
 use Rattle.machine.specs.option_values.Settings.{named_value, Setting}
-use Rattle.targets.specs.View.{option_entry_view}
-use Rattle.targets.specs.declared.facts.OptionEntry.{OptionEntry}
+use Rattle.build.specs.View.{option_entry_view}
+use Rattle.build.specs.declared.facts.OptionEntry.{OptionEntry}
 use Rattle.calls.specs.project_calls.Entries.{entry_of}
 
 more_by : {A B : Type 0} (f : A → B) (xs : List A) (i : ℕ) (b : B) (o : Option A) → slice_get xs i ≡ o → Some b ≡ option_map f o → map f (take (i + 1) xs) ≡ map f (take i xs) ++ b ∷ []

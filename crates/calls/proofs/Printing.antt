@@ -2,10 +2,10 @@
 use Rattle.std.proofs.Common.{◌≡◌, ℕ, ◌+◌, ◌<◌, List, [], ◌∷◌, ◌++◌, map, drop, length, get_or, Result, Ok, String, Global}
 use Rattle.std.proofs.Common.{string_bytes, sym, ap, ◌∙◌}
 use Rattle.std.proofs.lemmas.List.{at_drop_more, map-append}
-use Rattle.data.specs.View.{data_of, items_of}
-use Rattle.data.specs.declared.refusal.Refusal.{Refusal}
-use Rattle.data.specs.declared.value.Value.{Value}
-use Rattle.data.specs.printing.Printed.{printed}
+use Rattle.values.specs.View.{data_of, items_of}
+use Rattle.values.specs.declared.refusal.Refusal.{Refusal}
+use Rattle.values.specs.declared.value.Value.{Value}
+use Rattle.values.specs.printing.Printed.{printed}
 use Rattle.calls.specs.project_calls.Defaults.{printed_behind}
 use Rattle.operations.specs.operators.TextLists.{and_then}
 

@@ -5,14 +5,14 @@ use Rattle.std.specs.Prelude.{◌&&◌}
 use Rattle.std.specs.List.{list_all}
 use Rattle.std.proofs.Math.Seq.{drop-cons}
 use Rattle.std.proofs.lemmas.List.{map-append}
-use Rattle.data.specs.Data.{Data}
-use Rattle.data.specs.View.{data_of}
-use Rattle.data.specs.declared.value.Value.{Value}
+use Rattle.values.specs.Data.{Data}
+use Rattle.values.specs.View.{data_of}
+use Rattle.values.specs.declared.value.Value.{Value}
 use Rattle.ports.specs.Outputs.{Step, Logs, logs}
-use Rattle.data.specs.printing.Parts.{piece_bytes}
-use Rattle.data.specs.printing.Pieces.{whole}
-use Rattle.data.specs.declared.printing.pieces.Piece.{Piece}
-use Rattle.data.specs.printing.Printed.{shown}
+use Rattle.values.specs.printing.Parts.{piece_bytes}
+use Rattle.values.specs.printing.Pieces.{whole}
+use Rattle.values.specs.declared.printing.pieces.Piece.{Piece}
+use Rattle.values.specs.printing.Printed.{shown}
 use Rattle.world.specs.Answering.{State, Carries, seen_at}
 use Rattle.world.specs.Deed.{Deed, Files, give, perform, say, then}
 use Rattle.world.specs.Gives.{Gives}

@@ -5,11 +5,11 @@ use Rattle.std.specs.Str.Lossy.{utf8_valid_len}
 use Rattle.std.proofs.lemmas.Str.{IsUtf8-from_is_utf8, is_utf8-from_IsUtf8}
 use Rattle.world.specs.Details.{refuse_line_about}
 use Rattle.world.specs.DefinitionFiles.{line_at, refusal_of, refuse_line, spelled_by, tree_or_fault}
-use Rattle.basics.specs.declared.faults.refusal.Refusal.{Refusal}
-use Rattle.basics.specs.declared.faults.refusal.Refusal.TheVariants as refusals
-use Rattle.grammar.specs.Parsed.{parsed}
-use Rattle.grammar.specs.Tree.{FileTree, StatementTree, Statements, statements}
-use Rattle.lexer.specs.declared.fault.SyntaxFault.{SyntaxFault}
+use Rattle.support.specs.declared.faults.refusal.Refusal.{Refusal}
+use Rattle.support.specs.declared.faults.refusal.Refusal.TheVariants as refusals
+use Rattle.syntax.specs.Parsed.{parsed}
+use Rattle.syntax.specs.Tree.{FileTree, StatementTree, Statements, statements}
+use Rattle.syntax.specs.declared.lexer.fault.SyntaxFault.{SyntaxFault}
 use Rattle.options.specs.option_file.Declarations.{Declaration}
 use Rattle.options.specs.option_file.Declares.{file_declares}
 use Rattle.ports.specs.Outputs.{OutputState}

@@ -3,7 +3,7 @@ use Rattle.std.proofs.Common.{◌≡◌, ℕ, zero, suc, ◌+◌, ◌*◌, ◌<�
 use Rattle.std.specs.Prelude.{◌↔◌, nat_lt, pos}
 use Rattle.std.proofs.Math.Nat.{suc-mul}
 use Rattle.std.proofs.lemmas.Bool.Decides.{nat_tests}
-use Rattle.data.specs.Data.{integer}
+use Rattle.values.specs.Data.{integer}
 use Rattle.calls.specs.language_calls.Range.{how_many, integers_from}
 use Rattle.calls.specs.language_calls.RangeLaw.{item_at, RangeIsBelow}
 use Rattle.calls.proofs.Counting.{one_more, none_left}

@@ -2,10 +2,10 @@
 use Rattle.std.proofs.Common.{◌≡◌, ℕ, ◌+◌, ◌≤◌, refl, List, [], ◌∷◌, Some, length, drop, slice_get, ap, ◌∙◌}
 use Rattle.std.proofs.lemmas.List.{drop_more, drop_all}
 use Rattle.std.proofs.lemmas.Option.{slice_get_within, get_or_from_slice_get}
-use Rattle.data.specs.Data.{Items, no_items}
-use Rattle.data.specs.View.{data_of, items_of}
-use Rattle.data.specs.declared.value.Value.{Value}
-use Rattle.data.specs.printing.Printed.{printed}
+use Rattle.values.specs.Data.{Items, no_items}
+use Rattle.values.specs.View.{data_of, items_of}
+use Rattle.values.specs.declared.value.Value.{Value}
+use Rattle.values.specs.printing.Printed.{printed}
 use Rattle.calls.specs.project_calls.Defaults.{first_unprinted, unless_printed}
 
 -- where a list goes on

@@ -3,13 +3,13 @@
 mod declaring;
 mod defaults;
 mod flags;
+mod option_as_value;
 mod option_call;
 mod programs;
 mod project_call;
 mod resolution;
 mod rows;
 mod shown_options;
-mod values;
 
 pub use option_call::get_option;
 pub use project_call::project;

@@ -4,9 +4,9 @@ use Rattle.std.proofs.Common.{get_or, fold, refl, sym, ap, subst, ◌∙◌, ari
 use Rattle.std.specs.Prelude.{nat_lt, ◌&&◌, IsTrue}
 use Rattle.std.specs.List.{list_all}
 use Rattle.std.specs.Option.{option_map}
-use Rattle.grammar.specs.ExpressionTree.{ExpressionTree, NameTree, ListTree, DictionaryTree, FunctionTree, PostfixTree, PrefixTree}
-use Rattle.grammar.specs.ExpressionTree.{ChainTree, TernaryTree, expressions, entries, arguments, links, operands}
-use Rattle.grammar.specs.Tree.{StatementTree, BreakTree, IfTree, ForeachTree, branches, statements}
+use Rattle.syntax.specs.ExpressionTree.{ExpressionTree, NameTree, ListTree, DictionaryTree, FunctionTree, PostfixTree, PrefixTree}
+use Rattle.syntax.specs.ExpressionTree.{ChainTree, TernaryTree, expressions, entries, arguments, links, operands}
+use Rattle.syntax.specs.Tree.{StatementTree, BreakTree, IfTree, ForeachTree, branches, statements}
 use Rattle.code.specs.declared.node.Node.{Node}
 use Rattle.code.specs.declared.node.Node.TheVariants as flat
 use Rattle.code.specs.declared.node.StatementNode.{StatementNode}

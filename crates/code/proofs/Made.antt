@@ -4,20 +4,20 @@ use Rattle.std.specs.Global.{Global}
 use Rattle.std.specs.Option.{option_map}
 use Rattle.std.specs.declared.alloc.AllocError.{AllocError}
 use Rattle.code.specs.Draft.{Stands}
-use Rattle.grammar.specs.declared.tree.Expression.{Expression}
-use Rattle.grammar.specs.declared.tree.Expression.TheVariants as Variants
-use Rattle.grammar.specs.declared.tree.Expression.TheOpen as Open
-use Rattle.grammar.specs.declared.tree.Expression.TheFolds.{fold_out-Argument, fold_out-Entry, fold_out-Operand, fold-roll-Expression}
-use Rattle.grammar.specs.declared.tree.Link.{Link}
-use Rattle.grammar.specs.declared.tree.Literal.{Literal}
-use Rattle.grammar.specs.declared.tree.Prefix.{Prefix}
-use Rattle.grammar.specs.declared.tree.Argument.{Argument}
-use Rattle.grammar.specs.declared.tree.Entry.{Entry}
-use Rattle.grammar.specs.declared.tree.Operand.{Operand}
-use Rattle.grammar.specs.ExpressionTree.{ArgumentTree, EntryTree, ExpressionTree, LinkTree, OperandTree, NameTree, LiteralTree, ListTree}
-use Rattle.grammar.specs.ExpressionTree.{DictionaryTree, FunctionTree, PostfixTree, PrefixTree, ChainTree, TernaryTree, argument_trees}
-use Rattle.grammar.specs.ExpressionTree.{entries, expressions, links, link_of, operands, argument_of, argument_step, entry_of, entry_step}
-use Rattle.grammar.specs.ExpressionTree.{expression_of, expression_step, link_step, operand_of, operand_step}
+use Rattle.syntax.specs.declared.tree.Expression.{Expression}
+use Rattle.syntax.specs.declared.tree.Expression.TheVariants as Variants
+use Rattle.syntax.specs.declared.tree.Expression.TheOpen as Open
+use Rattle.syntax.specs.declared.tree.Expression.TheFolds.{fold_out-Argument, fold_out-Entry, fold_out-Operand, fold-roll-Expression}
+use Rattle.syntax.specs.declared.tree.Link.{Link}
+use Rattle.syntax.specs.declared.tree.Literal.{Literal}
+use Rattle.syntax.specs.declared.tree.Prefix.{Prefix}
+use Rattle.syntax.specs.declared.tree.Argument.{Argument}
+use Rattle.syntax.specs.declared.tree.Entry.{Entry}
+use Rattle.syntax.specs.declared.tree.Operand.{Operand}
+use Rattle.syntax.specs.ExpressionTree.{ArgumentTree, EntryTree, ExpressionTree, LinkTree, OperandTree, NameTree, LiteralTree, ListTree}
+use Rattle.syntax.specs.ExpressionTree.{DictionaryTree, FunctionTree, PostfixTree, PrefixTree, ChainTree, TernaryTree, argument_trees}
+use Rattle.syntax.specs.ExpressionTree.{entries, expressions, links, link_of, operands, argument_of, argument_step, entry_of, entry_step}
+use Rattle.syntax.specs.ExpressionTree.{expression_of, expression_step, link_step, operand_of, operand_step}
 
 pub entry_is : (e : Entry) → entry_of e ≡ (expression_of e.key, expression_of e.value)
 entry_is e = fold_out-Entry ExpressionTree LinkTree ArgumentTree EntryTree OperandTree expression_step link_step argument_step

@@ -11,7 +11,7 @@ use Rattle.std.proofs.lemmas.Result.{IfOk-weaker}
 use Rattle.std.proofs.lemmas.List.Folds.{position_or_len_push}
 use Rattle.std.proofs.lemmas.List.Quantifiers.{position-Some}
 use Rattle.std.proofs.lemmas.Slice.Eq.{bytes_eq-Decides}
-use Rattle.basics.specs.Sets.{insert_key}
+use Rattle.support.specs.Sets.{insert_key}
 use Rattle.code.specs.Names.{texts, number_in, with_name}
 use Rattle.std.specs.declared.alloc.AllocError.{AllocError}
 use Rattle.code.specs.Draft.{IsFront}

@@ -6,7 +6,7 @@ use Rattle.std.specs.List.{list_all}
 use Rattle.std.proofs.lemmas.List.{map_push, take_all}
 use Rattle.std.proofs.lemmas.Grind.{common_steps}
 use Rattle.std.proofs.lemmas.List.Folds.{list_all-append}
-use Rattle.grammar.specs.ExpressionTree.{ExpressionTree, NameTree, MethodTree, IndexTree, arguments}
+use Rattle.syntax.specs.ExpressionTree.{ExpressionTree, NameTree, MethodTree, IndexTree, arguments}
 use Rattle.code.specs.Nodes.{tree_at, entry_at, argument_at, operand_at, link_at, entry_within, argument_within, operand_within}
 use Rattle.code.specs.Nodes.{link_within}
 use Rattle.code.specs.Draft.{IsFront, Stands, Parts, Grows, trees_in}

@@ -2,20 +2,20 @@
 use Rattle.std.proofs.Common.{◌≡◌, ℕ, ◌+◌, ◌<◌, Bool, true, false, List, [], ◌∷◌, ◌++◌, length, map, take, get_or, refl, sym, ap, subst}
 use Rattle.std.proofs.Common.{◌∙◌, Option, Result, IfOk, Box, Vec, Global, Bor}
 use Rattle.std.specs.Option.{option_map}
-use Rattle.grammar.specs.declared.tree.Expression.{Expression}
+use Rattle.syntax.specs.declared.tree.Expression.{Expression}
 use Rattle.std.specs.Prelude.{nat_lt, ◌&&◌, IsTrue}
 use Rattle.std.specs.List.{list_all}
 use Rattle.std.specs.declared.alloc.AllocError.{AllocError}
 use Rattle.std.proofs.lemmas.List.{map_push}
 use Rattle.std.proofs.lemmas.List.Folds.{list_all-append}
-use Rattle.grammar.specs.ExpressionTree.{ExpressionTree, expression_of}
-use Rattle.grammar.specs.Tree.{AppendTree, AssignTree, BreakTree, ContinueTree, ValueTree, StatementTree, BranchTree, IfTree, ForeachTree}
-use Rattle.grammar.specs.Tree.{statement_of, branch_of, statement_step, branch_step, statements, branches}
-use Rattle.grammar.specs.declared.tree.Statement.{Statement}
-use Rattle.grammar.specs.declared.tree.Statement.TheVariants as Variants
-use Rattle.grammar.specs.declared.tree.Statement.TheOpen as Open
-use Rattle.grammar.specs.declared.tree.Statement.TheFolds.{fold_out-Branch, fold-roll-Statement}
-use Rattle.grammar.specs.declared.tree.Branch.{Branch}
+use Rattle.syntax.specs.ExpressionTree.{ExpressionTree, expression_of}
+use Rattle.syntax.specs.Tree.{AppendTree, AssignTree, BreakTree, ContinueTree, ValueTree, StatementTree, BranchTree, IfTree, ForeachTree}
+use Rattle.syntax.specs.Tree.{statement_of, branch_of, statement_step, branch_step, statements, branches}
+use Rattle.syntax.specs.declared.tree.Statement.{Statement}
+use Rattle.syntax.specs.declared.tree.Statement.TheVariants as Variants
+use Rattle.syntax.specs.declared.tree.Statement.TheOpen as Open
+use Rattle.syntax.specs.declared.tree.Statement.TheFolds.{fold_out-Branch, fold-roll-Statement}
+use Rattle.syntax.specs.declared.tree.Branch.{Branch}
 use Rattle.code.specs.declared.file_draft.FileDraft.{FileDraft}
 use Rattle.code.specs.declared.node.BranchNode.{BranchNode}
 use Rattle.code.specs.declared.node.ForeachNode.{ForeachNode}
@@ -24,7 +24,7 @@ use Rattle.code.specs.declared.node.StatementNode.TheVariants as flat
 use Rattle.code.specs.Nodes.{tree_at}
 use Rattle.code.specs.Statements.{name_at, set_node, statement_at, statement_tree, statement_within, branch_at, branch_within}
 use Rattle.code.specs.Statements.{second_within}
-use Rattle.grammar.specs.ReadingStatements.{set_tree}
+use Rattle.syntax.specs.ReadingStatements.{set_tree}
 use Rattle.code.specs.Draft.{trees_in}
 use Rattle.code.specs.FileDraft.{Extends, IsStatement, AreStatements, AreBranches, statements_in}
 use Rattle.code.proofs.Trees.{both_true, and_both, length_begins}

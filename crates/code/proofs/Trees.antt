@@ -4,7 +4,7 @@ use Rattle.std.proofs.Common.{append-nil, refl, sym, ap, subst, ◌∙◌, arith
 use Rattle.std.specs.Prelude.{nat_lt, ◌&&◌, IsTrue, if◌then◌else◌}
 use Rattle.std.proofs.lemmas.Bool.Decides.{nat_tests}
 use Rattle.std.proofs.lemmas.List.Sums.{fold_push}
-use Rattle.grammar.specs.ExpressionTree.{ExpressionTree, NameTree}
+use Rattle.syntax.specs.ExpressionTree.{ExpressionTree, NameTree}
 use Rattle.code.specs.Nodes.{tree_of, with_node, trees, within, all_within}
 use Rattle.code.specs.Draft.{IsFront, Stands}
 use Rattle.code.specs.declared.node.Node.{Node}

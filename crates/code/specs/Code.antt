@@ -1,6 +1,6 @@
 -- The file that code stands for.
 use Rattle.std.specs.Prelude.{◌≡◌, ℕ, ◌≤◌, List, ◌++◌, length, map}
-use Rattle.grammar.specs.Tree.{FileTree}
+use Rattle.syntax.specs.Tree.{FileTree}
 use Rattle.code.specs.declared.code.Code.{Code}
 use Rattle.code.specs.Nodes.{trees}
 use Rattle.code.specs.Statements.{statement_at, statement_trees}

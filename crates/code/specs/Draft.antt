@@ -1,7 +1,7 @@
 -- Code as it is made: it only grows.
 use Rattle.std.specs.Prelude.{◌≡◌, ℕ, Bool, IsTrue, nat_lt, List, ◌++◌, length, map}
 use Rattle.std.specs.List.{list_all}
-use Rattle.grammar.specs.ExpressionTree.{ExpressionTree}
+use Rattle.syntax.specs.ExpressionTree.{ExpressionTree}
 use Rattle.code.specs.declared.draft.Draft.{Draft}
 use Rattle.code.specs.Nodes.{tree_at, trees}
 

@@ -1,7 +1,7 @@
 -- The code of a file as it is made: it only grows.
 use Rattle.std.specs.Prelude.{◌≡◌, ℕ, IsTrue, nat_lt, List, length, map}
 use Rattle.std.specs.List.{list_all}
-use Rattle.grammar.specs.Tree.{StatementTree, BranchTree}
+use Rattle.syntax.specs.Tree.{StatementTree, BranchTree}
 use Rattle.code.specs.declared.file_draft.FileDraft.{FileDraft}
 use Rattle.code.specs.declared.node.BranchNode.{BranchNode}
 use Rattle.code.specs.Draft.{IsFront, Grows, trees_in}

@@ -1,8 +1,8 @@
 -- F-strings, by their parts.
 use Rattle.std.specs.Prelude.{◌≡◌, ℕ, List, map, string_bytes}
 use Rattle.std.specs.List.{flat_map}
-use Rattle.data.specs.declared.texts.placed.Places.TheVariants as places
-use Rattle.data.specs.texts.Segments.{Segment, text, place, segments, spelled}
+use Rattle.values.specs.declared.texts.placed.Places.TheVariants as places
+use Rattle.values.specs.texts.Segments.{Segment, text, place, segments, spelled}
 use Rattle.code.specs.declared.format_string.Part.{Part}
 use Rattle.code.specs.declared.format_string.Part.TheVariants as parts
 

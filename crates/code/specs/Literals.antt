@@ -1,11 +1,11 @@
 -- Literals, the tokens that they are, and what they stand for.
 use Rattle.std.specs.Prelude.{ℕ, Bool, true, false, ◌&&◌, ◌==◌, not, List, string_bytes, bytes_eq}
-use Rattle.grammar.specs.declared.tree.Literal.{Literal}
-use Rattle.grammar.specs.declared.tree.Literal.TheVariants as literals
-use Rattle.lexer.specs.Numerals.{magnitude}
-use Rattle.lexer.specs.Texts.{text_of}
-use Rattle.lexer.specs.declared.token.Kind.{Kind}
-use Rattle.lexer.specs.declared.token.Kind.TheVariants as kinds
+use Rattle.syntax.specs.declared.tree.Literal.{Literal}
+use Rattle.syntax.specs.declared.tree.Literal.TheVariants as literals
+use Rattle.syntax.specs.lexer.Numerals.{magnitude}
+use Rattle.syntax.specs.lexer.Texts.{text_of}
+use Rattle.syntax.specs.declared.lexer.token.Kind.{Kind}
+use Rattle.syntax.specs.declared.lexer.token.Kind.TheVariants as kinds
 use Rattle.code.specs.FormatStrings.{written}
 use Rattle.code.specs.declared.literal.Meaning.{Meaning}
 use Rattle.code.specs.declared.literal.Meaning.TheVariants as meanings

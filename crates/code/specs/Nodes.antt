@@ -1,9 +1,9 @@
 -- The trees of expressions that a list of nodes stands for: each node names its parts by their numbers, and stands after them.
 use Rattle.std.specs.Prelude.{ℕ, ◌+◌, Bool, true, ◌&&◌, nat_lt, List, [], ◌∷◌, ◌++◌, map, fold, slice_index_or}
 use Rattle.std.specs.List.{list_all}
-use Rattle.grammar.specs.ExpressionTree.{ExpressionTree, EntryTree, ArgumentTree, OperandTree, LinkTree, NameTree, LiteralTree, ListTree}
-use Rattle.grammar.specs.ExpressionTree.{DictionaryTree, FunctionTree, PostfixTree, PrefixTree, ChainTree, TernaryTree, MethodTree}
-use Rattle.grammar.specs.ExpressionTree.{IndexTree, expressions, entries, arguments, links, operands}
+use Rattle.syntax.specs.ExpressionTree.{ExpressionTree, EntryTree, ArgumentTree, OperandTree, LinkTree, NameTree, LiteralTree, ListTree}
+use Rattle.syntax.specs.ExpressionTree.{DictionaryTree, FunctionTree, PostfixTree, PrefixTree, ChainTree, TernaryTree, MethodTree}
+use Rattle.syntax.specs.ExpressionTree.{IndexTree, expressions, entries, arguments, links, operands}
 use Rattle.code.specs.Literals.{spelled}
 use Rattle.code.specs.declared.node.Node.{Node}
 use Rattle.code.specs.declared.node.Node.TheVariants as flat

@@ -1,19 +1,19 @@
 //! Expressions, made flat.
 ghost use Rattle.std.specs.Prelude.{◌≡◌, IfOk, IsTrue, map, length, option_map};
-ghost use Rattle.grammar.specs.ExpressionTree.{NameTree, LiteralTree, ListTree, DictionaryTree, FunctionTree, PostfixTree, PrefixTree};
-ghost use Rattle.grammar.specs.ExpressionTree.{ChainTree, TernaryTree, expressions, entries as entry_trees, argument_trees};
-ghost use Rattle.grammar.specs.ExpressionTree.{links as link_trees, operands as operand_trees, expression_of, entry_of, argument_of};
-ghost use Rattle.grammar.specs.ExpressionTree.{operand_of, link_of};
+ghost use Rattle.syntax.specs.ExpressionTree.{NameTree, LiteralTree, ListTree, DictionaryTree, FunctionTree, PostfixTree, PrefixTree};
+ghost use Rattle.syntax.specs.ExpressionTree.{ChainTree, TernaryTree, expressions, entries as entry_trees, argument_trees};
+ghost use Rattle.syntax.specs.ExpressionTree.{links as link_trees, operands as operand_trees, expression_of, entry_of, argument_of};
+ghost use Rattle.syntax.specs.ExpressionTree.{operand_of, link_of};
 ghost use Rattle.code.specs.Nodes.{argument_at, link_at, argument_within, link_within};
 
 use crate::draft::Draft;
 use crate::literal::LiteralNode;
+use crate::narrow::narrow;
 use crate::node::{ArgumentNode, CallNode, EntryNode, LinkNode, Node, OperandNode};
-use data::Text;
-use data::language_names::{FunctionName, MethodName};
-use grammar::tree::{Argument, Entry, Expression, Link, Literal, Operand, Prefix};
-use lexer::token::narrow;
 use std::alloc::{AllocError, Global};
+use syntax::tree::{Argument, Entry, Expression, Link, Literal, Operand, Prefix};
+use values::Text;
+use values::language_names::{FunctionName, MethodName};
 
 // A name. For one that is too long for a text, which no file has, memory is refused.
 fn own_name(alloc: Global, name: &str) -> Result<Text, AllocError>
@@ -69,7 +69,7 @@ impl Draft {
                 line,
                 name,
                 arguments,
-            } => self.call(name, arguments, *line as usize),
+            } => self.call(name, arguments, *line),
             Expression::Postfix { first, links, line } => self.postfix(first, links, *line),
             Expression::Prefix {
                 prefix,

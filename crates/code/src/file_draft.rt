@@ -1,13 +1,13 @@
 //! The code of a file as it is made.
 ghost use Rattle.std.specs.Prelude.{◌≡◌, [], IsTrue, IfOk, length, nat_lt, option_map};
-ghost use Rattle.grammar.specs.ExpressionTree.{expression_of};
+ghost use Rattle.syntax.specs.ExpressionTree.{expression_of};
 ghost use Rattle.code.specs.Statements.{all_placed, statement_within, statement_tree, name_at, second_within};
 
 use crate::draft::Draft;
 use crate::names::Names;
 use crate::node::StatementNode;
-use grammar::tree::Expression;
 use std::alloc::{AllocError, Global};
+use syntax::tree::Expression;
 
 /// The expressions and statements so far.
 #[derive(Drop)]

@@ -1,11 +1,11 @@
 //! F-strings, by their parts.
 ghost use Rattle.std.specs.Prelude.{◌≡◌, IfOk, map};
-ghost use Rattle.data.specs.texts.Segments.{segment_data};
+ghost use Rattle.values.specs.texts.Segments.{segment_data};
 ghost use Rattle.code.specs.FormatStrings.{is_split, part_data, written};
 
 use crate::names::Names;
-use data::texts::{Places, Segment, segments};
 use std::alloc::{AllocError, Global};
+use values::texts::{Places, Segment, segments};
 
 /// A part of an f-string.
 #[derive(Drop)]

@@ -1,6 +1,6 @@
 //! Definition files as code: the tree of a file kept flat, each part named by a number, and the names that it uses in one table.
 //!
-//! [`flatten`] makes the [`Code`] of a [`grammar::tree::File`]. The code owns what its literals stand for, so the source can go. It is what
+//! [`flatten`] makes the [`Code`] of a [`syntax::tree::File`]. The code owns what its literals stand for, so the source can go. It is what
 //! evaluation walks: a frame there holds the code and numbers, and no reference into a tree.
 //!
 //! # Decisions
@@ -31,6 +31,7 @@ mod format_string;
 mod literal;
 mod making;
 mod names;
+mod narrow;
 pub mod node;
 mod statements;
 

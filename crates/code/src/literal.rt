@@ -1,18 +1,18 @@
 //! Literals, and what they stand for.
 ghost use Rattle.std.specs.Prelude.{◌≡◌, false, IfOk, IfSome, IsTrue};
 ghost use Rattle.std.specs.Option.{ForSome};
-ghost use Rattle.lexer.specs.Numerals.{magnitude};
-ghost use Rattle.lexer.specs.Texts.{text_of};
+ghost use Rattle.syntax.specs.lexer.Numerals.{magnitude};
+ghost use Rattle.syntax.specs.lexer.Texts.{text_of};
 ghost use Rattle.code.specs.Literals.{is_format, is_number, is_plain, kind_of, means, spelled};
 
 use crate::format_string::FormatString;
 use crate::names::Names;
-use data::{Short, Text};
-use grammar::tree::Literal;
-use lexer::token::Kind;
-use lexer::{magnitude, text_in_slice, text_of_slice};
 use std::alloc::{AllocError, Global};
 use std::snapshot::Snapshot;
+use syntax::lexer::token::Kind;
+use syntax::lexer::{magnitude, text_in_slice, text_of_slice};
+use syntax::tree::Literal;
+use values::{Short, Text};
 
 /// What a literal stands for, or its text where that is not kept. A short text needs no memory of its own, and what is longer stands in a
 /// box, so that no node is larger for it.

@@ -1,6 +1,6 @@
 //! From the tree of a file to its code.
 ghost use Rattle.std.specs.Prelude.{◌≡◌, IfOk, length};
-ghost use Rattle.grammar.specs.Tree.{file_of};
+ghost use Rattle.syntax.specs.Tree.{file_of};
 ghost use Rattle.code.specs.Draft.{IsFront};
 ghost use Rattle.code.specs.Code.{code_tree, KeepsTree};
 
@@ -8,9 +8,9 @@ use crate::code::Code;
 use crate::draft::Draft;
 use crate::file_draft::FileDraft;
 use crate::names::Names;
-use grammar::tree::File;
 use std::alloc::{AllocError, Global};
 use std::mem;
+use syntax::tree::File;
 
 /// The code of a file. Names of variables that the table lacks go behind the others, and what was there keeps its number, also where
 /// memory is refused. The work is linear in the size of the file.

@@ -3,9 +3,9 @@ ghost use Rattle.std.specs.Prelude.{◌≡◌, Some, [], length, option_map, sli
 ghost use Rattle.std.specs.List.{IsDistinct};
 ghost use Rattle.code.specs.Names.{number_in, with_name};
 
-use basics::tables::{SipSet, new_set};
 use std::alloc::{AllocError, Global};
 use std::marker::Model;
+use support::tables::{SipSet, new_set};
 
 /// Names, each once, in the order in which they were put. The number of a name is its place, from 0 on, and never changes.
 #[derive(Drop)]

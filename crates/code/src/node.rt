@@ -1,8 +1,8 @@
 //! The nodes of expressions.
 use crate::literal::LiteralNode;
-use data::Text;
-use data::language_names::{FunctionName, MethodName};
-use grammar::tree::{Operator, Prefix};
+use syntax::tree::{Operator, Prefix};
+use values::Text;
+use values::language_names::{FunctionName, MethodName};
 
 /// An expression whose parts are named by their numbers in the list of nodes. Each node has the line of its first token.
 #[derive(Drop)]

@@ -1,17 +1,17 @@
 //! Statements, made flat.
 ghost use Rattle.std.specs.Prelude.{◌≡◌, IsTrue, IfOk, map, length};
 ghost use Rattle.std.specs.Option.{option_map};
-ghost use Rattle.grammar.specs.ExpressionTree.{expression_of};
-ghost use Rattle.grammar.specs.ReadingStatements.{set_tree};
-ghost use Rattle.grammar.specs.Tree.{ValueTree, ForeachTree, IfTree, statement_of, branch_of, branches as branch_trees, statements};
+ghost use Rattle.syntax.specs.ExpressionTree.{expression_of};
+ghost use Rattle.syntax.specs.ReadingStatements.{set_tree};
+ghost use Rattle.syntax.specs.Tree.{ValueTree, ForeachTree, IfTree, statement_of, branch_of, branches as branch_trees, statements};
 ghost use Rattle.code.specs.Nodes.{are_below};
 ghost use Rattle.code.specs.Statements.{statement_at, set_node};
 
 use crate::file_draft::FileDraft;
+use crate::narrow::narrow;
 use crate::node::{BranchNode, ForeachNode, IfNode, StatementNode};
-use grammar::tree::{Branch, Expression, Statement};
-use lexer::token::narrow;
 use std::alloc::AllocError;
+use syntax::tree::{Branch, Expression, Statement};
 
 // The node that gives a name a value, or adds one to what it has.
 fn set(adds: bool, name: usize, line: usize, value: usize) -> Result<StatementNode, AllocError>

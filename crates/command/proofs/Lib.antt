@@ -1,3 +1,2 @@
 mod Examples
 pub mod Lines
-pub mod Paths

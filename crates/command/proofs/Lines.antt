@@ -4,7 +4,7 @@ use Rattle.clap.specs.Words.{IsAmong, Row}
 use Rattle.clap.specs.Faults.{is_simple_and_free}
 use Rattle.clap.specs.declared.error.kind.ErrorKind.{ErrorKind}
 use Rattle.clap.specs.declared.error.kind.ErrorKind.TheVariants as kind
-use Rattle.command.specs.BuildFolder.{names_build_folder, tidy_path}
+use Rattle.support.specs.paths.BuildFolders.{names_build_folder, tidy_path}
 use Rattle.command.specs.CommandLine.{Answers, FaultOfKind, faults_of, given_with, meson_app}
 use Rattle.command.specs.declared.fault.LineFault.{LineFault}
 use Rattle.command.specs.declared.line.Task.{Task}

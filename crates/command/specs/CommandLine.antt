@@ -10,7 +10,7 @@ use Rattle.clap.specs.declared.builder.command.Command.{Command}
 use Rattle.clap.specs.declared.builder.command.Command.TheViews.{out-Command}
 use Rattle.clap.specs.declared.error.kind.ErrorKind.{ErrorKind}
 use Rattle.clap.specs.declared.error.kind.ErrorKind.TheVariants as kind
-use Rattle.command.specs.BuildFolder.{names_build_folder, tidy_path}
+use Rattle.support.specs.paths.BuildFolders.{names_build_folder, tidy_path}
 use Rattle.command.specs.declared.line.Line.{Line}
 use Rattle.command.specs.declared.line.Task.{Task}
 use Rattle.command.specs.declared.line.Task.TheVariants.{Setup, Questions, Fault}
@@ -128,10 +128,13 @@ abbrev pub IsRefused : List (List ℕ) → Type 0
 IsRefused words = ((fault : ErrorKind) × IsAmong fault (faults_of words) × (fault ≢ kind.DisplayHelp))
     ⊎ ((faults_of words ≡ []) × (given_in words ≡ None))
 
+-- the words are a line
+abbrev pub IsLine : List (List ℕ) → Type 0
+IsLine words = (faults_of words ≡ []) × ((given : Given) × (given_in words ≡ Some given))
+
 -- the words are a line, or clap finds a call for help in them
 abbrev pub IsTaken : List (List ℕ) → Type 0
-IsTaken words = ((faults_of words ≡ []) × ((given : Given) × (given_in words ≡ Some given)))
-    ⊎ IsAmong kind.DisplayHelp (faults_of words)
+IsTaken words = IsLine words ⊎ IsAmong kind.DisplayHelp (faults_of words)
 
 -- a line comes where clap's parse succeeds, with the values that it found; help and refusals come
 -- only where they are due

@@ -1,2 +1,1 @@
-pub mod BuildFolder
 pub mod CommandLine

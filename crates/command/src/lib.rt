@@ -16,7 +16,6 @@
 
 mod definition;
 mod fault;
-mod folder;
 mod line;
 mod read;
 

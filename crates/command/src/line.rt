@@ -1,7 +1,6 @@
 //! What a command line asks for.
-ghost use Rattle.std.specs.Prelude.{IsTrue, ◌≡◌, ◌≤◌, length, string_bytes};
-ghost use Rattle.paths.specs.Paths.{parts_of};
-ghost use Rattle.command.specs.BuildFolder.{is_tidy_folder};
+ghost use Rattle.std.specs.Prelude.{IsTrue, string_bytes};
+ghost use Rattle.support.specs.paths.BuildFolders.{is_tidy_folder};
 
 /// What is done with a project.
 #[derive(Clone, Copy)]
@@ -27,15 +26,4 @@ pub struct Line {
     /// them empty, `.` or `..`.
     pub folder: String,
     pub ghost tidy: { IsTrue (is_tidy_folder (string_bytes folder)) },
-}
-
-impl Line {
-    /// How many folders deep the folder of the build lies below the source root.
-    pub fn depth(&self) -> usize
-        ensures value { result ≡ length (parts_of (string_bytes self.now.folder)) }
-        ensures some { 1 ≤ result }
-        ensures limit { result ≤ 64 }
-    {
-        self.folder.as_str().split('/').count()
-    }
 }

@@ -4,15 +4,15 @@ ghost use Rattle.clap.specs.Words.{all_of, first_of, found_of, kind_of, rows_of,
 ghost use Rattle.command.specs.CommandLine.{Answers, FaultOfKind, Gives, IsRefusal, faults_of, meson_app, task_named};
 
 use crate::definition::command;
-use crate::folder::build_folder;
 use crate::{Line, LineFault, Task};
 use clap::error::ErrorKind;
 use clap::{ArgMatches, Error};
 use machine::option_values::is_built_in;
 use std::alloc::{AllocError, Global};
+use support::paths::tidy_folder;
 
-// What a parse answers in place of matches, as this crate tells it.
-fn fault_of(alloc: Global, error: &Error) -> LineFault
+// What a parse of these words answers in place of matches, as this crate tells it.
+fn fault_of(alloc: Global, words: &[String], error: &Error) -> LineFault
     ensures { FaultOfKind (kind_of error.now) result }
 {
     let kind = error.kind();
@@ -21,40 +21,53 @@ fn fault_of(alloc: Global, error: &Error) -> LineFault
     }
     match error.to_string(alloc) {
         Ok(text) if kind == ErrorKind::DisplayHelp => LineFault::Help(text),
-        Ok(text) => refusal_of(alloc, text),
-        Err(error) => LineFault::Memory(error),
-    }
-}
-
-// A refusal with this text, which says how an option is given where one of Meson's was tried as a flag.
-fn refusal_of(alloc: Global, text: String) -> LineFault
-    ensures { IsRefusal result }
-{
-    match with_tip(alloc, text) {
+        Ok(text) if kind == ErrorKind::UnknownArgument => refusal_of(alloc, words, text),
         Ok(text) => LineFault::Usage(text),
         Err(error) => LineFault::Memory(error),
     }
 }
 
-fn with_tip(alloc: Global, text: String) -> Result<String, AllocError> {
-    let Some((tried, usage)) = flag_tried(text.as_str()) else {
-        return Ok(text);
-    };
-    let name = tried.replace(alloc, '-', "_")?;
-    if !is_built_in(name.as_str()) {
-        return Ok(text);
+// A refusal for a flag that `clap` doesn't know. Where an option of Meson's was given as a flag, it says how that is given, and else this
+// text.
+fn refusal_of(alloc: Global, words: &[String], text: String) -> LineFault
+    ensures { IsRefusal result }
+{
+    match option_given_as_flag(alloc, words) {
+        Ok(Some(tip)) => LineFault::Usage(tip),
+        Ok(None) => LineFault::Usage(text),
+        Err(error) => LineFault::Memory(error),
     }
-    format!(in alloc;
-        "error: unexpected argument '--{tried}' found\n\n  tip: an option is given as '-D{name}=..'\n\nUsage{usage}"
-    )
 }
 
-// The name of a flag that `clap` doesn't know, as it tells it, and what it says behind its own tip.
-fn flag_tried(text: &str) -> Option<(&str, &str)> {
-    let rest = text.strip_prefix("error: unexpected argument '--")?;
-    let (tried, rest) = rest.split_once('\'')?;
-    let (_, usage) = rest.split_once("\n\nUsage")?;
-    Some((tried, usage))
+// The text for the first word that gives an option of Meson's as a flag, where there is one.
+fn option_given_as_flag(alloc: Global, words: &[String]) -> Result<Option<String>, AllocError> {
+    for word in words {
+        let flag = name_of_flag(word.as_str());
+        let name = flag.replace(alloc, '-', "_")?;
+        if is_built_in(name.as_str()) {
+            return Ok(Some(tip(alloc, flag, name.as_str())?));
+        }
+    }
+    Ok(None)
+}
+
+// The name in a word `--name` or `--name=value`; empty where it is none.
+fn name_of_flag(word: &str) -> &str {
+    let Some(flag) = word.strip_prefix("--") else {
+        return "";
+    };
+    match flag.split_once('=') {
+        Some((name, _)) => name,
+        None => flag,
+    }
+}
+
+fn tip(alloc: Global, flag: &str, name: &str) -> Result<String, AllocError> {
+    let usage = command(alloc)?.render_usage()?;
+    format!(in alloc;
+        "error: unexpected argument '--{flag}' found\n\n  tip: an option is given as '-D{name}=..'\n\n{usage}\n\n\
+         For more information, try '--help'.\n"
+    )
 }
 
 // The text for a folder in which nothing can be built.
@@ -90,7 +103,7 @@ fn parse<'a>(alloc: Global, words: &'a [String]) -> Result<ArgMatches<'a>, LineF
     let command = command(alloc)?;
     match command.try_get_matches_from(words) {
         Ok(found) => Ok(found),
-        Err(error) => Err(fault_of(alloc, &error)),
+        Err(error) => Err(fault_of(alloc, words, &error)),
     }
 }
 
@@ -142,7 +155,7 @@ fn line_of(alloc: Global, task: Task, found: &ArgMatches<'_>) -> Result<Line, Li
     let path = path_in(found);
     let words = words_in(alloc, found)?;
     let machine_file = machine_file_in(alloc, found)?;
-    match build_folder(alloc, path)? {
+    match tidy_folder(alloc, path)? {
         Some(folder) => Ok(Line {
             task,
             words,

@@ -1,10 +1,9 @@
 //! Devices, in memory and on a disk: what they answer, and what they are told.
 ghost use Rattle.ports.specs.Endings.{HasRoom};
 ghost use Rattle.std.specs.Prelude.{◌≡◌, ◌+◌, ◌<◌, ◌≤◌, IfOk};
-ghost use Rattle.memory_devices.specs.MemTree.{mem_tree_seen};
+ghost use Rattle.ports.specs.memory.MemTree.{mem_tree_seen};
 
-use basics::text_lists::strings;
-use memory_devices::{Event, MemOutputs, MemTree, OutputCall, TreeCall};
+use ports::memory::{Event, MemOutputs, MemTree, OutputCall, TreeCall};
 use ports::{
     DeviceFault, DiskOutputs, DiskTree, OutputPlace, Outputs, Tree, fault_all, log_all, put_all,
 };
@@ -12,6 +11,7 @@ use std::alloc::{AllocError, Global};
 use std::test::Fail;
 use std::time::SystemTime;
 use std::{env, fs, process};
+use support::text_lists::strings;
 
 // A call of a tree: the size of a path, or a read of four bytes at most from a place on.
 #[derive(Clone, Copy)]

@@ -1,19 +1,61 @@
 //! The text of edges of which no project of today has one.
-use basics::text_lists::strings;
-use outputs::ninja::{push_edge, push_path, push_value, push_words};
+ghost use Rattle.ports.specs.Endings.{HasRoom};
+
+use build::edge::{Edge, Rule, are_writable, can_hold_path, can_hold_value};
+use ninja::{write_edge, write_path, write_value, write_words};
+use ports::memory::{Event, MemOutputs};
+use ports::{DeviceFault, Outputs};
+use std::alloc::{AllocError, Global};
 use std::test::Fail;
-use targets::edge::{Edge, Rule, are_writable, can_hold_path, can_hold_value};
+use support::text_lists::strings;
+
+// More events than any of these texts takes.
+const ROOM: usize = 1_000;
+
+// The bytes of outputs, one after another.
+fn put_bytes(alloc: Global, out: &MemOutputs) -> Result<Vec<u8>, AllocError> {
+    let mut bytes = Vec::new(alloc);
+    for at in 0..out.event_count() {
+        if let Some(Event::Byte(_, byte)) = out.event(at) {
+            bytes.push(byte)?;
+        }
+    }
+    Ok(bytes)
+}
+
+#[tactic(auto, using(ports::proofs::Sending::sending))]
+fn write_path_and_value<O: Outputs>(path: &str, value: &str, out: &mut O) -> Result<(), DeviceFault>
+    requires { HasRoom (O.seen out.old).failures }
+{
+    out.open("f")?;
+    write_path(path, out)?;
+    write_value(value, out)
+}
 
 #[test]
 fn paths_and_values(rt: HostRuntime) -> Result<(), Fail> {
     let alloc = rt.alloc();
-    let mut text = Vec::new(alloc);
-    push_path(&mut text, "a b:c$")?;
-    push_value(&mut text, " a$")?;
-    assert_eq!(rt; text.as_slice(), b"a$ b$:c$$$ a$$".as_slice());
+    let mut out = MemOutputs::new(alloc, ROOM)?;
+    write_path_and_value("a b:c$", " a$", &mut out)?;
+    assert_eq!(rt;
+        put_bytes(alloc, &out)?.as_slice(),
+        b"a$ b$:c$$$ a$$".as_slice()
+    );
     assert!(rt; !can_hold_path("a|b") && !can_hold_path("\u{7f}") && can_hold_path("é"));
     assert!(rt; can_hold_value("\t") && !can_hold_value("\n"));
     Ok(())
+}
+
+#[tactic(auto, using(ports::proofs::Sending::sending))]
+fn write_command<O: Outputs>(
+    words: &[String],
+    file: Option<&str>,
+    out: &mut O,
+) -> Result<(), DeviceFault>
+    requires { HasRoom (O.seen out.old).failures }
+{
+    out.open("f")?;
+    write_words(words, file, out)
 }
 
 #[test]
@@ -32,11 +74,19 @@ fn words(rt: HostRuntime) -> Result<(), Fail> {
         ),
     ] {
         let words = strings(alloc, words)?;
-        let mut text = Vec::new(alloc);
-        push_words(&mut text, &words, file)?;
-        assert_eq!(rt; text.as_slice(), expected.as_bytes());
+        let mut out = MemOutputs::new(alloc, ROOM)?;
+        write_command(&words, file, &mut out)?;
+        assert_eq!(rt; put_bytes(alloc, &out)?.as_slice(), expected.as_bytes());
     }
     Ok(())
+}
+
+#[tactic(auto, using(ports::proofs::Sending::sending))]
+fn write_block<O: Outputs>(edge: &Edge, out: &mut O) -> Result<(), DeviceFault>
+    requires { HasRoom (O.seen out.old).failures }
+{
+    out.open("f")?;
+    write_edge(&edge.lend(), out)
 }
 
 #[test]
@@ -55,10 +105,10 @@ fn an_edge_with_blanks_and_quotes(rt: HostRuntime) -> Result<(), Fail> {
     };
     let edges = [edge];
     assert!(rt; are_writable(&edges));
-    let mut text = Vec::new(alloc);
-    push_edge(&mut text, &edges[0].lend())?;
+    let mut out = MemOutputs::new(alloc, ROOM)?;
+    write_block(&edges[0], &mut out)?;
     assert_eq!(rt;
-        text.as_slice(),
+        put_bytes(alloc, &out)?.as_slice(),
         b"build q.p/a$ b$:c$$.c.o: c_compile ../a$ b$:c$$.c | i || o
  COMMAND = cc -I. 'it'\"'\"'s' -c '../a b:c$$.c'
  DESC = Compiling C object q.p/a b:c$$.c.o

@@ -1,10 +1,10 @@
 //! Templates over devices in memory: where the log stands in what is written, whichever call of a device fails, and files that are longer
 //! or shorter than they say.
 ghost use Rattle.ports.specs.Endings.{HasRoom};
-ghost use Rattle.memory_devices.specs.MemTree.{mem_tree_seen};
+ghost use Rattle.ports.specs.memory.MemTree.{mem_tree_seen};
 ghost use Rattle.std.specs.Prelude.{◌≡◌, ◌<◌, [], length, false, IfOk};
 
-use memory_devices::{Event, MemOutputs, MemTree, OutputCall, TreeCall};
+use ports::memory::{Event, MemOutputs, MemTree, OutputCall, TreeCall};
 use ports::{DeviceFault, Outputs, Tree};
 use std::alloc::{AllocError, Global};
 use std::test::Fail;

@@ -4,8 +4,8 @@ use Rattle.std.proofs.Common.{Result, Ok, Err, IsErrAnd, bytes_eq, refl, sym, ap
 use Rattle.std.specs.Prelude.{if◌then◌else◌}
 use Rattle.code.specs.Draft.{IsFront}
 use Rattle.code.proofs.Trees.{at_front}
-use Rattle.data.specs.Data.{Data}
-use Rattle.data.specs.declared.refusal.Refusal.{Refusal as OperationRefusal}
+use Rattle.values.specs.Data.{Data}
+use Rattle.values.specs.declared.refusal.Refusal.{Refusal as OperationRefusal}
 use Rattle.ports.specs.Outputs.{OutputState}
 use Rattle.ports.specs.Tree.{TreeState}
 use Rattle.world.specs.Deed.{Files}
@@ -15,11 +15,11 @@ use Rattle.world.specs.Store.{changing}
 use Rattle.world.specs.Trace.{Seen, seen}
 use Rattle.world.specs.Run.{ran, Done, Faulted, outcome_of}
 use Rattle.world.specs.Operation.{of_operation}
-use Rattle.basics.specs.Faults.{FaultData}
-use Rattle.basics.specs.declared.faults.refusal.Refusal.TheVariants as refusals
+use Rattle.support.specs.Faults.{FaultData}
+use Rattle.support.specs.declared.faults.refusal.Refusal.TheVariants as refusals
 use Rattle.operations.specs.declared.operators.operator.Binary.TheVariants.{Add}
 use Rattle.operations.specs.operators.Operations.{binary_answer}
-use Rattle.data.specs.language_names.Names.{is_predefined}
+use Rattle.values.specs.language_names.Names.{is_predefined}
 use Rattle.world.specs.World.{World, with_facts, with_line, with_variable, with_variables, variables_with}
 use Rattle.world.specs.declared.stop.Stop.{Stop}
 use Rattle.world.specs.declared.stop.Stop.TheVariants as stops

@@ -1,8 +1,8 @@
 -- f-strings, part by part.
 use Rattle.std.proofs.Common.{◌≡◌, ℕ, List, [], Result}
-use Rattle.data.specs.Limits.{within_bytes}
-use Rattle.data.specs.declared.refusal.Refusal.{Refusal}
-use Rattle.data.specs.texts.Segments.{Segment}
+use Rattle.values.specs.Limits.{within_bytes}
+use Rattle.values.specs.declared.refusal.Refusal.{Refusal}
+use Rattle.values.specs.texts.Segments.{Segment}
 use Rattle.world.specs.Deed.{Files}
 use Rattle.world.specs.Gives.{Holds}
 use Rattle.expressions.specs.Contexts.{Leads, Stand}

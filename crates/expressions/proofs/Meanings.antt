@@ -3,16 +3,16 @@ use Rattle.std.proofs.Common.{◌≡◌, ℕ, Bool, true, false, List, refl, ap,
 use Rattle.std.specs.Prelude.{IsTrue, ◌&&◌, ◌==◌, not, bytes_eq}
 use Rattle.std.proofs.lemmas.Bool.Decides.{Decides-eqb}
 use Rattle.std.proofs.lemmas.Slice.Eq.{bytes_eq-Decides}
-use Rattle.grammar.specs.declared.tree.Literal.{Literal}
-use Rattle.grammar.specs.declared.tree.Literal.TheVariants as literals
-use Rattle.lexer.specs.Numerals.{magnitude}
-use Rattle.lexer.specs.Texts.{text_of}
+use Rattle.syntax.specs.declared.tree.Literal.{Literal}
+use Rattle.syntax.specs.declared.tree.Literal.TheVariants as literals
+use Rattle.syntax.specs.lexer.Numerals.{magnitude}
+use Rattle.syntax.specs.lexer.Texts.{text_of}
 use Rattle.code.specs.Literals.{is_boolean, is_format, is_number, is_plain, kind_of, means, spelled}
 use Rattle.code.specs.declared.literal.LiteralNode.{LiteralNode}
 use Rattle.code.specs.declared.literal.Meaning.{Meaning}
 use Rattle.code.proofs.Trees.{both_true}
-use Rattle.data.specs.Data.{boolean, text}
-use Rattle.data.specs.Limits.{within}
+use Rattle.values.specs.Data.{boolean, text}
+use Rattle.values.specs.Limits.{within}
 use Rattle.world.specs.Plan.{answered, give}
 use Rattle.expressions.specs.Forms.{format_string, literal_value, number}
 

@@ -6,13 +6,13 @@ use Rattle.std.specs.Str.Lossy.{utf8_valid_len}
 use Rattle.std.proofs.lemmas.Bool.{lt-leb, le-leb}
 use Rattle.std.proofs.lemmas.Str.{IsUtf8-from_is_utf8, is_utf8-from_IsUtf8}
 use Rattle.code.specs.Draft.{IsFront}
-use Rattle.grammar.specs.Parsed.{parsed}
-use Rattle.grammar.specs.Tree.{FileTree, Statements, statements}
-use Rattle.lexer.specs.declared.fault.SyntaxFault.{SyntaxFault}
+use Rattle.syntax.specs.Parsed.{parsed}
+use Rattle.syntax.specs.Tree.{FileTree, Statements, statements}
+use Rattle.syntax.specs.declared.lexer.fault.SyntaxFault.{SyntaxFault}
 use Rattle.ports.specs.Outputs.{OutputState}
 use Rattle.ports.specs.Tree.{TreeState, file_at}
-use Rattle.basics.specs.declared.faults.refusal.Refusal.{Refusal}
-use Rattle.basics.specs.declared.faults.refusal.Refusal.TheVariants as refusals
+use Rattle.support.specs.declared.faults.refusal.Refusal.{Refusal}
+use Rattle.support.specs.declared.faults.refusal.Refusal.TheVariants as refusals
 use Rattle.world.specs.Answering.{Refuses}
 use Rattle.world.specs.Deed.{Files, ask, need, perform, refuse as refuse_deed}
 use Rattle.world.specs.Gives.{Gives, Holds}

@@ -4,7 +4,7 @@ use Rattle.std.proofs.Math.Dec.{leb-zero}
 use Rattle.std.specs.Prelude.{if◌then◌else◌}
 use Rattle.arguments.specs.Arguments.{ArgumentsData}
 use Rattle.arguments.specs.Misfits.{TooFew, checked, judged, misplaced, or_else, too_few}
-use Rattle.data.specs.Data.{Data}
+use Rattle.values.specs.Data.{Data}
 use Rattle.arguments.specs.Rows.{any_values}
 
 misplaced_none : (i : ℕ) (ds : List Data) → misplaced any_values i ds ≡ None

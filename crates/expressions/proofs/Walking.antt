@@ -3,11 +3,11 @@ use Rattle.std.proofs.Common.{◌≡◌, ℕ, zero, suc, ◌+◌, ◌<◌, ◌�
 use Rattle.std.proofs.Common.{drop_of_length-le, Option, Some, None, is_some, Ok, refl, ap, ◌∙◌, arith}
 use Rattle.std.specs.Prelude.{slice_get}
 use Rattle.std.proofs.lemmas.Option.{get_or_from_slice_get}
-use Rattle.data.specs.Data.{Data, boolean, integer, text, list, dictionary, object, Items, no_items, item, count, items_in, Entries}
-use Rattle.data.specs.Data.{no_entries, entry, entry_count, entry_values, entries_in, keys_in}
-use Rattle.data.specs.Few.{item_count}
-use Rattle.data.specs.View.{data_of, items_of}
-use Rattle.data.specs.declared.value.Value.{Value}
+use Rattle.values.specs.Data.{Data, boolean, integer, text, list, dictionary, object, Items, no_items, item, count, items_in, Entries}
+use Rattle.values.specs.Data.{no_entries, entry, entry_count, entry_values, entries_in, keys_in}
+use Rattle.values.specs.Few.{item_count}
+use Rattle.values.specs.View.{data_of, items_of}
+use Rattle.values.specs.declared.value.Value.{Value}
 use Rattle.expressions.specs.Rounds.{HasFewRounds, Loops, Round, entry_rounds, item_rounds, looped}
 
 rounds_counted : (xs : List Value) → length (item_rounds (items_of xs)) ≡ length xs

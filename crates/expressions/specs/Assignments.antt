@@ -1,15 +1,15 @@
 -- Variables that take values.
 use Rattle.std.specs.Prelude.{ℕ, Bool, true, false, List, Option, Some, None, refl}
 use Rattle.std.specs.Option.{option_and_then}
-use Rattle.data.specs.declared.object.Object.{Object}
-use Rattle.data.specs.declared.object.Object.TheVariants as objects
-use Rattle.data.specs.Data.{Data, object, object_in}
+use Rattle.values.specs.declared.object.Object.{Object}
+use Rattle.values.specs.declared.object.Object.TheVariants as objects
+use Rattle.values.specs.Data.{Data, object, object_in}
 use Rattle.arguments.specs.Rules.{broken}
 use Rattle.arguments.specs.declared.rule.Rule.TheVariants as rules
-use Rattle.basics.specs.declared.faults.refusal.Refusal.TheVariants as refusals
+use Rattle.support.specs.declared.faults.refusal.Refusal.TheVariants as refusals
 use Rattle.operations.specs.declared.operators.operator.Binary.TheVariants.{Add}
 use Rattle.operations.specs.operators.Operations.{binary_answer}
-use Rattle.data.specs.language_names.Names.{is_predefined}
+use Rattle.values.specs.language_names.Names.{is_predefined}
 use Rattle.world.specs.Configuring.{copy_configuration}
 use Rattle.world.specs.World.{with_variable}
 use Rattle.world.specs.Deed.{change}

@@ -3,8 +3,8 @@ use Rattle.std.specs.Prelude.{ℕ, List, map}
 use Rattle.code.specs.declared.code.Code.{Code}
 use Rattle.code.specs.Nodes.{trees}
 use Rattle.code.specs.Statements.{statement_at, statement_trees}
-use Rattle.grammar.specs.ExpressionTree.{ExpressionTree}
-use Rattle.grammar.specs.Tree.{StatementTree, Statements, statements}
+use Rattle.syntax.specs.ExpressionTree.{ExpressionTree}
+use Rattle.syntax.specs.Tree.{StatementTree, Statements, statements}
 
 abbrev pub expressions_by : List (List ℕ) → Code → List ExpressionTree
 expressions_by table c = trees table c.nodes.items

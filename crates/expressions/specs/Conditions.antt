@@ -1,6 +1,6 @@
 -- What conditions choose.
 use Rattle.std.specs.Prelude.{ℕ, Bool, true, false, [], Option, Some, None}
-use Rattle.basics.specs.declared.faults.refusal.Refusal.TheVariants as refusals
+use Rattle.support.specs.declared.faults.refusal.Refusal.TheVariants as refusals
 use Rattle.world.specs.Plan.{Plan, give, refuse}
 use Rattle.expressions.specs.declared.conditions.Choice.{Choice}
 use Rattle.expressions.specs.declared.conditions.Choice.TheVariants.{Body, Others, Skip}

@@ -2,8 +2,8 @@
 use Rattle.std.specs.Prelude.{◌≡◌, ℕ, ◌+◌, ◌<◌, ◌≤◌, ◌^◌, List, Result}
 use Rattle.ports.specs.Outputs.{OutputState}
 use Rattle.ports.specs.Tree.{TreeState}
-use Rattle.basics.specs.Faults.{FaultData}
-use Rattle.basics.specs.declared.faults.refusal.Refusal.{Refusal}
+use Rattle.support.specs.Faults.{FaultData}
+use Rattle.support.specs.declared.faults.refusal.Refusal.{Refusal}
 use Rattle.world.specs.Deed.{Files}
 use Rattle.world.specs.Gives.{Continues, Gives, Holds, failures_after}
 use Rattle.world.specs.Plan.{Plan, carry}

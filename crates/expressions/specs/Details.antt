@@ -1,9 +1,9 @@
 -- What the refusals of operations on values are about.
 use Rattle.std.specs.Prelude.{ℕ, List, [], ◌++◌, codes}
 use Rattle.arguments.specs.Words.{values_words}
-use Rattle.data.specs.Data.{Data}
-use Rattle.data.specs.declared.refusal.Refusal.{Refusal}
-use Rattle.data.specs.declared.refusal.Refusal.TheVariants as operation
+use Rattle.values.specs.Data.{Data}
+use Rattle.values.specs.declared.refusal.Refusal.{Refusal}
+use Rattle.values.specs.declared.refusal.Refusal.TheVariants as operation
 use Rattle.operations.specs.methods.Takes.{takes_words}
 
 -- what the method of a name takes, and what it got

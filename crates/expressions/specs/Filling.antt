@@ -1,9 +1,9 @@
 -- f-strings, piece by piece.
 use Rattle.std.specs.Prelude.{◌≡◌, ℕ, Bool, true, false, List, ◌++◌, Result, Ok}
-use Rattle.data.specs.Data.{Data}
-use Rattle.data.specs.Limits.{within_bytes}
-use Rattle.data.specs.declared.refusal.Refusal.{Refusal}
-use Rattle.data.specs.printing.Printed.{is_plain, printed, shown}
+use Rattle.values.specs.Data.{Data}
+use Rattle.values.specs.Limits.{within_bytes}
+use Rattle.values.specs.declared.refusal.Refusal.{Refusal}
+use Rattle.values.specs.printing.Printed.{is_plain, printed, shown}
 
 -- a value was put behind a text, which may be too long, or it may not stand in an f-string
 abbrev pub Puts : Data → (before : List ℕ) → (made : Result (List ℕ) Refusal) → (done : Bool) → Type 0

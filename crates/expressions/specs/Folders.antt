@@ -1,11 +1,11 @@
 -- Folders that are entered, and their definition files.
 use Rattle.std.specs.Prelude.{ℕ, List, [], length, nat_lt, not, bytes_eq, Option, Some, None, refl}
 use Rattle.std.specs.List.{list_any}
-use Rattle.grammar.specs.Tree.{Statements}
+use Rattle.syntax.specs.Tree.{Statements}
 use Rattle.arguments.specs.Rules.{broken}
 use Rattle.arguments.specs.declared.rule.Rule.TheVariants as rules
-use Rattle.basics.specs.declared.faults.refusal.Refusal.TheVariants as refusals
-use Rattle.paths.specs.Paths.{folder_below}
+use Rattle.support.specs.declared.faults.refusal.Refusal.TheVariants as refusals
+use Rattle.support.specs.paths.Paths.{folder_below}
 use Rattle.world.specs.Costs.{definition_file}
 use Rattle.world.specs.World.{Facts, with_place}
 use Rattle.world.specs.Deed.{refuse, ask, read, change, need}

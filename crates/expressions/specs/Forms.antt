@@ -1,25 +1,25 @@
 -- What forms of expressions give for the values of their parts, and names.
 use Rattle.std.specs.Prelude.{ℕ, pos, ◌^◌, nat_lt, Bool, true, false, ◌||◌, ◌&&◌, List, [], ◌∷◌, ◌++◌, Option, Some, None, Result, Ok}
 use Rattle.std.specs.Prelude.{Err, bytes_eq, codes, if◌then◌else◌}
-use Rattle.lexer.specs.Texts.{text_of}
-use Rattle.lexer.specs.Numerals.{magnitude}
-use Rattle.lexer.specs.declared.token.Kind.TheVariants as kinds
-use Rattle.grammar.specs.declared.tree.Literal.{Literal}
-use Rattle.grammar.specs.declared.tree.Literal.TheVariants as literals
-use Rattle.grammar.specs.declared.tree.Operator.{Operator}
-use Rattle.grammar.specs.declared.tree.Operator.TheVariants as operators
-use Rattle.grammar.specs.declared.tree.Prefix.{Prefix}
-use Rattle.grammar.specs.declared.tree.Prefix.TheVariants as prefixes
-use Rattle.data.specs.declared.object.Object.{Object}
-use Rattle.data.specs.declared.object.Object.TheVariants as objects
-use Rattle.data.specs.declared.refusal.Refusal.{Refusal as OperationRefusal}
-use Rattle.data.specs.declared.refusal.Refusal.TheVariants as operation
-use Rattle.data.specs.Data.{Data, boolean, integer, text, list, Items}
-use Rattle.data.specs.Limits.{within}
-use Rattle.basics.specs.declared.faults.refusal.Refusal.TheVariants as refusals
-use Rattle.data.specs.printing.Printed.{is_plain, printed}
-use Rattle.data.specs.declared.texts.placed.Places.TheVariants as places
-use Rattle.data.specs.texts.Segments.{Segment, text as between, place, segments}
+use Rattle.syntax.specs.lexer.Texts.{text_of}
+use Rattle.syntax.specs.lexer.Numerals.{magnitude}
+use Rattle.syntax.specs.declared.lexer.token.Kind.TheVariants as kinds
+use Rattle.syntax.specs.declared.tree.Literal.{Literal}
+use Rattle.syntax.specs.declared.tree.Literal.TheVariants as literals
+use Rattle.syntax.specs.declared.tree.Operator.{Operator}
+use Rattle.syntax.specs.declared.tree.Operator.TheVariants as operators
+use Rattle.syntax.specs.declared.tree.Prefix.{Prefix}
+use Rattle.syntax.specs.declared.tree.Prefix.TheVariants as prefixes
+use Rattle.values.specs.declared.object.Object.{Object}
+use Rattle.values.specs.declared.object.Object.TheVariants as objects
+use Rattle.values.specs.declared.refusal.Refusal.{Refusal as OperationRefusal}
+use Rattle.values.specs.declared.refusal.Refusal.TheVariants as operation
+use Rattle.values.specs.Data.{Data, boolean, integer, text, list, Items}
+use Rattle.values.specs.Limits.{within}
+use Rattle.support.specs.declared.faults.refusal.Refusal.TheVariants as refusals
+use Rattle.values.specs.printing.Printed.{is_plain, printed}
+use Rattle.values.specs.declared.texts.placed.Places.TheVariants as places
+use Rattle.values.specs.texts.Segments.{Segment, text as between, place, segments}
 use Rattle.operations.specs.declared.operators.operator.Unary.{Unary}
 use Rattle.operations.specs.declared.operators.operator.Unary.TheVariants.{Not, Negate}
 use Rattle.operations.specs.declared.operators.operator.Binary.TheVariants as binaries
@@ -33,11 +33,11 @@ use Rattle.operations.specs.declared.operators.literal.LiteralRefusal.TheVariant
 use Rattle.operations.specs.methods.Methods.{answer as method_answer}
 use Rattle.arguments.specs.Arguments.{ArgumentsData}
 use Rattle.arguments.specs.Misfits.{checked}
-use Rattle.data.specs.language_names.Functions.{function_named}
-use Rattle.data.specs.language_names.Names.{is_left_out, is_predefined, predefined}
+use Rattle.values.specs.language_names.Functions.{function_named}
+use Rattle.values.specs.language_names.Names.{is_left_out, is_predefined, predefined}
 use Rattle.arguments.specs.Rows.{any_values}
-use Rattle.data.specs.declared.language_names.functions.Function.{Function}
-use Rattle.data.specs.declared.language_names.functions.Function.TheVariants as functions
+use Rattle.values.specs.declared.language_names.functions.Function.{Function}
+use Rattle.values.specs.declared.language_names.functions.Function.TheVariants as functions
 use Rattle.world.specs.Deed.{read}
 use Rattle.world.specs.Operation.{of_operation}
 use Rattle.world.specs.Plan.{Plan, deed, ◌>>=◌, give, refuse, answered}

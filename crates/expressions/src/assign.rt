@@ -12,12 +12,12 @@ ghost use Rattle.expressions.specs.Assignments.{added, assigned, bound, configur
 use crate::context::Context;
 use crate::loops::Round;
 use arguments::Rule;
-use basics::faults::Refusal;
-use data::language_names::is_predefined;
-use data::{Object, Value};
 use operations::operators::{Binary, binary};
 use ports::{Outputs, Tree};
 use std::sync::ledger::Ledger;
+use support::faults::Refusal;
+use values::language_names::is_predefined;
+use values::{Object, Value};
 use world::{Caller, Stop};
 
 // The number of an object that is configuration data.

@@ -1,14 +1,14 @@
 //! Conditions.
 ghost use Rattle.std.specs.Prelude.{◌≡◌, ℕ};
-ghost use Rattle.data.specs.Data.{boolean_in, is_disabler};
+ghost use Rattle.values.specs.Data.{boolean_in, is_disabler};
 ghost use Rattle.world.specs.Prelude.{data_of, failures_after};
 ghost use Rattle.expressions.specs.Conditions.{choice_of};
 
 use crate::context::Context;
-use basics::faults::Refusal;
-use data::Value;
 use ports::{Outputs, Tree};
 use std::sync::ledger::Ledger;
+use support::faults::Refusal;
+use values::Value;
 use world::Stop;
 
 /// What the value of a condition chooses.

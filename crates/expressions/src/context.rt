@@ -1,18 +1,18 @@
 //! What an evaluation works on, and the small answers that it gives.
 ghost use Rattle.std.specs.Prelude.{◌≡◌, ◌<◌, ℕ, Result, None, option_map};
-ghost use Rattle.data.specs.Data.{Data, is_disabler};
-ghost use Rattle.data.specs.declared.refusal.Refusal.{Refusal as OperationRefusal};
+ghost use Rattle.values.specs.Data.{Data, is_disabler};
+ghost use Rattle.values.specs.declared.refusal.Refusal.{Refusal as OperationRefusal};
 ghost use Rattle.arguments.specs.Refused.{answer_data};
 ghost use Rattle.world.specs.Prelude.{Answers as AnswersSo, Refuses, data_of, failures_after};
 ghost use Rattle.world.specs.Plan.{answered};
 ghost use Rattle.expressions.specs.Forms.{fitted, needed, unchosen};
 
 use arguments::Refused;
-use basics::faults::Refusal;
-use data::Value;
 use ports::{Outputs, Tree};
 use std::alloc::Global;
 use std::sync::ledger::Ledger;
+use support::faults::Refusal;
+use values::Value;
 use world::{Steps, Stop, Store, of_operation};
 
 /// What an evaluation works on: the world, the devices, and the counter of rules.
@@ -71,7 +71,7 @@ impl<'a, T: Tree, O: Outputs, L: Ledger> Context<'a, T, O, L> {
 
     /// What an operation answered, or the stop of its refusal.
     #[inline(always)]
-    pub fn answer(&self, line: usize, answer: Result<Value, data::Refusal>) -> Result<Value, Stop>
+    pub fn answer(&self, line: usize, answer: Result<Value, values::Refusal>) -> Result<Value, Stop>
         ensures gives { (given : Result Data OperationRefusal) → AnswersSo given answer
             → Answers T.seen O.seen data_of (answered line given) self.now result self.now }
         ensures quiet { (n : ℕ) → failures_after n result ≡ n }

@@ -4,10 +4,10 @@ ghost use Rattle.world.specs.Prelude.{data_of};
 ghost use Rattle.expressions.specs.Details.{key_twice, method_detail, method_words};
 
 use arguments::values_words;
-use data::language_names::MethodName;
-use data::{Refusal, Value};
 use operations::methods::takes_words;
 use std::alloc::{AllocError, Global};
+use values::language_names::MethodName;
+use values::{Refusal, Value};
 
 /// That this key of a dictionary stands before it already.
 pub fn key_twice(alloc: Global, key: &str) -> Result<String, AllocError>

@@ -1,23 +1,27 @@
 //! The values of f-strings.
 ghost use Rattle.std.specs.Prelude.{◌≡◌, ◌++◌, ℕ, List, IfOk, [], map};
 ghost use Rattle.code.specs.FormatStrings.{part_data};
-ghost use Rattle.data.specs.Data.{text};
+ghost use Rattle.values.specs.Data.{text};
 ghost use Rattle.world.specs.Prelude.{Answers as AnswersSo, data_of, failures_after, within, within_bytes};
 ghost use Rattle.expressions.specs.Filling.{Puts};
 ghost use Rattle.expressions.specs.Forms.{filled};
 
 use crate::context::Context;
-use basics::faults::Refusal;
 use code::Part;
-use data::printing::{Digits, plain_text};
-use data::{Text, Value};
 use ports::{Outputs, Tree};
 use std::alloc::{AllocError, Global};
 use std::sync::ledger::Ledger;
+use support::faults::Refusal;
+use values::printing::{Digits, plain_text};
+use values::{Text, Value};
 use world::Stop;
 
 // Puts a piece behind a text, which may be too long already.
-fn put(alloc: Global, made: &mut Result<Text, data::Refusal>, piece: &str) -> Result<(), AllocError>
+fn put(
+    alloc: Global,
+    made: &mut Result<Text, values::Refusal>,
+    piece: &str,
+) -> Result<(), AllocError>
     ensures { (before : List ℕ) → made.old ≡ within_bytes before → IfOk result (λ _. made.new ≡ within_bytes (before ++ piece.now)) }
 {
     let put = match made {
@@ -33,7 +37,7 @@ fn put(alloc: Global, made: &mut Result<Text, data::Refusal>, piece: &str) -> Re
 // Puts what a value is printed as. Answers whether it may stand in an f-string.
 fn put_plain(
     alloc: Global,
-    made: &mut Result<Text, data::Refusal>,
+    made: &mut Result<Text, values::Refusal>,
     value: &Value,
 ) -> Result<bool, AllocError>
     ensures { (before : List ℕ) → made.old ≡ within_bytes before
@@ -52,7 +56,7 @@ fn put_plain(
 // The same of a value that is let go.
 fn put_value(
     alloc: Global,
-    made: &mut Result<Text, data::Refusal>,
+    made: &mut Result<Text, values::Refusal>,
     value: Value,
 ) -> Result<bool, AllocError>
     ensures { (before : List ℕ) → made.old ≡ within_bytes before → IfOk result (λ done. Puts (data_of value) before made.new done) }
@@ -61,7 +65,7 @@ fn put_value(
 }
 
 // The value of a text, where that is not too long.
-fn text_value(made: Result<Text, data::Refusal>) -> Result<Value, data::Refusal>
+fn text_value(made: Result<Text, values::Refusal>) -> Result<Value, values::Refusal>
     ensures { (whole : List ℕ) → made ≡ within_bytes whole → AnswersSo (within (text whole)) result }
 {
     match made {

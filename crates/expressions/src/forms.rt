@@ -8,12 +8,12 @@ ghost use Rattle.expressions.specs.Forms.{listed, paired, part_at, prefixed};
 use crate::context::Context;
 use crate::details::key_twice;
 use crate::meaning::unary_of;
-use basics::faults::Refusal;
-use data::Value;
-use grammar::tree::Prefix;
 use operations::operators::{LiteralRefusal, dictionary, index, list, unary};
 use ports::{Outputs, Tree};
 use std::sync::ledger::Ledger;
+use support::faults::Refusal;
+use syntax::tree::Prefix;
+use values::Value;
 use world::{Stop, of_operation};
 
 impl<'a, T: Tree, O: Outputs, L: Ledger> Context<'a, T, O, L> {

@@ -16,6 +16,7 @@ mod open;
 
 pub use conditions::Choice;
 pub use context::Context;
+pub use details::method_detail;
 pub use loops::{Round, check_loop, round_at};
 pub use meaning::{Meaning, meaning_of};
 pub use names::disabler_method;

@@ -1,35 +1,35 @@
 //! The values of literals.
 ghost use Rattle.std.specs.Prelude.{◌≡◌, false, ℕ, IfOk, Ok};
 ghost use Rattle.code.specs.Literals.{is_format, spelled};
-ghost use Rattle.data.specs.Data.{text};
-ghost use Rattle.lexer.specs.Numerals.{magnitude};
-ghost use Rattle.lexer.specs.Texts.{text_of};
+ghost use Rattle.values.specs.Data.{text};
+ghost use Rattle.syntax.specs.lexer.Numerals.{magnitude};
+ghost use Rattle.syntax.specs.lexer.Texts.{text_of};
 ghost use Rattle.world.specs.Prelude.{Answers as AnswersSo, data_of, failures_after, within};
 ghost use Rattle.world.specs.Plan.{answered};
 ghost use Rattle.expressions.specs.Forms.{literal_value, number};
 
 use crate::context::Context;
 use code::{FormatString, LiteralNode, Meaning};
-use data::{Short, Text, Value};
-use grammar::tree::Literal;
-use lexer::token::Kind;
-use lexer::{magnitude, text_of_slice};
 use ports::{Outputs, Tree};
 use std::alloc::{AllocError, Global};
 use std::sync::ledger::Ledger;
+use syntax::lexer::token::Kind;
+use syntax::lexer::{magnitude, text_of_slice};
+use syntax::tree::Literal;
+use values::{Short, Text, Value};
 use world::Stop;
 
 // The integer of a number token.
-fn number(text: &str) -> Result<Value, data::Refusal>
+fn number(text: &str) -> Result<Value, values::Refusal>
     ensures { AnswersSo (number (magnitude text.now)) result }
 {
     let Some(magnitude) = magnitude(text) else {
-        return Err(data::Refusal::Range);
+        return Err(values::Refusal::Range);
     };
     if magnitude < 1 << 127 {
         Ok(Value::Integer(magnitude as i128))
     } else {
-        Err(data::Refusal::Range)
+        Err(values::Refusal::Range)
     }
 }
 

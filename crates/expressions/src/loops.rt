@@ -3,9 +3,9 @@ ghost use Rattle.std.specs.Prelude.{IfOk, false, true};
 ghost use Rattle.world.specs.Prelude.{data_of, items_of};
 ghost use Rattle.expressions.specs.Rounds.{HasFewRounds, Loops, RoundAt, entry_rounds, item_rounds, rounds_in};
 
-use basics::faults::Refusal;
-use data::{Dictionary, Value, values_have_few_items};
 use std::alloc::{AllocError, Global};
+use support::faults::Refusal;
+use values::{Dictionary, Value, values_have_few_items};
 
 /// The values of a round's variables: of the first, and of the second where there is one.
 #[derive(Drop)]

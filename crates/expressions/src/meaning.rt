@@ -2,8 +2,8 @@
 ghost use Rattle.std.specs.Prelude.{◌≡◌};
 ghost use Rattle.expressions.specs.Forms.{meaning_of, unary_of};
 
-use grammar::tree::{Operator, Prefix};
 use operations::operators::{Binary, Connective, Unary};
+use syntax::tree::{Operator, Prefix};
 
 /// What an operator between two values does.
 #[derive(Clone, Copy)]

@@ -10,15 +10,15 @@ ghost use Rattle.expressions.specs.Forms.{may_be_asked_first, may_come_first, me
 use crate::context::Context;
 use crate::details::method_detail;
 use arguments::{Arguments, any_values, check};
-use basics::faults::Refusal;
-use data::language_names::{
-    Function, FunctionName, MethodName, is_left_out, is_predefined, predefined_value,
-};
-use data::{Object, Value};
 use operations::methods::{has_method, method};
 use ports::{Outputs, Tree};
 use std::alloc::{AllocError, Global};
 use std::sync::ledger::Ledger;
+use support::faults::Refusal;
+use values::language_names::{
+    Function, FunctionName, MethodName, is_left_out, is_predefined, predefined_value,
+};
+use values::{Object, Value};
 use world::{Stop, of_operation};
 
 // Whether a function may be called in the arguments of `project`.

@@ -3,8 +3,8 @@ ghost use Rattle.std.specs.Prelude.{◌≡◌, ℕ, List, IfOk, Some, false, len
 ghost use Rattle.std.specs.List.{list_any};
 ghost use Rattle.std.specs.Str.{is_utf8};
 ghost use Rattle.arguments.specs.Rules.{broken};
-ghost use Rattle.grammar.specs.Parsed.{parsed};
-ghost use Rattle.grammar.specs.Tree.{file_of, statements};
+ghost use Rattle.syntax.specs.Parsed.{parsed};
+ghost use Rattle.syntax.specs.Tree.{file_of, statements};
 ghost use Rattle.ports.specs.Tree.{file_at};
 ghost use Rattle.world.specs.Prelude.{Files, Holds, Refuses, failures_after};
 ghost use Rattle.world.specs.Costs.{definition_file};
@@ -15,18 +15,18 @@ ghost use Rattle.expressions.specs.Folders.{fresh, fresh_by, opened, opened_by};
 
 use crate::context::Context;
 use arguments::Rule;
-use basics::faults::Refusal;
-use basics::limits::FOLDERS;
 use code::Code;
-use grammar::fault::SyntaxError;
-use grammar::parse;
-use grammar::tree::File;
-use lexer::keep_room;
-use paths::{folder_below, path_in};
 use ports::{Outputs, Tree};
 use std::alloc::AllocError;
 use std::str;
 use std::sync::ledger::Ledger;
+use support::faults::Refusal;
+use support::limits::FOLDERS;
+use support::paths::{folder_below, path_in};
+use syntax::fault::SyntaxError;
+use syntax::lexer::keep_room;
+use syntax::parse;
+use syntax::tree::File;
 use world::definition_files::{MOST_BYTES, line_at, read_file, refusal_of};
 use world::{Place, Stop};
 
@@ -147,7 +147,7 @@ impl<'a, T: Tree, O: Outputs, L: Ledger> Context<'a, T, O, L> {
         if size > MOST_BYTES {
             return self.refuse(line, Refusal::Limit, "");
         }
-        keep_room(self.alloc, size as usize)?;
+        keep_room(self.alloc, size as usize);
         let bytes = read_file(self.alloc, self.tree, self.store.file(), size as usize)?;
         self.code_of(&bytes)
     }

@@ -1,8 +1,7 @@
 //! `meson setup` for C projects: from the words of a command line and the bytes of a source tree to the bytes of a build folder.
 //!
-//! `main` hands the words and the runtime to [`run`]; [`running::setup`] is the run of a project, over any devices, and states the
-//! theorem of the whole. [`asking::questions`] tells what that run asks of the machine file, [`ending::fault`] which fault it ends in and
-//! what that is about. What is in `law` holds of every run.
+//! `main` hands the words and the runtime to [`run`]. What that does of a project is `meson::perform`, whose crate states the theorem of
+//! the whole.
 //!
 //! # Decisions
 //!
@@ -13,20 +12,9 @@
 //! so that no output gets one and what is said goes nowhere but into an error.
 #![tactic(auto)]
 
-mod asking;
-#[cfg(test)]
-mod device_failures;
-mod ending;
-#[cfg(test)]
-mod expected;
-#[cfg(test)]
-mod given;
-mod law;
 #[cfg(test)]
 mod no_words;
 mod program;
-mod running;
-mod telling;
 
 use program::run;
 use std::fs::File;

@@ -1,25 +1,24 @@
 //! A run of the program, over a folder of a disk.
-ghost use Rattle.std.specs.Prelude.{◌≡◌, ◌≢◌, ◌<◌, ◌≤◌, IfOk, length, map, string_bytes};
+ghost use Rattle.std.specs.Prelude.{◌≡◌, ◌≢◌, ◌<◌, ◌≤◌, map, string_bytes};
 ghost use Rattle.std.specs.IoError.{error_kind};
-ghost use Rattle.command.specs.CommandLine.{IsRefused, IsTaken};
-ghost use Rattle.paths.specs.Below.{path_below};
-ghost use Rattle.paths.specs.Paths.{parts_of};
+ghost use Rattle.command.specs.CommandLine.{IsLine, IsRefused, IsTaken};
 ghost use Rattle.ports.specs.Endings.{HasRoom};
-ghost use Rattle.outputs.specs.build_file.Concluding.{exit_status};
+ghost use Rattle.outputs.specs.build_file.Concluding.{Agrees, exit_status};
+ghost use Rattle.interp.specs.Evaluation.{IsSaid, MachineSaid};
+ghost use Rattle.world.specs.MakingSettings.{settings_of};
+ghost use Rattle.world.specs.Prelude.{Files as DeviceFiles, Holds};
+ghost use Rattle.meson.specs.Tasks.{run_by};
 
-use crate::asking::questions;
-use crate::ending::fault;
-use crate::running::setup;
-use command::{Line, LineFault, Task, command_line};
-use outputs::build_file::Status;
-use paths::path_below;
-use ports::{DiskOutputs, DiskTree, OutputPlace, Outputs};
+use meson::{
+    Inputs, Line, LineFault, Settings, SettingsFault, Status, Task, command_line, perform,
+};
+use ports::{DiskOutputs, DiskTree, OutputPlace, Outputs, Tree};
 use std::alloc::{AllocError, Global};
 use std::fs::File;
 use std::io::{ErrorKind, Read, Write};
 use std::rt::Files;
 use std::{fs, io};
-use world::Settings;
+use support::paths::path_below;
 
 // The exit status for words that are no command line.
 const BAD_LINE: u8 = 4;
@@ -45,11 +44,12 @@ pub fn run<R: Files<File = File> + AllocGlobal, L: Write + Drop, F: Write + Drop
 ) -> u8
     ensures known { result ≤ 4 }
     ensures taken { result < 3 → IsTaken (map string_bytes words.now) }
+    ensures fault { result ≡ 1 → IsLine (map string_bytes words.now) }
     ensures bad_line { result ≡ 4 → IsRefused (map string_bytes words.now) }
 {
     match command_line(rt.alloc(), words) {
         Ok(line) => {
-            let status = match perform(rt, line, root, &mut log, &mut faults) {
+            let status = match perform_line(rt, line, root, &mut log, &mut faults) {
                 Ok(status) => status,
                 Err(error) => status_of(&error),
             };
@@ -68,7 +68,7 @@ pub fn run<R: Files<File = File> + AllocGlobal, L: Write + Drop, F: Write + Drop
 }
 
 // Does what the line says. A folder that holds a `meson.build` is one of sources, and none to build in.
-fn perform<R: Files<File = File> + AllocGlobal, L: Write + Drop, F: Write + Drop>(
+fn perform_line<R: Files<File = File> + AllocGlobal, L: Write + Drop, F: Write + Drop>(
     rt: &R,
     line: Line,
     root: &str,
@@ -82,7 +82,11 @@ fn perform<R: Files<File = File> + AllocGlobal, L: Write + Drop, F: Write + Drop
     let machine = machine_bytes(rt, root, &line.machine_file)?;
     let place = place_below(rt.alloc(), root, line.folder.as_str())?;
     let mut out = DiskOutputs::new(rt, rt.alloc(), place, log, faults)?;
-    perform_over(rt, line, root, &machine, &mut out)
+    let given = Place {
+        root,
+        machine: &machine,
+    };
+    perform_on_disk(rt, line, &given, &mut out)
 }
 
 fn place_below(alloc: Global, root: &str, folder: &str) -> Result<OutputPlace, AllocError> {
@@ -92,29 +96,61 @@ fn place_below(alloc: Global, root: &str, folder: &str) -> Result<OutputPlace, A
     })
 }
 
-// Does what the line says over the sources in this folder, with these bytes of a machine file and these outputs.
-fn perform_over<'o, R: Files<File = File> + AllocGlobal, L: Write + Drop, F: Write + Drop>(
+// What a line is done over: the path of the folder of the sources, and the bytes of the machine file.
+#[derive(Clone, Copy)]
+struct Place<'a> {
+    root: &'a str,
+    machine: &'a [u8],
+}
+
+// Does what the line says over these devices.
+fn perform_over<T: Tree, O: Outputs>(
+    alloc: Global,
+    line: Line,
+    place: &Place<'_>,
+    tree: &mut T,
+    out: &mut O,
+) -> Status
+    requires tree { HasRoom (T.seen tree.old).failures }
+    requires out { HasRoom (O.seen out.old).failures }
+
+    // Over a steady tree, status `Done` or `Fault` is that of the run that the line's task names, over this root, the line's folder and
+    // words, and these bytes of a machine file. With status `Device` or `Memory` the outputs took a beginning of it.
+    ensures run { (files : DeviceFiles) (said : MachineSaid) → Holds (T.seen tree.old) files → IsSaid place.now.machine.now said
+        → Agrees (run_by line.task files
+        (settings_of place.now.root.now (string_bytes line.folder) (map string_bytes line.words.items)) said)
+        result (O.seen out.old) (O.seen out.new) }
+{
+    let task = line.task;
+    let words = line.words;
+    match Settings::new(alloc, place.root, line.folder.as_str(), words) {
+        Ok(settings) => {
+            let inputs = Inputs {
+                settings: &settings,
+                machine: place.machine,
+            };
+            perform(alloc, task, tree, &inputs, out)
+        }
+        Err(SettingsFault::Memory) => Status::Memory,
+        Err(_) => Status::Device,
+    }
+}
+
+// Does what the line says over the sources in this folder. Only `setup` writes, so only it takes the lock of the build folder.
+fn perform_on_disk<'o, R: Files<File = File> + AllocGlobal, L: Write + Drop, F: Write + Drop>(
     rt: &R,
     line: Line,
-    root: &str,
-    machine: &[u8],
+    place: &Place<'_>,
     out: &mut DiskOutputs<'o, R, L, F>,
 ) -> io::Result<Status>
     requires { HasRoom (⟦<DiskOutputs<'o, R, L, F> as Outputs>⟧.seen out.old).failures }
 {
-    let task = line.task;
-    let settings = settings_of(rt.alloc(), line, root)?;
     let current = String::from_str(rt.alloc(), CURRENT_FOLDER)?;
     let mut tree = DiskTree::new(rt, rt.alloc(), current);
-    let status = match task {
-        Task::Setup => {
-            out.claim()?;
-            setup(rt.alloc(), &mut tree, &settings, machine, out)
-        }
-        Task::Questions => questions(rt.alloc(), &mut tree, &settings, machine, out),
-        Task::Fault => fault(rt.alloc(), &mut tree, &settings, machine, out),
-    };
-    Ok(status)
+    if matches!(line.task, Task::Setup) {
+        out.claim()?;
+    }
+    Ok(perform_over(rt.alloc(), line, place, &mut tree, out))
 }
 
 // Whether there is a `meson.build` in the folder below this root.
@@ -134,23 +170,6 @@ fn tell_of_sources<F: Write>(folder: &str, faults: &mut F) -> io::Result<()> {
     faults.write_all(b"meson: ")?;
     faults.write_all(folder.as_bytes())?;
     faults.write_all(b" holds a meson.build: it is a folder of sources\n")
-}
-
-// What the line says of a run over the sources in this folder.
-fn settings_of(alloc: Global, line: Line, root: &str) -> Result<Settings, AllocError>
-    ensures words { IfOk result (λ s. map string_bytes s.words.items ≡ map string_bytes line.words.items) }
-    ensures root { IfOk result (λ s. string_bytes s.source_root ≡ root.now) }
-    ensures build { IfOk result (λ s. string_bytes s.build_root ≡ path_below root.now (string_bytes line.folder)) }
-    ensures depth { IfOk result (λ s. s.depth ≡ length (parts_of (string_bytes line.folder))) }
-{
-    let depth = line.depth();
-    let build_root = path_below(alloc, root, line.folder.as_str())?;
-    Ok(Settings {
-        source_root: String::from_str(alloc, root)?,
-        build_root,
-        depth,
-        words: line.words,
-    })
 }
 
 // The bytes of the machine file; none where none is named.

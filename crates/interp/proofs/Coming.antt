@@ -1,9 +1,9 @@
 -- Calls inside of an expression one after another, against their plans.
 use Rattle.std.proofs.Common.{◌≡◌, ℕ, zero, suc, ◌+◌, List, [], ◌∷◌, ◌++◌, add-one, string_bytes, Result, Ok, Err, IsErrAnd}
 use Rattle.std.proofs.Common.{refl, sym, ap, subst, ◌∙◌}
-use Rattle.basics.specs.Faults.{FaultData}
-use Rattle.basics.specs.declared.faults.refusal.Refusal.{Refusal}
-use Rattle.basics.specs.declared.faults.refusal.Refusal.TheVariants as refusals
+use Rattle.support.specs.Faults.{FaultData}
+use Rattle.support.specs.declared.faults.refusal.Refusal.{Refusal}
+use Rattle.support.specs.declared.faults.refusal.Refusal.TheVariants as refusals
 use Rattle.ports.specs.Outputs.{OutputState}
 use Rattle.ports.specs.Tree.{TreeState}
 use Rattle.world.specs.Deed.{Files}

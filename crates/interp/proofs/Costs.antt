@@ -6,26 +6,26 @@ use Rattle.std.specs.List.{list_any}
 use Rattle.std.specs.Str.{is_utf8}
 use Rattle.std.proofs.lemmas.Bool.Decides.{nat_tests}
 use Rattle.std.proofs.Math.Nat.{suc-mul, mul-le-mul_right}
-use Rattle.lexer.specs.declared.fault.SyntaxFault.{SyntaxFault}
-use Rattle.grammar.specs.declared.tree.Literal.{Literal}
-use Rattle.grammar.specs.declared.tree.Literal.TheVariants as literals
-use Rattle.grammar.specs.ExpressionTree.{ExpressionTree, NameTree, LiteralTree, ListTree, DictionaryTree, FunctionTree, PostfixTree}
-use Rattle.grammar.specs.ExpressionTree.{PrefixTree, ChainTree, TernaryTree, ExpressionTrees, NoExpression, MoreExpressions, EntryTrees}
-use Rattle.grammar.specs.ExpressionTree.{NoEntry, MoreEntries, ArgumentTrees, NoArgument, MoreArguments, LinkTree, MethodTree, IndexTree}
-use Rattle.grammar.specs.ExpressionTree.{LinkTrees, NoLink, MoreLinks, OperandTrees, NoOperand, MoreOperands}
-use Rattle.grammar.specs.Parsed.{parsed}
-use Rattle.grammar.specs.Tree.{StatementTree, AssignTree, AppendTree, ValueTree, BreakTree, ContinueTree, IfTree, ForeachTree, Statements}
-use Rattle.grammar.specs.Tree.{NoStatement, MoreStatements, Branches, NoBranch, MoreBranches, FileTree}
-use Rattle.data.specs.declared.object.Object.{Object}
-use Rattle.data.specs.declared.refusal.Refusal.{Refusal as OperationRefusal}
-use Rattle.data.specs.Data.{Data, boolean, integer, text, list, dictionary, object, Items, no_items, item, items_append, boolean_in}
-use Rattle.data.specs.Data.{object_in, is_disabler}
-use Rattle.data.specs.Limits.{within}
+use Rattle.syntax.specs.declared.lexer.fault.SyntaxFault.{SyntaxFault}
+use Rattle.syntax.specs.declared.tree.Literal.{Literal}
+use Rattle.syntax.specs.declared.tree.Literal.TheVariants as literals
+use Rattle.syntax.specs.ExpressionTree.{ExpressionTree, NameTree, LiteralTree, ListTree, DictionaryTree, FunctionTree, PostfixTree}
+use Rattle.syntax.specs.ExpressionTree.{PrefixTree, ChainTree, TernaryTree, ExpressionTrees, NoExpression, MoreExpressions, EntryTrees}
+use Rattle.syntax.specs.ExpressionTree.{NoEntry, MoreEntries, ArgumentTrees, NoArgument, MoreArguments, LinkTree, MethodTree, IndexTree}
+use Rattle.syntax.specs.ExpressionTree.{LinkTrees, NoLink, MoreLinks, OperandTrees, NoOperand, MoreOperands}
+use Rattle.syntax.specs.Parsed.{parsed}
+use Rattle.syntax.specs.Tree.{StatementTree, AssignTree, AppendTree, ValueTree, BreakTree, ContinueTree, IfTree, ForeachTree, Statements}
+use Rattle.syntax.specs.Tree.{NoStatement, MoreStatements, Branches, NoBranch, MoreBranches, FileTree}
+use Rattle.values.specs.declared.object.Object.{Object}
+use Rattle.values.specs.declared.refusal.Refusal.{Refusal as OperationRefusal}
+use Rattle.values.specs.Data.{Data, boolean, integer, text, list, dictionary, object, Items, no_items, item, items_append, boolean_in}
+use Rattle.values.specs.Data.{object_in, is_disabler}
+use Rattle.values.specs.Limits.{within}
 use Rattle.arguments.specs.Refused.{RefusedData}
 use Rattle.arguments.specs.Rules.{broken}
 use Rattle.arguments.specs.declared.rule.Rule.TheVariants as call_rules
-use Rattle.basics.specs.declared.faults.refusal.Refusal.{Refusal}
-use Rattle.basics.specs.declared.faults.refusal.Refusal.TheVariants as refusals
+use Rattle.support.specs.declared.faults.refusal.Refusal.{Refusal}
+use Rattle.support.specs.declared.faults.refusal.Refusal.TheVariants as refusals
 use Rattle.operations.specs.declared.operators.operator.Binary.TheVariants.{Add}
 use Rattle.operations.specs.operators.Operations.{binary_answer}
 use Rattle.operations.specs.operators.Logic.{left_answer, right_answer}
@@ -35,14 +35,14 @@ use Rattle.operations.specs.declared.operators.literal.LiteralRefusal.{LiteralRe
 use Rattle.operations.specs.declared.operators.literal.LiteralRefusal.TheVariants as literal_refusals
 use Rattle.operations.specs.methods.Methods.{answer as method_answer, has_name}
 use Rattle.objects.specs.Methods.{has_method as has_object_method}
-use Rattle.data.specs.texts.Segments.{Segment, text as between, place}
+use Rattle.values.specs.texts.Segments.{Segment, text as between, place}
 use Rattle.arguments.specs.Arguments.{ArgumentsData, no_arguments, with_argument}
 use Rattle.arguments.specs.Disablers.{gives_disabler}
 use Rattle.calls.specs.language_calls.Turning.{is_turned_off}
-use Rattle.data.specs.language_names.Functions.{function_named}
-use Rattle.data.specs.language_names.Names.{is_left_out, is_predefined}
-use Rattle.paths.specs.Paths.{folder_below}
-use Rattle.data.specs.declared.language_names.functions.Function.{Function}
+use Rattle.values.specs.language_names.Functions.{function_named}
+use Rattle.values.specs.language_names.Names.{is_left_out, is_predefined}
+use Rattle.support.specs.paths.Paths.{folder_below}
+use Rattle.values.specs.declared.language_names.functions.Function.{Function}
 use Rattle.ports.specs.Tree.{file_at}
 use Rattle.world.specs.World.{World, Facts, looking, entering, with_facts, with_place}
 use Rattle.world.specs.Run.{Run, ran, follow, after, Done, Faulted, marks_of}

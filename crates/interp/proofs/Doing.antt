@@ -5,7 +5,7 @@ use Rattle.code.specs.Statements.{statement_at}
 use Rattle.code.specs.declared.code.Code.{Code}
 use Rattle.code.specs.declared.node.StatementNode.{StatementNode}
 use Rattle.code.specs.declared.node.StatementNode.TheVariants as flat
-use Rattle.grammar.specs.Tree.{statements, StatementTree}
+use Rattle.syntax.specs.Tree.{statements, StatementTree}
 use Rattle.world.specs.Deed.{Files}
 use Rattle.world.specs.Plan.{Plan, give, next, ruled}
 use Rattle.world.specs.declared.stop.Stop.{Stop}

@@ -2,13 +2,13 @@
 use Rattle.std.proofs.Common.{◌≡◌, false, [], ◌∷◌, Some, None, codes, refl}
 use Rattle.std.specs.Str.{chars, is_utf8}
 use lib.Utf8.{encode}
-use Rattle.lexer.specs.Lexing.{format_at, lex, lexed, number_at, string_at, symbol_at, token_at, word_at}
-use Rattle.grammar.specs.ExpressionTree.{LiteralTree, ListTree, NameTree, NoExpression, MoreExpressions}
-use Rattle.grammar.specs.Parsed.{parsed}
-use Rattle.grammar.specs.Tree.{AssignTree, BreakTree, ForeachTree, ValueTree, Statements, NoStatement, MoreStatements}
-use Rattle.grammar.specs.declared.tree.Literal.TheVariants as literals
-use Rattle.basics.specs.declared.faults.refusal.Refusal.TheVariants as refusals
-use Rattle.data.specs.Data.{boolean}
+use Rattle.syntax.specs.lexer.Lexing.{format_at, lex, lexed, number_at, string_at, symbol_at, token_at, word_at}
+use Rattle.syntax.specs.ExpressionTree.{LiteralTree, ListTree, NameTree, NoExpression, MoreExpressions}
+use Rattle.syntax.specs.Parsed.{parsed}
+use Rattle.syntax.specs.Tree.{AssignTree, BreakTree, ForeachTree, ValueTree, Statements, NoStatement, MoreStatements}
+use Rattle.syntax.specs.declared.tree.Literal.TheVariants as literals
+use Rattle.support.specs.declared.faults.refusal.Refusal.TheVariants as refusals
+use Rattle.values.specs.Data.{boolean}
 use Rattle.world.specs.DefinitionFiles.{refuse_line, spelled, spelled_by, tree_or_fault}
 use Rattle.world.specs.Deed.{Files, need}
 use Rattle.world.specs.Plan.{◌>>=◌, carry, give}

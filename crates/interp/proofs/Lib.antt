@@ -1,3 +1,4 @@
+mod AsEvaluated
 pub mod Blocks
 mod Closing
 pub mod Coming

@@ -3,8 +3,8 @@ use Rattle.std.proofs.Common.{◌≡◌, ℕ, ◌≤◌, Bool, true, false, List
 use Rattle.std.proofs.Common.{ap, ◌∙◌, arith}
 use Rattle.std.specs.Prelude.{nat_le}
 use Rattle.std.proofs.lemmas.Bool.Decides.{nat_tests}
-use Rattle.data.specs.Data.{Data}
-use Rattle.basics.specs.declared.faults.refusal.Refusal.{Refusal}
+use Rattle.values.specs.Data.{Data}
+use Rattle.support.specs.declared.faults.refusal.Refusal.{Refusal}
 use Rattle.world.specs.Plan.{Plan, refuse}
 use Rattle.expressions.specs.Rounds.{HasFewRounds, Loops, rounds_in, Round, looped}
 use Rattle.interp.specs.Statements.{rounds_of, walked, walked_by}

@@ -1,8 +1,8 @@
 -- Folders that are entered.
 use Rattle.expressions.proofs.Evaluating.{leads_further, leads_next}
 use Rattle.std.proofs.Common.{◌≡◌, Bool, ℕ, zero, suc, List, [], Result, Ok, Err, refl, subst}
-use Rattle.basics.specs.declared.faults.refusal.Refusal.{Refusal}
-use Rattle.basics.specs.declared.faults.refusal.Refusal.TheVariants as refusals
+use Rattle.support.specs.declared.faults.refusal.Refusal.{Refusal}
+use Rattle.support.specs.declared.faults.refusal.Refusal.TheVariants as refusals
 use Rattle.world.specs.Answering.{Refuses}
 use Rattle.world.specs.Deed.{Files, refuse, read}
 use Rattle.world.specs.Gives.{Holds}

@@ -3,7 +3,7 @@ use Rattle.std.proofs.Common.{◌≡◌, ℕ, suc, ◌+◌, ◌<◌, ◌≤◌, 
 use Rattle.std.proofs.Common.{subst, ◌∙◌, arith}
 use Rattle.std.specs.Prelude.{nat_lt, ◌&&◌}
 use Rattle.std.specs.List.{list_all}
-use Rattle.grammar.specs.ExpressionTree.{ExpressionTree}
+use Rattle.syntax.specs.ExpressionTree.{ExpressionTree}
 use Rattle.code.specs.declared.node.Node.{Node}
 use Rattle.code.specs.declared.node.EntryNode.{EntryNode}
 use Rattle.code.specs.declared.node.ArgumentNode.{ArgumentNode}

@@ -17,8 +17,8 @@ use Rattle.code.specs.declared.node.StatementNode.{StatementNode}
 use Rattle.code.specs.declared.node.StatementNode.TheVariants as flat
 use Rattle.code.proofs.CallerLemmas.{node_opens, statement_opens, statement_parts_before}
 use Rattle.code.proofs.Trees.{at_front, both_true, is_less, less}
-use Rattle.grammar.specs.ExpressionTree.{ExpressionTree, FunctionTree, arguments}
-use Rattle.grammar.specs.Tree.{StatementTree, Statements, MoreBranches, branches, statements}
+use Rattle.syntax.specs.ExpressionTree.{ExpressionTree, FunctionTree, arguments}
+use Rattle.syntax.specs.Tree.{StatementTree, Statements, MoreBranches, branches, statements}
 use Rattle.world.specs.Deed.{Files}
 use Rattle.world.specs.Plan.{Plan, give, next, ruled}
 use Rattle.world.specs.declared.stop.Stop.{Stop}

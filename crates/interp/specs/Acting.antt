@@ -1,12 +1,12 @@
 -- What a call does that is a statement, up to the folder that it enters.
 use Rattle.std.specs.Prelude.{ℕ, Bool, true, false, List, string_bytes}
-use Rattle.grammar.specs.ExpressionTree.{ArgumentTrees}
+use Rattle.syntax.specs.ExpressionTree.{ArgumentTrees}
 use Rattle.arguments.specs.Arguments.{ArgumentsData, no_arguments}
 use Rattle.arguments.specs.Disablers.{gives_disabler}
 use Rattle.arguments.specs.Misfits.{checked}
 use Rattle.interp.specs.Functions.{row_of}
-use Rattle.data.specs.declared.language_names.functions.Function.{Function}
-use Rattle.data.specs.declared.language_names.functions.Function.TheVariants as functions
+use Rattle.values.specs.declared.language_names.functions.Function.{Function}
+use Rattle.values.specs.declared.language_names.functions.Function.TheVariants as functions
 use Rattle.world.specs.Plan.{Plan, ◌>>=◌, give}
 use Rattle.interp.specs.declared.acting.Action.{Action}
 use Rattle.interp.specs.declared.acting.Action.TheVariants.{Call, Enter, Leave}

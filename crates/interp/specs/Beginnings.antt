@@ -1,9 +1,9 @@
 -- How an evaluation begins.
 use Rattle.std.specs.Prelude.{◌≡◌, ℕ, Bool, true, false, List, [], Option, Some, None, Result, Ok, Err}
-use Rattle.grammar.specs.Tree.{StatementTree, AssignTree, AppendTree, ValueTree, BreakTree, ContinueTree, IfTree, ForeachTree, Statements}
-use Rattle.grammar.specs.Tree.{NoStatement, MoreStatements}
-use Rattle.basics.specs.View.{fault_view}
-use Rattle.basics.specs.declared.faults.refusal.Refusal.TheVariants as refusals
+use Rattle.syntax.specs.Tree.{StatementTree, AssignTree, AppendTree, ValueTree, BreakTree, ContinueTree, IfTree, ForeachTree, Statements}
+use Rattle.syntax.specs.Tree.{NoStatement, MoreStatements}
+use Rattle.support.specs.View.{fault_view}
+use Rattle.support.specs.declared.faults.refusal.Refusal.TheVariants as refusals
 use Rattle.machine.specs.machine_file.Fault.{told}
 use Rattle.machine.specs.machine_file.Files.{Section}
 use Rattle.ports.specs.Outputs.{OutputState}

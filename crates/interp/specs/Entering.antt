@@ -1,14 +1,14 @@
 -- What a call of `subdir` does, up to the folder that it enters.
 use Rattle.std.specs.Prelude.{ℕ, Bool, true, false, List, Option, Some, None, codes}
-use Rattle.data.specs.Data.{Data}
+use Rattle.values.specs.Data.{Data}
 use Rattle.arguments.specs.Arguments.{ArgumentsData}
 use Rattle.arguments.specs.Dependencies.{are_found}
 use Rattle.arguments.specs.Disablers.{gives_disabler}
 use Rattle.arguments.specs.Given.{keyword, text_at}
 use Rattle.arguments.specs.Misfits.{checked}
 use Rattle.interp.specs.Functions.{row_of}
-use Rattle.data.specs.declared.language_names.functions.Function.{Function}
-use Rattle.data.specs.declared.language_names.functions.Function.TheVariants as functions
+use Rattle.values.specs.declared.language_names.functions.Function.{Function}
+use Rattle.values.specs.declared.language_names.functions.Function.TheVariants as functions
 use Rattle.world.specs.Plan.{Plan, ◌>>=◌, give, at}
 use Rattle.interp.specs.declared.acting.Action.{Action}
 use Rattle.interp.specs.declared.acting.Action.TheVariants.{Call, Enter, Leave}

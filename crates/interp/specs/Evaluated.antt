@@ -2,7 +2,7 @@
 use Rattle.std.specs.Prelude.{◌≡◌, ℕ, ◌+◌, ◌≤◌, List, ◌++◌, length, true, Result, Ok, Err}
 use Rattle.ports.specs.Outputs.{OutputState, Sends}
 use Rattle.ports.specs.Tree.{TreeState}
-use Rattle.basics.specs.View.{fault_view}
+use Rattle.support.specs.View.{fault_view}
 use Rattle.world.specs.Counts.{TicksAll, below, counts_from}
 use Rattle.world.specs.Gives.{Ends, Faults, failures_after}
 use Rattle.world.specs.Run.{Run, Done, Faulted, marks_of, world_after}

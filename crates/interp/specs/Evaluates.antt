@@ -3,7 +3,7 @@ use Rattle.std.specs.Prelude.{◌≡◌, ℕ, ◌+◌, ◌≤◌, List, length, 
 use Rattle.code.specs.Draft.{IsFront}
 use Rattle.code.specs.Nodes.{trees}
 use Rattle.code.specs.declared.code.Code.{Code}
-use Rattle.grammar.specs.ExpressionTree.{ExpressionTree}
+use Rattle.syntax.specs.ExpressionTree.{ExpressionTree}
 use Rattle.ports.specs.Outputs.{OutputState}
 use Rattle.ports.specs.Tree.{TreeState}
 use Rattle.world.specs.Deed.{Files}

@@ -1,9 +1,9 @@
 -- A whole evaluation, from the root file on.
 use Rattle.std.specs.Prelude.{ℕ, Bool, true, false, List, [], codes, bytes_eq, Ok, Err}
-use Rattle.grammar.specs.ExpressionTree.{ExpressionTree, FunctionTree}
-use Rattle.grammar.specs.Tree.{StatementTree, AssignTree, AppendTree, ValueTree, BreakTree, ContinueTree, IfTree, ForeachTree, Statements}
-use Rattle.grammar.specs.Tree.{NoStatement, MoreStatements}
-use Rattle.basics.specs.declared.faults.refusal.Refusal.TheVariants as refusals
+use Rattle.syntax.specs.ExpressionTree.{ExpressionTree, FunctionTree}
+use Rattle.syntax.specs.Tree.{StatementTree, AssignTree, AppendTree, ValueTree, BreakTree, ContinueTree, IfTree, ForeachTree, Statements}
+use Rattle.syntax.specs.Tree.{NoStatement, MoreStatements}
+use Rattle.support.specs.declared.faults.refusal.Refusal.TheVariants as refusals
 use Rattle.world.specs.Details.{refuse_about}
 pub use Rattle.machine.specs.machine_file.Answers.{IsSaid, MachineSaid}
 use Rattle.machine.specs.machine_file.Files.{Section}

@@ -1,6 +1,6 @@
 -- Folders, and the files that they are entered by.
 use Rattle.std.specs.Prelude.{ℕ, Bool, zero, suc, List, []}
-use Rattle.basics.specs.declared.faults.refusal.Refusal.TheVariants as refusals
+use Rattle.support.specs.declared.faults.refusal.Refusal.TheVariants as refusals
 use Rattle.world.specs.Deed.{refuse, read}
 use Rattle.world.specs.Plan.{Plan, deed, ruled, ◌>>=◌, give}
 use Rattle.expressions.specs.Folders.{fresh, go_back, opened}

@@ -5,10 +5,10 @@ use Rattle.code.specs.Draft.{IsFront}
 use Rattle.code.specs.Statements.{branch_at, name_at, statement_at}
 use Rattle.code.specs.declared.code.Code.{Code}
 use Rattle.code.specs.declared.node.BranchNode.{BranchNode}
-use Rattle.data.specs.View.{data_of}
-use Rattle.basics.specs.declared.faults.refusal.Refusal.TheVariants as refusals
-use Rattle.grammar.specs.Tree.{StatementTree, Statements, Branches, NoBranch, MoreBranches, branches}
-use Rattle.grammar.specs.ExpressionTree.{ExpressionTree}
+use Rattle.values.specs.View.{data_of}
+use Rattle.support.specs.declared.faults.refusal.Refusal.TheVariants as refusals
+use Rattle.syntax.specs.Tree.{StatementTree, Statements, Branches, NoBranch, MoreBranches, branches}
+use Rattle.syntax.specs.ExpressionTree.{ExpressionTree}
 use Rattle.ports.specs.Outputs.{OutputState}
 use Rattle.ports.specs.Tree.{TreeState}
 use Rattle.world.specs.Deed.{Files, change}

@@ -1,9 +1,9 @@
 -- The functions of the page "Reference manual", on evaluated arguments.
 use Rattle.std.specs.Prelude.{Bool, false, not, ◌&&◌, Option, None, codes, if◌then◌else◌, [], ◌∷◌}
-use Rattle.data.specs.Data.{Data}
+use Rattle.values.specs.Data.{Data}
 use Rattle.arguments.specs.Arguments.{ArgumentsData}
 use Rattle.arguments.specs.Disablers.{gives_disabler}
-use Rattle.basics.specs.declared.faults.refusal.Refusal.TheVariants as refusals
+use Rattle.support.specs.declared.faults.refusal.Refusal.TheVariants as refusals
 use Rattle.arguments.specs.declared.row.Kind.TheVariants.{Any, Boolean, Integer, Text}
 use Rattle.arguments.specs.Row.{RowData}
 use Rattle.arguments.specs.Rows.{any_values, some_texts, values}
@@ -20,8 +20,8 @@ use Rattle.calls.specs.language_calls.Range.{range}
 use Rattle.calls.specs.project_calls.Rows.{project_row}
 use Rattle.calls.specs.language_calls.Rows.{subdir_row}
 use Rattle.calls.specs.language_calls.Variables.{set_variable, get_variable, is_variable, unset_variable}
-use Rattle.data.specs.declared.language_names.functions.Function.{Function}
-use Rattle.data.specs.declared.language_names.functions.Function.TheVariants as functions
+use Rattle.values.specs.declared.language_names.functions.Function.{Function}
+use Rattle.values.specs.declared.language_names.functions.Function.TheVariants as functions
 use Rattle.calls.specs.language_calls.Turning.{makes_file}
 
 -- what a function takes

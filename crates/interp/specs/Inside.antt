@@ -1,6 +1,6 @@
 -- Folders that are entered inside of an expression.
 use Rattle.std.specs.Prelude.{◌≡◌, ℕ, zero, suc, ◌+◌, [], Result, Ok, Err, string_bytes}
-use Rattle.basics.specs.declared.faults.refusal.Refusal.TheVariants as refusals
+use Rattle.support.specs.declared.faults.refusal.Refusal.TheVariants as refusals
 use Rattle.world.specs.Gives.{failures_after, is_ended}
 use Rattle.world.specs.Plan.{Plan, ruled, ◌>>=◌, refuse}
 use Rattle.world.specs.declared.stop.Stop.TheVariants as stops

@@ -1,14 +1,20 @@
 -- What holds of every evaluation.
-use Rattle.std.specs.Prelude.{◌≡◌, ℕ, ◌≤◌, List, Ok, Err}
-use Rattle.world.specs.Deed.{Files}
+use Rattle.std.specs.Prelude.{◌≡◌, ℕ, ◌≤◌, IsTrue, List, Option, None, Some, Ok, Err}
+use Rattle.arguments.specs.Arguments.{ArgumentsData}
+use Rattle.expressions.specs.Forms.{function_inside}
+use Rattle.values.specs.Data.{Data}
+use Rattle.world.specs.Deed.{Files, perform}
 use Rattle.world.specs.Look.{Agree, AgreeOn, ran_over}
 use Rattle.world.specs.Made.{ClosesOutputs}
 use Rattle.world.specs.Noted.{NotesLooks, PresentAreFiles}
+use Rattle.world.specs.Plan.{Plan, ◌>>=◌, carry, give}
 use Rattle.world.specs.Run.{marks_of, world_after}
 use Rattle.world.specs.Settings.{SettingsData}
 use Rattle.world.specs.Trace.{ends_of}
-use Rattle.world.specs.World.{Asked}
+use Rattle.world.specs.World.{Asked, World}
+use Rattle.interp.specs.ByName.{call_by_name}
 use Rattle.interp.specs.Cost.{tree_cost}
+use Rattle.interp.specs.Expressions.{called, method_of}
 use Rattle.interp.specs.Evaluation.{IsSaid, MachineSaid, evaluated, evaluated_few, sections_of}
 
 -- two machine files agree on these questions: both have sections, which answer them the same, or both have the same fault
@@ -47,3 +53,14 @@ StepsWithinCost = (files : Files) (settings : SettingsData) (said : MachineSaid)
 pub record MachineFilesSay : Type 0 where
   pub something : (bytes : List ℕ) → (said : MachineSaid) × IsSaid bytes said
   pub once : (bytes : List ℕ) (said other : MachineSaid) → IsSaid bytes said → IsSaid bytes other → said ≡ other
+
+-- what evaluation does of a call at a line, inside of an expression, whose arguments have these values
+abbrev pub evaluated_call : ℕ → Option Data → List ℕ → ArgumentsData → Plan (Option Data)
+evaluated_call line None name a = function_inside line name >>= λ f. called line f a
+evaluated_call line (Some d) name a = method_of line d name (give a)
+
+-- A call by a name, where `project` was called, is what evaluation does of that call at the present line: in outcome, in the world after it
+-- and in the marks.
+abbrev pub CallsAsEvaluated : Type 0
+CallsAsEvaluated = (files : Files) (w : World) (receiver : Option Data) (name : List ℕ) (a : ArgumentsData) → IsTrue w.facts.is_begun
+    → perform files (call_by_name receiver name a) w ≡ carry files (evaluated_call w.facts.line receiver name a) w

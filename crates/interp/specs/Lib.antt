@@ -2,6 +2,7 @@ pub mod Acting
 pub mod Beginnings
 pub mod Blocks
 pub mod Bounds
+pub mod ByName
 pub mod Cost
 pub mod Entering
 pub mod Evaluated

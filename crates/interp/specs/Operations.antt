@@ -1,7 +1,7 @@
 -- An operator of a chain, once its left side has a value.
 use Rattle.std.specs.Prelude.{Option, Some, None}
-use Rattle.data.specs.Data.{Data}
-use Rattle.data.specs.View.{data_of}
+use Rattle.values.specs.Data.{Data}
+use Rattle.values.specs.View.{data_of}
 use Rattle.operations.specs.declared.operators.logic.Left.{Left}
 use Rattle.operations.specs.declared.operators.logic.Left.TheVariants.{Decides, Open}
 

@@ -1,6 +1,6 @@
 -- The functions of the page "Reference manual" that say something of the project.
 use Rattle.std.specs.Prelude.{Option}
-use Rattle.data.specs.Data.{Data}
+use Rattle.values.specs.Data.{Data}
 use Rattle.arguments.specs.Arguments.{ArgumentsData}
 use Rattle.arguments.specs.Row.{RowData}
 use Rattle.objects.specs.configuration_calls.ConfigurationData.{configuration_data}
@@ -22,10 +22,10 @@ use Rattle.target_calls.specs.ProjectWords.{add_project_arguments, add_project_l
 use Rattle.target_calls.specs.Rows.{custom_target_row, files_row, include_directories_row, project_words_row, shared_library_row}
 use Rattle.target_calls.specs.Rows.{target_row}
 use Rattle.target_calls.specs.Targets.{declare, library}
-use Rattle.targets.specs.declared.target.Kind.TheVariants as kinds
+use Rattle.build.specs.declared.target.Kind.TheVariants as kinds
 use Rattle.world.specs.Deed.{Deed}
-use Rattle.data.specs.declared.language_names.functions.ProjectFunction.{ProjectFunction}
-use Rattle.data.specs.declared.language_names.functions.ProjectFunction.TheVariants as functions
+use Rattle.values.specs.declared.language_names.functions.ProjectFunction.{ProjectFunction}
+use Rattle.values.specs.declared.language_names.functions.ProjectFunction.TheVariants as functions
 
 -- what a function takes
 abbrev pub project_function_row : ProjectFunction → RowData

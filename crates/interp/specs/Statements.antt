@@ -1,11 +1,11 @@
 -- What statements do: one paragraph for each form of node.
 use Rattle.std.specs.Prelude.{ℕ, Bool, true, false, List, [], ◌∷◌, length, nat_le, Result, Ok, Err}
-use Rattle.grammar.specs.ExpressionTree.{ExpressionTree, FunctionTree}
-use Rattle.grammar.specs.Tree.{StatementTree, AssignTree, AppendTree, ValueTree, BreakTree, ContinueTree, IfTree, ForeachTree, Statements}
-use Rattle.grammar.specs.Tree.{NoStatement, MoreStatements, Branches, NoBranch, MoreBranches}
-use Rattle.data.specs.Data.{boolean_in, is_disabler}
-use Rattle.basics.specs.declared.faults.refusal.Refusal.{Refusal}
-use Rattle.basics.specs.declared.faults.refusal.Refusal.TheVariants as refusals
+use Rattle.syntax.specs.ExpressionTree.{ExpressionTree, FunctionTree}
+use Rattle.syntax.specs.Tree.{StatementTree, AssignTree, AppendTree, ValueTree, BreakTree, ContinueTree, IfTree, ForeachTree, Statements}
+use Rattle.syntax.specs.Tree.{NoStatement, MoreStatements, Branches, NoBranch, MoreBranches}
+use Rattle.values.specs.Data.{boolean_in, is_disabler}
+use Rattle.support.specs.declared.faults.refusal.Refusal.{Refusal}
+use Rattle.support.specs.declared.faults.refusal.Refusal.TheVariants as refusals
 use Rattle.world.specs.Plan.{Plan, ruled, ◌>>=◌, give, refuse}
 use Rattle.expressions.specs.Assignments.{appended, assigned, bound, own}
 use Rattle.expressions.specs.Conditions.{choice_of}

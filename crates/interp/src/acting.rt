@@ -1,7 +1,7 @@
 //! Calls that are statements.
 ghost use Rattle.std.specs.Prelude.{◌≡◌, ◌≤◌, ℕ, IfOk, length, map};
 ghost use Rattle.code.specs.Nodes.{argument_at};
-ghost use Rattle.grammar.specs.ExpressionTree.{arguments as argument_trees};
+ghost use Rattle.syntax.specs.ExpressionTree.{arguments as argument_trees};
 ghost use Rattle.world.specs.Prelude.{arguments_data, failures_after};
 ghost use Rattle.interp.specs.Acting.{acted, leaving, performed, way_view};
 ghost use Rattle.interp.specs.Entering.{action_of, entered_by, entering, is_wanted};
@@ -15,10 +15,10 @@ use crate::halt::Halt;
 use arguments::{Arguments, are_found, check, gives_disabler};
 use code::Code;
 use code::node::ArgumentNode;
-use data::language_names::{Function, FunctionName};
 use ports::{Outputs, Tree};
 use std::alloc::{AllocError, Global};
 use std::sync::ledger::Ledger;
+use values::language_names::{Function, FunctionName};
 use world::Stop;
 
 /// What a function does as a statement.

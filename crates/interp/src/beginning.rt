@@ -2,7 +2,7 @@
 ghost use Rattle.std.specs.Prelude.{◌≡◌, ◌<◌, ℕ, List, length};
 ghost use Rattle.code.specs.Nodes.{tree_of};
 ghost use Rattle.code.specs.Statements.{statement_at};
-ghost use Rattle.grammar.specs.ExpressionTree.{ExpressionTree};
+ghost use Rattle.syntax.specs.ExpressionTree.{ExpressionTree};
 ghost use Rattle.interp.specs.Beginnings.{line_before, other_line};
 ghost use Rattle.expressions.specs.Codes.{file_by, statements_by};
 ghost use Rattle.interp.specs.Evaluation.{is_project};

@@ -7,14 +7,14 @@ ghost use Rattle.interp.specs.Expressions.{called, called_by, method_at, method_
 use crate::evaluator::Evaluator;
 use crate::functions::call;
 use arguments::{Arguments, gives_disabler};
-use basics::faults::Refusal;
 use calls::language_calls::turning::is_turned_off;
-use data::language_names::{Function, MethodName};
-use data::{Object, Value};
 use expressions::{Context, disabler_method};
 use objects::{has_object_method, is_left_out_method, object_method};
 use ports::{Outputs, Tree};
 use std::sync::ledger::Ledger;
+use support::faults::Refusal;
+use values::language_names::{Function, MethodName};
+use values::{Object, Value};
 use world::{Caller, Stop};
 
 // A function on its arguments, at a line.

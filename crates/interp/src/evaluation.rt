@@ -15,7 +15,6 @@ use crate::beginning::line_before_project;
 use crate::evaluator::Evaluator;
 use crate::flow::Flow;
 use arguments::no_arguments;
-use basics::faults::Refusal;
 use code::Code;
 use expressions::Context;
 use machine::machine_file::Machine;
@@ -23,6 +22,7 @@ use ports::{Outputs, Tree};
 use std::alloc::Global;
 use std::rc::Rc;
 use std::sync::ledger::Ledger;
+use support::faults::Refusal;
 use world::{Settings, Steps, Stop, Store, end_rule, ends_keep_up};
 
 /// What an evaluation is given beside its devices.

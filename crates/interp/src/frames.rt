@@ -6,8 +6,8 @@ ghost use Rattle.world.specs.Prelude.{data_of};
 
 use crate::block::Block;
 use code::Code;
-use data::Value;
 use std::rc::Rc;
+use values::Value;
 use world::Place;
 
 /// The statements of a block from a place on.

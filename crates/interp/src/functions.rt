@@ -7,7 +7,6 @@ ghost use Rattle.interp.specs.Functions.{call, does, has_unwanted_disabler, row_
 
 use crate::project_functions::{project_function, project_function_row};
 use arguments::{Arguments, Kind, Row, any_values, gives_disabler, some_texts, values};
-use basics::faults::Refusal;
 use calls::language_calls::disablers::{disabler, is_disabler};
 use calls::language_calls::messages::{assert, error, message, warning};
 use calls::language_calls::path_joining::join_paths;
@@ -16,10 +15,11 @@ use calls::language_calls::rows::subdir_row;
 use calls::language_calls::turning::makes_file;
 use calls::language_calls::variables::{get_variable, is_variable, set_variable, unset_variable};
 use calls::project_calls::{project, project_row};
-use data::Value;
-use data::language_names::Function;
 use objects::configuration_calls::{has_meson_format, other_format_row};
 use ports::{Outputs, Tree};
+use support::faults::Refusal;
+use values::Value;
+use values::language_names::Function;
 use world::{Caller, Stop};
 
 /// What a function takes.

@@ -15,11 +15,11 @@ use crate::flow::Flow;
 use crate::frames::Frame;
 use crate::halt::{Halt, Inside};
 use arguments::{Arguments, gives_disabler};
-use basics::faults::Refusal;
-use data::language_names::Function;
-use data::{Object, Value};
 use ports::{Outputs, Tree};
 use std::sync::ledger::Ledger;
+use support::faults::Refusal;
+use values::language_names::Function;
+use values::{Object, Value};
 use world::Stop;
 
 impl<'a, T: Tree, O: Outputs, L: Ledger> Evaluator<'a, T, O, L> {

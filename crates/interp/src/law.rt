@@ -1,9 +1,10 @@
 //! What holds of every evaluation.
 ghost use Rattle.world.specs.Prelude.{data_of};
-ghost use Rattle.interp.specs.Laws.{ClosesWhatItMakes, DependsOnLooked, MachineFilesSay, NotesWhatItLooksAt, StepsWithinCost};
+ghost use Rattle.interp.specs.Laws.{CallsAsEvaluated, ClosesWhatItMakes, DependsOnLooked, MachineFilesSay};
+ghost use Rattle.interp.specs.Laws.{NotesWhatItLooksAt, StepsWithinCost};
 ghost use Rattle.expressions.specs.Rounds.{HasFewRounds};
 
-use data::{Value, values_have_few_items};
+use values::{Value, values_have_few_items};
 
 /// Of any two trees of files that agree on the paths looked at by the evaluation of the first, and two machine files that agree on the
 /// questions that it asks, both evaluations are equal, but for the machine file that stands in the last world.
@@ -37,4 +38,9 @@ pub fn steps_within_cost()
 /// Bytes are read as a machine file that says one thing, and no other: sections, or a fault.
 pub fn machine_files_say()
     ensures { MachineFilesSay }
+{}
+
+/// A call by a name, once `project` was called, is what evaluation does of that call at the present line, for arguments with these values.
+pub fn calls_as_evaluated()
+    ensures { CallsAsEvaluated }
 {}

@@ -20,6 +20,7 @@
 mod acting;
 mod beginning;
 mod block;
+mod by_name;
 mod calling;
 mod entering;
 mod evaluation;
@@ -40,9 +41,10 @@ mod touring;
 mod unwinding;
 mod walking;
 
+pub use by_name::{CallName, call, lookup};
 pub use evaluation::{Inputs, definitions, evaluate, read_machine};
 pub use evaluator::Evaluator;
 pub use law::{
-    closes_what_it_makes, depends_on_looked, loops_are_few, machine_files_say,
+    calls_as_evaluated, closes_what_it_makes, depends_on_looked, loops_are_few, machine_files_say,
     notes_what_it_looks_at, steps_within_cost,
 };

@@ -1,7 +1,7 @@
 //! Expressions: one function for each form of node.
 ghost use Rattle.std.specs.Prelude.{◌≡◌, ◌<◌, ◌≤◌, suc, max, Some, true, length, map, option_map};
-ghost use Rattle.grammar.specs.ExpressionTree.{ListTree, DictionaryTree, ChainTree, expressions, entries as entry_trees};
-ghost use Rattle.grammar.specs.ExpressionTree.{arguments as argument_trees, links as link_trees, operands as operand_trees};
+ghost use Rattle.syntax.specs.ExpressionTree.{ListTree, DictionaryTree, ChainTree, expressions, entries as entry_trees};
+ghost use Rattle.syntax.specs.ExpressionTree.{arguments as argument_trees, links as link_trees, operands as operand_trees};
 ghost use Rattle.code.specs.Nodes.{tree_at, entry_at, argument_at, operand_at, link_at};
 ghost use Rattle.arguments.specs.Arguments.{no_arguments};
 ghost use Rattle.world.specs.Prelude.{arguments_data, data_of};
@@ -14,12 +14,12 @@ use crate::halt::{Halt, end_rule_inside};
 use arguments::{Arguments, add_argument, no_arguments};
 use code::Code;
 use code::node::{ArgumentNode, CallNode, EntryNode, LinkNode, Node, OperandNode};
-use data::Value;
 use expressions::{Meaning, meaning_of};
 use operations::operators::{Left, right_side};
 use ports::{Outputs, Tree};
 use std::mem;
 use std::sync::ledger::Ledger;
+use values::Value;
 
 impl<'a, T: Tree, O: Outputs, L: Ledger> Evaluator<'a, T, O, L> {
     ghost use Rattle.interp.specs.Evaluates.{Evaluates, FailsInside};

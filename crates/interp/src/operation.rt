@@ -7,10 +7,10 @@ ghost use Rattle.world.specs.Plan.{answered};
 ghost use Rattle.interp.specs.Operations.{left_view};
 
 use crate::evaluator::Evaluator;
-use data::Value;
 use operations::operators::{Binary, Connective, Left, binary, left_side};
 use ports::{Outputs, Tree};
 use std::sync::ledger::Ledger;
+use values::Value;
 use world::{Stop, of_operation};
 
 impl<'a, T: Tree, O: Outputs, L: Ledger> Evaluator<'a, T, O, L> {

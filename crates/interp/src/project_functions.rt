@@ -5,9 +5,8 @@ ghost use Rattle.world.specs.Prelude.{Does, MayFail, arguments_data, data_of};
 ghost use Rattle.interp.specs.ProjectFunctions.{project_function, project_function_row};
 
 use arguments::{Arguments, Row};
+use build::Kind;
 use calls::project_calls::{get_option, get_option_row};
-use data::Value;
-use data::language_names::ProjectFunction;
 use objects::configuration_calls::{
     configuration_data, configuration_data_row, configure_file, configure_file_row,
 };
@@ -22,7 +21,8 @@ use target_calls::{
     files, files_row, include_directories, include_directories_row, library, project_words_row,
     shared_library_row, target_row,
 };
-use targets::Kind;
+use values::Value;
+use values::language_names::ProjectFunction;
 use world::{Caller, Stop};
 
 /// What a function takes.

@@ -16,12 +16,12 @@ use crate::laying::lay;
 use crate::touring::Tour;
 use crate::unwinding::unwind;
 use crate::walking::Walk;
-use basics::faults::Refusal;
 use code::Code;
 use ports::{Outputs, Tree};
 use std::mem::forget;
 use std::rc::Rc;
 use std::sync::ledger::Ledger;
+use support::faults::Refusal;
 use world::Stop;
 
 impl<'a, T: Tree, O: Outputs, L: Ledger> Evaluator<'a, T, O, L> {

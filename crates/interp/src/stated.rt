@@ -2,7 +2,7 @@
 ghost use Rattle.std.specs.Prelude.{Bool, ◌≡◌, ◌<◌, ◌≤◌, ℕ, IsTrue, List, length, map, nat_lt, option_map};
 ghost use Rattle.code.specs.Nodes.{tree_at};
 ghost use Rattle.code.specs.Statements.{branch_at, name_at, second_within, statement_at};
-ghost use Rattle.grammar.specs.Tree.{branches};
+ghost use Rattle.syntax.specs.Tree.{branches};
 ghost use Rattle.world.specs.Plan.{next, ruled};
 ghost use Rattle.interp.specs.Bounds.{bounds};
 ghost use Rattle.expressions.specs.Codes.{block_by, expressions_by, statements_by};

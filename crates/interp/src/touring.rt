@@ -11,10 +11,10 @@ use crate::flow::Flow;
 use crate::frames::LoopHead;
 use crate::walking::Walk;
 use code::Code;
-use data::Value;
 use expressions::{Round, round_at};
 use ports::{Outputs, Tree};
 use std::sync::ledger::Ledger;
+use values::Value;
 use world::{Stop, end_rule};
 
 /// How far the rounds of a loop were done.

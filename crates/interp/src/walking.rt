@@ -7,7 +7,7 @@ ghost use Rattle.world.specs.Prelude.{data_of};
 ghost use Rattle.world.specs.Plan.{give, next, ruled};
 ghost use Rattle.expressions.specs.Assignments.{appended, assigned, own};
 ghost use Rattle.expressions.specs.Codes.{block_by, expressions_by, statements_by};
-ghost use Rattle.grammar.specs.Tree.{branches};
+ghost use Rattle.syntax.specs.Tree.{branches};
 ghost use Rattle.interp.specs.Blocks.{BeginsDeep, DeepIfNone, branch_or, is_simple_at, node_at, statements_of};
 ghost use Rattle.interp.specs.Expressions.{given_by, value_of};
 ghost use Rattle.interp.specs.Folders.{folder};
@@ -23,9 +23,9 @@ use crate::flow::Flow;
 use crate::halt::{Halt, Inside, end_rule_inside};
 use code::Code;
 use code::node::{BranchNode, IfNode, Node, StatementNode};
-use data::Value;
 use ports::{Outputs, Tree};
 use std::sync::ledger::Ledger;
+use values::Value;
 use world::{Stop, end_rule};
 
 /// How far the statements of a block were done.

@@ -7,7 +7,7 @@ use Rattle.std.proofs.lemmas.List.{take_more, map-append, length-map}
 use Rattle.std.proofs.lemmas.List.Sums.{fold-append}
 use Rattle.std.specs.declared.alloc.Global.{Global}
 use Rattle.std.specs.String.{string_eq}
-use Rattle.basics.specs.Maps.{insert_entry}
+use Rattle.support.specs.Maps.{insert_entry}
 use Rattle.machine.specs.declared.option_values.kind.OptionKind.{OptionKind}
 use Rattle.machine.specs.declared.option_values.built_in.BuiltIn.{BuiltIn}
 use Rattle.machine.specs.option_values.BuiltIns as built

@@ -1,7 +1,7 @@
 -- The first line that may not stand where it does.
 use Rattle.std.proofs.Common.{◌≡◌, ℕ, suc, ◌+◌, List, [], ◌∷◌, ◌++◌, length, Result, Ok, Err, refl, sym, ap, ◌∙◌, subst, arith}
 use Rattle.std.specs.Result.{result_map_both}
-use Rattle.basics.specs.declared.faults.refusal.Refusal.TheVariants as refusals
+use Rattle.support.specs.declared.faults.refusal.Refusal.TheVariants as refusals
 use Rattle.machine.specs.machine_file.Fault.{MachineFaultData, bad_line}
 use Rattle.machine.specs.machine_file.Files.{Said, nothing_said, after, go_on, said_from, sections_said, machine_of}
 use Rattle.machine.specs.machine_file.Answers.{IsFirstBad, MachineSaid}

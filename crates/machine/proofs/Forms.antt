@@ -2,7 +2,7 @@
 use Rattle.std.proofs.Common.{◌≡◌, ◌≢◌, ℕ, Bool, false, List, [], ◌∷◌, length, get_or, refl, sym, ap, ◌∙◌, arith, if◌then◌else◌}
 use Rattle.std.proofs.lemmas.Bool.Decides.{nat_tests}
 use Rattle.std.specs.Prelude.{◌==◌}
-use Rattle.lexer.specs.Bytes.{hash, open_bracket, close_bracket}
+use Rattle.syntax.specs.lexer.Bytes.{hash, open_bracket, close_bracket}
 use Rattle.machine.specs.machine_file.Texts.{before_last_byte}
 use Rattle.machine.specs.machine_file.Lines.{Nothing, Pair, bracketed, form_of}
 

@@ -5,10 +5,10 @@ use Rattle.std.specs.declared.alloc.Global.{Global}
 use Rattle.std.specs.Option.{option_map}
 use Rattle.std.specs.Bool.{then_some}
 use Rattle.std.proofs.lemmas.List.{append-nil, map-append, take_all}
-use Rattle.lexer.specs.declared.token.Token.{Token}
-use Rattle.lexer.specs.declared.token.Kind.TheVariants as Kinds
-use Rattle.lexer.specs.Kinds.{is}
-use Rattle.lexer.specs.Lexeme.{Lexeme, lexeme_of, lexemes}
+use Rattle.syntax.specs.declared.lexer.token.Token.{Token}
+use Rattle.syntax.specs.declared.lexer.token.Kind.TheVariants as Kinds
+use Rattle.syntax.specs.lexer.Kinds.{is}
+use Rattle.syntax.specs.lexer.Lexeme.{Lexeme, lexeme_of, lexemes}
 use Rattle.machine.specs.machine_file.Values.{plain_text, with_item, closing, items_of}
 use Rattle.machine.specs.machine_file.View.{strings_in}
 

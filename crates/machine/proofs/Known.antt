@@ -7,8 +7,8 @@ use Rattle.std.specs.declared.alloc.Global.{Global}
 use Rattle.std.specs.String.{string_eq}
 use Rattle.std.proofs.lemmas.List.{map-append, take_more}
 use Rattle.std.proofs.lemmas.Slice.Eq.{bytes_eq-Decides}
-use Rattle.basics.specs.Sets.{insert_key}
-use Rattle.basics.specs.Among.{is_among}
+use Rattle.support.specs.Sets.{insert_key}
+use Rattle.support.specs.Among.{is_among}
 use Rattle.machine.specs.option_values.View.{strings_in}
 
 pub any_string : (text : List ℕ) (xs : List (String Global))

@@ -5,10 +5,10 @@ use Rattle.std.specs.Prelude.{◌&&◌, ◌==◌, codes}
 use Rattle.std.specs.List.{list_all, slice_split}
 use Rattle.std.specs.declared.alloc.Global.{Global}
 use Rattle.std.proofs.lemmas.List.{at_drop_more, map-append}
-use Rattle.lexer.specs.Bytes.{comma}
+use Rattle.syntax.specs.lexer.Bytes.{comma}
 use Rattle.machine.specs.option_values.Given.{quoted}
 use Rattle.machine.specs.option_values.Lists.{without_spaces, parts_of}
-use Rattle.basics.specs.Among.{is_among}
+use Rattle.support.specs.Among.{is_among}
 use Rattle.machine.specs.option_values.View.{strings_in}
 
 pub all_items : (choices : List (List ℕ)) (items : List (String Global))

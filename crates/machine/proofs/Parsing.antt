@@ -9,7 +9,7 @@ use Rattle.std.specs.Str.Parse.{ParsesSigned, digits_value}
 use Rattle.std.proofs.lemmas.Bool.{false≢true}
 use Rattle.std.proofs.lemmas.Bool.Decides.{nat_tests}
 use Rattle.std.proofs.lemmas.Str.Parse.{IsNumeralModel, numerals_by_value, tells_all_ascii_digits, parse_signed_minus, parse_signed_plain}
-use Rattle.lexer.specs.Bytes.{minus}
+use Rattle.syntax.specs.lexer.Bytes.{minus}
 use Rattle.machine.specs.machine_file.Numbers as machine
 use Rattle.machine.specs.option_values.Integers.{integer_of}
 

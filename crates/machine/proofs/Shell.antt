@@ -9,7 +9,7 @@ use Rattle.std.specs.List.{list_all}
 use Rattle.std.proofs.lemmas.Bool.{false≢true}
 use Rattle.std.proofs.lemmas.Bool.Decides.{nat_tests}
 use Rattle.std.proofs.lemmas.List.{append-nil}
-use Rattle.lexer.specs.Bytes.{backslash, quote}
+use Rattle.syntax.specs.lexer.Bytes.{backslash, quote}
 use Rattle.machine.specs.declared.option_values.words.Place.{Place}
 use Rattle.machine.specs.declared.option_values.words.Place.TheVariants as place
 use Rattle.machine.specs.option_values.Words.{Cut, double_quote, parts_words, is_escapable, bare, cut_from, ended}

@@ -4,9 +4,9 @@ use Rattle.std.proofs.lemmas.List.{drop_more, drop_all}
 use Rattle.std.proofs.lemmas.Option.{slice_get_within, get_or_from_slice_get}
 use Rattle.arguments.specs.Said.{◌>>=◌, found}
 use Rattle.arguments.specs.declared.rule.Rule.TheVariants as rules
-use Rattle.data.specs.Data.{text_in, Items, no_items}
-use Rattle.data.specs.View.{data_of, items_of}
-use Rattle.data.specs.declared.value.Value.{Value}
+use Rattle.values.specs.Data.{text_in, Items, no_items}
+use Rattle.values.specs.View.{data_of, items_of}
+use Rattle.values.specs.declared.value.Value.{Value}
 use Rattle.named_sources.specs.resources.Testing.{assigned_behind, assignment}
 
 -- where a list goes on

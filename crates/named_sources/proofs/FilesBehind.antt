@@ -2,13 +2,13 @@
 use Rattle.std.proofs.Common.{◌≡◌, ℕ, ◌+◌, ◌<◌, false, List, [], ◌∷◌, ◌++◌, map, drop, length, get_or, Result, Ok, String, Global}
 use Rattle.std.proofs.Common.{string_bytes, refl, sym, ap, ◌∙◌}
 use Rattle.std.proofs.lemmas.List.{at_drop_more}
-use Rattle.data.specs.Data.{object, Items, no_items, item, items_append}
-use Rattle.data.specs.Limits.{within_bytes}
-use Rattle.data.specs.View.{data_of, items_of}
-use Rattle.data.specs.declared.object.Object.TheVariants as objects
-use Rattle.data.specs.declared.refusal.Refusal.{Refusal}
-use Rattle.data.specs.declared.value.Value.{Value}
-use Rattle.data.proofs.ItemsLemmas.{items_of-push}
+use Rattle.values.specs.Data.{object, Items, no_items, item, items_append}
+use Rattle.values.specs.Limits.{within_bytes}
+use Rattle.values.specs.View.{data_of, items_of}
+use Rattle.values.specs.declared.object.Object.TheVariants as objects
+use Rattle.values.specs.declared.refusal.Refusal.{Refusal}
+use Rattle.values.specs.declared.value.Value.{Value}
+use Rattle.values.proofs.ItemsLemmas.{items_of-push}
 use Rattle.named_sources.specs.Values.{and_then, files_behind}
 
 -- one file more

@@ -1,6 +1,6 @@
 -- Two parts of a text, by the number of the first.
 use Rattle.std.proofs.Common.{◌≡◌, ℕ, ◌+◌, ◌<◌, List, ◌∷◌, length, map, drop, get_or, Bor, refl, sym, ap, ◌∙◌, add-one, drop-cons, arith}
-use Rattle.targets.specs.edge.Texts.{Text}
+use Rattle.build.specs.edge.Texts.{Text}
 
 abbrev pub now_of : List (Bor (List ℕ)) → List Text
 now_of xs = map (λ s. s.now) xs

@@ -1,6 +1,6 @@
 -- One part of a text with placeholders after another.
 use Rattle.std.proofs.Common.{◌≡◌, List, ◌∷◌, ◌++◌, Option, Some, None, codes, refl, sym, ap, ◌∙◌, append_assoc}
-use Rattle.targets.specs.edge.Texts.{Text}
+use Rattle.build.specs.edge.Texts.{Text}
 use Rattle.named_sources.specs.Holes.{MeaningData, stays, means, behind_text, step, filled_behind}
 
 behind_behind : (a b : Text) (o : Option Text) → behind_text a (behind_text b o) ≡ behind_text (a ++ b) o

@@ -4,7 +4,7 @@ use Rattle.std.specs.List.{slice_split, onto_first}
 use Rattle.std.proofs.lemmas.Bool.{or_parts}
 use Rattle.std.proofs.lemmas.List.Splits.{slice_split-cons_no}
 use Rattle.named_sources.specs.Holes.{PlaceData, meaning, filled_parts, filled}
-use Rattle.paths.specs.Names.{has}
+use Rattle.support.specs.paths.Names.{has}
 use Rattle.named_sources.specs.declared.holes.Scope.{Scope}
 
 -- a text without an `@` is one part

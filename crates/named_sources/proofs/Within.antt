@@ -3,9 +3,9 @@ use Rattle.std.proofs.Common.{◌≡◌, Bool, true, false, List, [], ◌∷◌,
 use Rattle.std.specs.Prelude.{nat_le, ◌&&◌, if◌then◌else◌}
 use Rattle.std.proofs.lemmas.Bool.{leb-true, le-leb}
 use Rattle.std.proofs.lemmas.List.{length-append}
-use Rattle.data.specs.declared.object.Dependency.{Dependency}
-use Rattle.data.specs.declared.refusal.Refusal.TheVariants as refusal
-use Rattle.basics.specs.Limits.{items}
+use Rattle.values.specs.declared.object.Dependency.{Dependency}
+use Rattle.values.specs.declared.refusal.Refusal.TheVariants as refusal
+use Rattle.support.specs.Limits.{items}
 use Rattle.named_sources.specs.resources.Joined.{is_within, with_all_lists, with_lists, with_all, joined}
 
 pub front_short : {A : Type 0} (xs ys : List A) → nat_le (length (xs ++ ys)) items ≡ true → nat_le (length xs) items ≡ true

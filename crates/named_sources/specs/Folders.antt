@@ -1,11 +1,11 @@
 -- The folders that the keyword `include_directories` names: texts that are paths of folders, and objects of `include_directories`.
 use Rattle.std.specs.Prelude.{ℕ, List, [], ◌∷◌, Option, Some, None}
-use Rattle.data.specs.Data.{Data, text, object}
-use Rattle.data.specs.declared.object.Object.{Object}
-use Rattle.data.specs.declared.object.Object.TheVariants as objects
+use Rattle.values.specs.Data.{Data, text, object}
+use Rattle.values.specs.declared.object.Object.{Object}
+use Rattle.values.specs.declared.object.Object.TheVariants as objects
 use Rattle.arguments.specs.Said.{Said}
 use Rattle.arguments.specs.declared.rule.Rule.TheVariants as rules
-use Rattle.paths.specs.Paths.{folder_path}
+use Rattle.support.specs.paths.Paths.{folder_path}
 use Rattle.arguments.specs.Each.{all_said}
 use Rattle.named_sources.specs.Unnamed.{named_by}
 

@@ -4,8 +4,8 @@ use Rattle.std.specs.Prelude.{Option, Some, None, option_map, if◌then◌else�
 use Rattle.std.specs.List.{list_all, starts_with, slice_split}
 use Rattle.std.specs.Char.{is_ascii_digit}
 use Rattle.std.specs.Str.Parse.{digits_value}
-use Rattle.targets.specs.edge.Texts.{Path, Text}
-use Rattle.paths.specs.Names.{plain_name, base_name}
+use Rattle.build.specs.edge.Texts.{Path, Text}
+use Rattle.support.specs.paths.Names.{plain_name, base_name}
 use Rattle.named_sources.specs.declared.holes.Scope.{Scope}
 use Rattle.named_sources.specs.declared.holes.Scope.TheVariants.{Command, FileName}
 

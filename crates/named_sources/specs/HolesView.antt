@@ -1,8 +1,8 @@
 -- Places and meanings without where they lie in memory.
 use Rattle.std.specs.Prelude.{string_bytes, option_map}
-use Rattle.targets.specs.edge.Folders.{build_folder, source_folder}
-use Rattle.targets.specs.edge.Paths.{source_root}
-use Rattle.targets.specs.edge.Texts.{texts}
+use Rattle.build.specs.edge.Folders.{build_folder, source_folder}
+use Rattle.build.specs.edge.Paths.{source_root}
+use Rattle.build.specs.edge.Texts.{texts}
 use Rattle.named_sources.specs.Holes.{PlaceData, MeaningData, stays, refused, means}
 use Rattle.named_sources.specs.declared.holes.Place.{Place}
 use Rattle.named_sources.specs.declared.holes.Meaning.{Meaning}

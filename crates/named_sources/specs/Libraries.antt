@@ -1,8 +1,8 @@
 -- The build targets that `link_with` names, by their numbers. Whether each is a library is for the project to say.
 use Rattle.std.specs.Prelude.{ℕ, List, Option, Some, None}
-use Rattle.data.specs.Data.{Data, object}
-use Rattle.data.specs.declared.object.Object.{Object}
-use Rattle.data.specs.declared.object.Object.TheVariants as objects
+use Rattle.values.specs.Data.{Data, object}
+use Rattle.values.specs.declared.object.Object.{Object}
+use Rattle.values.specs.declared.object.Object.TheVariants as objects
 use Rattle.arguments.specs.Each.{each_or_none}
 
 abbrev pub of_object : Object → Option ℕ

@@ -1,7 +1,7 @@
 -- The outputs of the targets so far.
 use Rattle.std.specs.Prelude.{ℕ, List, Option, option_map, option_and_then, slice_get}
-use Rattle.targets.specs.edge.Texts.{Path}
-use Rattle.targets.specs.Libraries.{LinkedData}
+use Rattle.build.specs.edge.Texts.{Path}
+use Rattle.build.specs.Libraries.{LinkedData}
 
 -- the outputs of the target with a number
 abbrev pub outputs_at : List LinkedData → ℕ → Option (List Path)

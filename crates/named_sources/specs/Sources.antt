@@ -5,10 +5,10 @@ use Rattle.std.specs.List.{ends_with}
 use Rattle.std.specs.Str.{bytes_eq}
 use Rattle.arguments.specs.Said.{Said}
 use Rattle.arguments.specs.declared.rule.Rule.TheVariants as rules
-use Rattle.data.specs.Data.{Data, text, object}
-use Rattle.data.specs.declared.object.Object.{Object}
-use Rattle.data.specs.declared.object.Object.TheVariants as objects
-use Rattle.paths.specs.Paths.{tree_path}
+use Rattle.values.specs.Data.{Data, text, object}
+use Rattle.values.specs.declared.object.Object.{Object}
+use Rattle.values.specs.declared.object.Object.TheVariants as objects
+use Rattle.support.specs.paths.Paths.{tree_path}
 use Rattle.arguments.specs.Each.{each_said}
 use Rattle.named_sources.specs.Unnamed.{named_by}
 

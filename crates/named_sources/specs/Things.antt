@@ -1,11 +1,11 @@
 -- What objects name that may stand in a command.
 use Rattle.std.specs.Prelude.{Bool, List, Option, Some, None, option_map}
-use Rattle.data.specs.declared.object.Object.{Object}
-use Rattle.data.specs.declared.object.Object.TheVariants as objects
-use Rattle.data.specs.declared.object.Program.{Program}
-use Rattle.targets.specs.edge.Texts.{Path}
-use Rattle.targets.specs.Data.{BuildData}
-use Rattle.targets.specs.Libraries.{LinkedData, build_at}
+use Rattle.values.specs.declared.object.Object.{Object}
+use Rattle.values.specs.declared.object.Object.TheVariants as objects
+use Rattle.values.specs.declared.object.Program.{Program}
+use Rattle.build.specs.edge.Texts.{Path}
+use Rattle.build.specs.Data.{BuildData}
+use Rattle.build.specs.Libraries.{LinkedData, build_at}
 use Rattle.named_sources.specs.Outputs.{output_at, outputs_at}
 
 pub data ThingData : Type 0 where

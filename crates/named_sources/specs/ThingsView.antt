@@ -1,6 +1,6 @@
 -- Things, without where they lie in memory.
-use Rattle.targets.specs.edge.Texts.{texts}
-use Rattle.targets.specs.View.{build_view}
+use Rattle.build.specs.edge.Texts.{texts}
+use Rattle.build.specs.View.{build_view}
 use Rattle.named_sources.specs.Things.{ThingData, a_file, a_program, a_target, all_outputs, an_output}
 use Rattle.named_sources.specs.declared.things.Thing.{Thing}
 use Rattle.named_sources.specs.declared.things.Thing.TheVariants as things

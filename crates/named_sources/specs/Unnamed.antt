@@ -2,7 +2,7 @@
 use Rattle.std.specs.Prelude.{ℕ, List, [], Option}
 use Rattle.arguments.specs.Said.{Said, found}
 use Rattle.arguments.specs.declared.rule.Rule.{Rule}
-use Rattle.data.specs.Data.{Data, text}
+use Rattle.values.specs.Data.{Data, text}
 
 -- a text; another value has none
 abbrev pub text_said : Data → List ℕ

@@ -1,9 +1,9 @@
 -- What `files` and `include_directories` give.
 use Rattle.std.specs.Prelude.{ℕ, false, List, [], ◌∷◌, Result, Ok, Err}
-use Rattle.data.specs.Data.{Data, list, object, Items, no_items, item, items_append}
-use Rattle.data.specs.Limits.{within, within_bytes}
-use Rattle.data.specs.declared.object.Object.TheVariants as objects
-use Rattle.data.specs.declared.refusal.Refusal.{Refusal}
+use Rattle.values.specs.Data.{Data, list, object, Items, no_items, item, items_append}
+use Rattle.values.specs.Limits.{within, within_bytes}
+use Rattle.values.specs.declared.object.Object.TheVariants as objects
+use Rattle.values.specs.declared.refusal.Refusal.{Refusal}
 use Rattle.named_sources.specs.resources.Found.{short_texts}
 
 abbrev pub and_then : {A B : Type 0} → Result A Refusal → (A → Result B Refusal) → Result B Refusal

@@ -2,10 +2,10 @@
 use Rattle.std.specs.Prelude.{Result, Ok, Err}
 use Rattle.std.specs.declared.alloc.Global.{Global}
 use Rattle.std.specs.declared.vec.Vec.{Vec}
-use Rattle.data.specs.Data.{Items}
-use Rattle.data.specs.View.{items_of}
-use Rattle.data.specs.declared.refusal.Refusal.{Refusal}
-use Rattle.data.specs.declared.value.Value.{Value}
+use Rattle.values.specs.Data.{Items}
+use Rattle.values.specs.View.{items_of}
+use Rattle.values.specs.declared.refusal.Refusal.{Refusal}
+use Rattle.values.specs.declared.value.Value.{Value}
 
 abbrev pub items_in : Result (Vec Value Global) Refusal → Result Items Refusal
 items_in (Ok values) = Ok (items_of values.items)

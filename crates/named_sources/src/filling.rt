@@ -3,7 +3,7 @@ ghost use Rattle.std.specs.Prelude.{◌≡◌, ◌==◌, ◌++◌, map, IfOk, On
 ghost use Rattle.std.specs.List.{slice_split};
 ghost use Rattle.named_sources.specs.Holes.{meaning, behind_text, filled_behind, filled_parts, filled};
 ghost use Rattle.named_sources.specs.HolesView.{place_view};
-ghost use Rattle.paths.specs.Names.{has};
+ghost use Rattle.support.specs.paths.Names.{has};
 
 use crate::holes::{Meaning, Place, Scope, meaning_of};
 use std::alloc::{AllocError, Global};

@@ -3,17 +3,17 @@ ghost use Rattle.std.specs.Prelude.{◌≡◌, ◌++◌, ◌∷◌, [], IfOk, On
 ghost use Rattle.arguments.specs.Each.{all_said};
 ghost use Rattle.arguments.specs.Refused.{said_data};
 ghost use Rattle.arguments.specs.declared.rule.Rule.TheVariants as rules;
-ghost use Rattle.data.specs.Prelude.{data_of};
-ghost use Rattle.paths.specs.Folder.{strings_of};
-ghost use Rattle.paths.specs.Paths.{folder_path};
+ghost use Rattle.values.specs.Prelude.{data_of};
+ghost use Rattle.support.specs.paths.Folder.{strings_of};
+ghost use Rattle.support.specs.paths.Paths.{folder_path};
 ghost use Rattle.named_sources.specs.Folders.{folders_in, folders_of, of_object, one_path};
 ghost use Rattle.named_sources.specs.Unnamed.{named_by};
 
 use crate::unnamed::refuse_unnamed;
 use arguments::{Refused, Rule};
-use data::{Object, Text, Value};
-use paths::folder_path;
 use std::alloc::{AllocError, Global};
+use support::paths::folder_path;
+use values::{Object, Text, Value};
 
 // Appends a text as a string of its own.
 pub(crate) fn push_string(

@@ -3,15 +3,15 @@ ghost use Rattle.std.specs.Prelude.{◌≡◌, IfOk, codes, option_map, string_b
 ghost use Rattle.std.specs.List.{list_all};
 ghost use Rattle.std.specs.Char.{is_ascii_digit};
 ghost use Rattle.std.specs.Str.Parse.{IsNumeral, digits_value};
-ghost use Rattle.targets.specs.edge.Texts.{texts};
-ghost use Rattle.paths.specs.Names.{plain_name as plain_of, base_name as base_of};
+ghost use Rattle.build.specs.edge.Texts.{texts};
+ghost use Rattle.support.specs.paths.Names.{plain_name as plain_of, base_name as base_of};
 ghost use Rattle.named_sources.specs.Holes.{means_if, only_of, first_of, is_number, numbered, numbered_if, rest_after, numbered_name};
 ghost use Rattle.named_sources.specs.Holes.{stays, with_p, place_name, file_name, meaning};
 ghost use Rattle.named_sources.specs.HolesView.{place_view, meaning_view};
 
-use paths::{base_name, plain_name};
+use build::edge::{build_folder, source_folder, source_root};
 use std::alloc::{AllocError, Global};
-use targets::edge::{build_folder, source_folder, source_root};
+use support::paths::{base_name, plain_name};
 
 /// Where a text with placeholders stands.
 #[derive(Clone, Copy)]

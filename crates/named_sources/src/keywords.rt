@@ -3,7 +3,7 @@ ghost use Rattle.std.specs.Prelude.{◌≡◌, IfOk, option_map};
 ghost use Rattle.arguments.specs.Arguments.{arguments_data};
 ghost use Rattle.arguments.specs.Leaves.{leaves_named};
 ghost use Rattle.arguments.specs.Refused.{said_data};
-ghost use Rattle.paths.specs.Folder.{strings_of};
+ghost use Rattle.support.specs.paths.Folder.{strings_of};
 ghost use Rattle.named_sources.specs.Folders.{folders_of};
 ghost use Rattle.named_sources.specs.Libraries.{numbers_of};
 ghost use Rattle.named_sources.specs.Sources.{sources_of};

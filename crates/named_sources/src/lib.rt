@@ -3,6 +3,7 @@
 //! Nothing is asked of the tree here. What a project takes from outside and gives away is of [`resources`].
 #![tactic(auto)]
 
+mod file_values;
 mod filling;
 mod folders;
 mod holes;
@@ -13,10 +14,10 @@ pub mod resources;
 mod sources;
 mod things;
 mod unnamed;
-mod values;
 mod versions;
 mod words;
 
+pub use file_values::{directories_at, files_at};
 pub use filling::fill;
 pub use folders::{folders_of, strings};
 pub use holes::{Meaning, Place, Scope, meaning_of};
@@ -24,6 +25,5 @@ pub use keywords::{folders_named, numbers_named, sources_named};
 pub use outputs::{output_at, outputs_at};
 pub use sources::{NamedSource, sources_of};
 pub use things::{Thing, thing_of};
-pub use values::{directories_at, files_at};
 pub use versions::is_library_version;
 pub use words::push_words;

@@ -1,10 +1,10 @@
 //! The build targets that `link_with` names.
 ghost use Rattle.std.specs.Prelude.{◌≡◌, IfOk, map, option_map};
-ghost use Rattle.data.specs.Prelude.{data_of};
+ghost use Rattle.values.specs.Prelude.{data_of};
 ghost use Rattle.named_sources.specs.Libraries.{build_target_in, numbers_of, of_object};
 
-use data::{Object, Value};
 use std::alloc::{AllocError, Global};
+use values::{Object, Value};
 
 fn of_object(object: &Object) -> Option<usize>
     ensures { result ≡ of_object object.now }

@@ -1,10 +1,10 @@
 //! The outputs of the targets so far.
 ghost use Rattle.std.specs.Prelude.{◌≡◌, option_map};
-ghost use Rattle.targets.specs.edge.Texts.{texts};
+ghost use Rattle.build.specs.edge.Texts.{texts};
 ghost use Rattle.named_sources.specs.Outputs.{output_at, outputs_at};
-ghost use Rattle.targets.specs.LinkedViews.{linked_views};
+ghost use Rattle.build.specs.LinkedViews.{linked_views};
 
-use targets::Linked;
+use build::Linked;
 
 /// The outputs of the target with a number.
 pub fn outputs_at(earlier: &[Linked], number: usize) -> Option<&[String]>

@@ -1,8 +1,8 @@
 //! What a project takes from outside and gives away: dependencies, programs, installed files and tests, as the page "Reference manual"
 //! has them.
 //!
-//! These are the parts that look at nothing but their arguments and the machine file. What they make is made of `data`, and a refusal is
-//! one of `data` too, so that the function of the language which calls them refuses at its own place.
+//! These are the parts that look at nothing but their arguments and the machine file. What they make is made of `values`, and a refusal is
+//! one of `values` too, so that the function of the language which calls them refuses at its own place.
 //!
 //! # Decisions
 //!

@@ -4,17 +4,17 @@ ghost use Rattle.std.specs.List.{ends_with};
 ghost use Rattle.arguments.specs.Each.{each_said};
 ghost use Rattle.arguments.specs.Refused.{said_data};
 ghost use Rattle.arguments.specs.declared.rule.Rule.TheVariants as rules;
-ghost use Rattle.data.specs.Prelude.{data_of};
+ghost use Rattle.values.specs.Prelude.{data_of};
 ghost use Rattle.named_sources.specs.Sources.{ends_in, ends_in_name, of_object, source_of, sources_of, tree};
-ghost use Rattle.paths.specs.Paths.{tree_path};
+ghost use Rattle.support.specs.paths.Paths.{tree_path};
 ghost use Rattle.named_sources.specs.SourcesView.{named_view, named_views};
 ghost use Rattle.named_sources.specs.Unnamed.{named_by};
 
 use crate::unnamed::refuse_unnamed;
 use arguments::{Refused, Rule};
-use data::{Object, Text, Value};
-use paths::tree_path;
 use std::alloc::{AllocError, Global};
+use support::paths::tree_path;
+use values::{Object, Text, Value};
 
 /// A source as a call names it.
 #[derive(Drop)]

@@ -1,12 +1,12 @@
 //! What objects name that may stand in a command.
 ghost use Rattle.std.specs.Prelude.{◌≡◌, option_map};
-ghost use Rattle.targets.specs.LinkedViews.{linked_views};
+ghost use Rattle.build.specs.LinkedViews.{linked_views};
 ghost use Rattle.named_sources.specs.Things.{thing_of};
 ghost use Rattle.named_sources.specs.ThingsView.{thing_view};
 
 use crate::outputs::{output_at, outputs_at};
-use data::{Object, Program};
-use targets::{BuildTarget, Linked, build_target_at};
+use build::{BuildTarget, Linked, build_target_at};
+use values::{Object, Program};
 
 /// What may stand in a command: a program, a file, a target or outputs of one.
 #[derive(Clone, Copy)]

@@ -1,12 +1,12 @@
 //! What is said of a value that names nothing.
 ghost use Rattle.std.specs.Prelude.{◌≡◌, IfOk};
 ghost use Rattle.arguments.specs.Refused.{breaks, refused_data};
-ghost use Rattle.data.specs.Prelude.{data_of};
+ghost use Rattle.values.specs.Prelude.{data_of};
 ghost use Rattle.named_sources.specs.Unnamed.{text_said};
 
 use arguments::{Refused, Rule};
-use data::Value;
 use std::alloc::{AllocError, Global};
+use values::Value;
 
 fn text_said(value: &Value) -> &str
     ensures { result.now ≡ text_said (data_of value.now) }

@@ -1,13 +1,13 @@
 //! Words of a command.
 ghost use Rattle.std.specs.Prelude.{◌≡◌, ◌++◌, IfOk, None, Some, option_map, string_bytes, if◌then◌else◌};
-ghost use Rattle.targets.specs.edge.Texts.{texts};
+ghost use Rattle.build.specs.edge.Texts.{texts};
 ghost use Rattle.named_sources.specs.Holes.{some_of, one_word, words_of};
 ghost use Rattle.named_sources.specs.HolesView.{place_view};
 
 use crate::filling::fill;
 use crate::holes::{Place, Scope};
+use build::edge::push_copies;
 use std::alloc::{AllocError, Global};
-use targets::edge::push_copies;
 
 // Appends all of the paths, where there are some.
 fn push_some(words: &mut Vec<String>, paths: &[String]) -> Result<bool, AllocError>

@@ -3,10 +3,10 @@ use Rattle.std.proofs.Common.{◌≡◌, ℕ, Bool, true, false, Ok, Err, List, 
 use Rattle.std.proofs.Common.{subst, ◌∙◌}
 use Rattle.std.specs.Prelude.{if◌then◌else◌}
 use Rattle.std.specs.declared.alloc.AllocError.{AllocError}
-use Rattle.basics.specs.Limits.{is_short}
-use Rattle.data.specs.Limits.{within_bytes}
-use Rattle.data.specs.declared.refusal.Refusal.{Refusal as OperationRefusal}
-use Rattle.data.specs.declared.refusal.Refusal.TheVariants as refusal
+use Rattle.support.specs.Limits.{is_short}
+use Rattle.values.specs.Limits.{within_bytes}
+use Rattle.values.specs.declared.refusal.Refusal.{Refusal as OperationRefusal}
+use Rattle.values.specs.declared.refusal.Refusal.TheVariants as refusal
 use Rattle.template.specs.Config.{Configuration, unfrozen}
 use Rattle.world.specs.Answering.{IsAnswered}
 use Rattle.world.specs.World.{World}

@@ -1,10 +1,10 @@
 -- Acts that the files of the tree make, against code that reads a file as it writes.
 use Rattle.std.proofs.Common.{◌≡◌, ℕ, ◌+◌, ◌≤◌, true, false, IsTrue, List, [], Option, Some, None, Result, Ok, Err, IsErrAnd, is_some}
 use Rattle.std.proofs.Common.{option_map, unwrap_or, inl, inr, refl, sym, subst, ◌∙◌, arith}
-use Rattle.targets.specs.edge.Texts.{Path}
-use Rattle.basics.specs.Faults.{plain_fault}
-use Rattle.basics.specs.declared.faults.refusal.Refusal.{Refusal}
-use Rattle.basics.specs.declared.faults.refusal.Refusal.TheVariants as refusals
+use Rattle.build.specs.edge.Texts.{Path}
+use Rattle.support.specs.Faults.{plain_fault}
+use Rattle.support.specs.declared.faults.refusal.Refusal.{Refusal}
+use Rattle.support.specs.declared.faults.refusal.Refusal.TheVariants as refusals
 use Rattle.ports.specs.Outputs.{OutputState, Sends}
 use Rattle.ports.specs.Tree.{Stays, TreeState, bytes_at, file_at}
 use Rattle.template.specs.Config.{Entries}
@@ -13,7 +13,7 @@ use Rattle.template.specs.Template.{Agrees, PassFailures, OneMore, ending_of, te
 use Rattle.template.specs.declared.stop.PassStop.{PassStop}
 use Rattle.template.specs.declared.stop.PassStop.TheVariants as pass_stops
 use Rattle.ports.specs.Endings.{is_whole}
-use Rattle.paths.specs.Paths.{path_in}
+use Rattle.support.specs.paths.Paths.{path_in}
 use Rattle.world.specs.Answering.{Acts, Carries, Fails, State, seen_at}
 use Rattle.world.specs.Deed.{Deed, Files, give, make, need, perform, read, required, then, there}
 use Rattle.world.specs.Gives.{Gives, Continues, IsRefusal, failures_after}

@@ -11,11 +11,11 @@ use Rattle.std.specs.BTreeMap.{insert_entry}
 use Rattle.std.proofs.lemmas.Cmp.{nat_list_cmp_total}
 use Rattle.std.proofs.lemmas.Map.Text.{is_eq-slice_cmp}
 use Rattle.std.proofs.lemmas.Slice.Eq.{bytes_eq-Decides}
-use Rattle.data.specs.Data.{Entries as DictionaryEntries, no_entries, entry, keys_in, entry_values}
+use Rattle.values.specs.Data.{Entries as DictionaryEntries, no_entries, entry, keys_in, entry_values}
 use Rattle.template.specs.Config.{Content, Entries, names, with_value}
 use Rattle.arguments.specs.Said.{Said, ◌>>=◌}
 use Rattle.objects.specs.configuration_calls.Contents.{content_at, all_set}
-use Rattle.basics.specs.Among.{is_among}
+use Rattle.support.specs.Among.{is_among}
 use Rattle.objects.specs.configuration_calls.NameOrder.{Ascend, NamesAscend}
 
 abbrev cmp : List ℕ → List ℕ → Ordering

@@ -1,8 +1,8 @@
 -- The kinds of objects.
 use Rattle.std.proofs.Common.{◌≡◌, ℕ, List, refl}
 use Rattle.arguments.specs.Arguments.{ArgumentsData}
-use Rattle.data.specs.declared.object.Object.{Object}
-use Rattle.data.specs.declared.object.Object.TheVariants as objects
+use Rattle.values.specs.declared.object.Object.{Object}
+use Rattle.values.specs.declared.object.Object.TheVariants as objects
 use Rattle.objects.specs.Methods.{object_method, tell}
 
 -- the methods of all but the compiler, a machine and configuration data tell of their receiver and the facts alone

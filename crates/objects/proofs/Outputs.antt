@@ -1,7 +1,7 @@
 -- Outputs one after another.
 use Rattle.std.proofs.Common.{◌≡◌, ℕ, suc, ◌+◌, ◌-◌, ◌<◌, ◌≤◌, ap, arith}
-use Rattle.data.specs.Data.{item, no_items, object}
-use Rattle.data.specs.declared.object.Object.TheVariants as objects
+use Rattle.values.specs.Data.{item, no_items, object}
+use Rattle.values.specs.declared.object.Object.TheVariants as objects
 use Rattle.objects.specs.Targets.{outputs_from}
 
 pub first_of : (target count first : ℕ) → first < count

@@ -3,9 +3,9 @@ use Rattle.std.proofs.Common.{◌≡◌, ℕ, suc, ◌+◌, ◌<◌, ◌≤◌, 
 use Rattle.std.proofs.Math.Seq.{drop-cons}
 use Rattle.std.proofs.lemmas.List.{drop_all}
 use Rattle.arguments.specs.Given.{text_or_none}
-use Rattle.data.specs.Data.{Data, Items, items_append}
-use Rattle.data.specs.View.{data_of}
-use Rattle.data.specs.declared.value.Value.{Value}
+use Rattle.values.specs.Data.{Data, Items, items_append}
+use Rattle.values.specs.View.{data_of}
+use Rattle.values.specs.declared.value.Value.{Value}
 use Rattle.machine.specs.machine_file.Questions.{plain}
 use Rattle.world.specs.Deed.{consult, give, then}
 use Rattle.objects.specs.CompilerMethods.{kept, supported}

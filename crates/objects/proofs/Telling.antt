@@ -1,7 +1,7 @@
 -- Outputs that are told steps, against the act that tells them.
 use Rattle.std.proofs.Common.{◌≡◌, ℕ, ◌+◌, true, false, List, [], Option, None, Result, Ok, Err, IsErrAnd, IsSome, refl, sym, subst, ◌∙◌}
 use Rattle.std.proofs.Common.{arith}
-use Rattle.basics.specs.Faults.{FaultData}
+use Rattle.support.specs.Faults.{FaultData}
 use Rattle.ports.specs.Endings.{Failed}
 use Rattle.ports.specs.Outputs.{IsOpen, OutputState, Sends, Step, Took, all, closing, part}
 use Rattle.ports.specs.Tree.{TreeState}

@@ -1,10 +1,10 @@
 -- What tests and operations answer.
 use Rattle.std.proofs.Common.{◌≡◌, Result, IfOk, subst}
 use Rattle.std.specs.declared.alloc.AllocError.{AllocError}
-use Rattle.data.specs.Data.{Data}
-use Rattle.data.specs.Tables.{Answers}
-use Rattle.data.specs.declared.refusal.Refusal.{Refusal}
-use Rattle.data.specs.declared.value.Value.{Value}
+use Rattle.values.specs.Data.{Data}
+use Rattle.values.specs.Tables.{Answers}
+use Rattle.values.specs.declared.refusal.Refusal.{Refusal}
+use Rattle.values.specs.declared.value.Value.{Value}
 
 -- the same answer, written otherwise
 pub answers_as : {given other : Result Data Refusal} (r : Result (Result Value Refusal) AllocError)

@@ -1,16 +1,16 @@
 -- The checks of the compiler, and `find_library`.
 use Rattle.std.specs.Prelude.{ℕ, Bool, true, false, List, [], ◌∷◌, ◌++◌, Option, Some, None, Result, Ok, Err, option_and_then, codes}
 use Rattle.arguments.specs.Arguments.{ArgumentsData}
-use Rattle.data.specs.Flat.{flat_all}
+use Rattle.values.specs.Flat.{flat_all}
 use Rattle.arguments.specs.Given.{argument, requirement, text_at}
 use Rattle.arguments.specs.declared.given.Requirement.{Requirement}
 use Rattle.arguments.specs.declared.given.Requirement.TheVariants as requirements
-use Rattle.data.specs.Data.{Data, boolean, object, text_in}
-use Rattle.data.specs.declared.object.Dependency.{Dependency}
-use Rattle.data.specs.declared.object.Object.TheVariants as objects
-use Rattle.data.specs.declared.refusal.Refusal.{Refusal}
-use Rattle.data.specs.declared.refusal.Refusal.TheVariants as operations
-use Rattle.basics.specs.declared.faults.refusal.Refusal.TheVariants as refusals
+use Rattle.values.specs.Data.{Data, boolean, object, text_in}
+use Rattle.values.specs.declared.object.Dependency.{Dependency}
+use Rattle.values.specs.declared.object.Object.TheVariants as objects
+use Rattle.values.specs.declared.refusal.Refusal.{Refusal}
+use Rattle.values.specs.declared.refusal.Refusal.TheVariants as operations
+use Rattle.support.specs.declared.faults.refusal.Refusal.TheVariants as refusals
 use Rattle.machine.specs.machine_file.Questions.{check_topic}
 use Rattle.named_sources.specs.resources.Beside.{call_question}
 use Rattle.named_sources.specs.resources.Found.{found, missing}

@@ -1,23 +1,23 @@
 -- The methods of the C compiler, on their arguments. None of them changes anything: the machine file is asked, and answers them all.
 use Rattle.std.specs.Prelude.{ℕ, Bool, List, [], ◌∷◌, Option, Some, None, is_some, codes, if◌then◌else◌}
 use Rattle.arguments.specs.Arguments.{ArgumentsData}
-use Rattle.data.specs.Flat.{flat_all}
+use Rattle.values.specs.Flat.{flat_all}
 use Rattle.arguments.specs.Given.{text_or_none}
 use Rattle.arguments.specs.Leaves.{leaves_from}
-use Rattle.data.specs.Data.{Data, integer, list, Items, no_items, item, items_append}
-use Rattle.data.specs.Limits.{within}
-use Rattle.basics.specs.declared.faults.refusal.Refusal.TheVariants as refusals
+use Rattle.values.specs.Data.{Data, integer, list, Items, no_items, item, items_append}
+use Rattle.values.specs.Limits.{within}
+use Rattle.support.specs.declared.faults.refusal.Refusal.TheVariants as refusals
 use Rattle.machine.specs.machine_file.Questions.{Answer, check_topic, plain}
 use Rattle.named_sources.specs.resources.Beside.{call_question}
 use Rattle.world.specs.Deed.{Deed, give, refuse, consult, ◌>>=◌, answered}
 use Rattle.world.specs.Fit.{fit}
 use Rattle.objects.specs.CompilerChecks.{check, find_library}
-use Rattle.data.specs.language_names.ObjectMethods.{compiler_method_named}
+use Rattle.values.specs.language_names.ObjectMethods.{compiler_method_named}
 use Rattle.objects.specs.CompilerRows.{row_of}
 use Rattle.objects.specs.Keys.{keyed}
 use Rattle.objects.specs.CompilerSaid.{argument_topic, is_true, number_of}
-use Rattle.data.specs.declared.language_names.object_methods.CompilerMethod.{CompilerMethod}
-use Rattle.data.specs.declared.language_names.object_methods.CompilerMethod.TheVariants as methods
+use Rattle.values.specs.declared.language_names.object_methods.CompilerMethod.{CompilerMethod}
+use Rattle.values.specs.declared.language_names.object_methods.CompilerMethod.TheVariants as methods
 
 -- `get_id()` and `version()`: which compiler it is, as `gcc`, and its version
 abbrev pub get_id : Deed (Option Data)

@@ -1,6 +1,6 @@
 -- The names of the methods of the C compiler: the type `compiler` of the page "Reference manual".
 use Rattle.std.specs.Prelude.{ℕ, Bool, List, [], ◌∷◌, codes}
-use Rattle.basics.specs.Among.{is_among}
+use Rattle.support.specs.Among.{is_among}
 
 -- those that ask the machine, which are left out for good
 abbrev pub left_out_names : List (List ℕ)

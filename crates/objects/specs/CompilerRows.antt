@@ -2,8 +2,8 @@
 use Rattle.std.specs.Prelude.{List, [], ◌∷◌, ◌++◌, codes}
 use Rattle.arguments.specs.declared.row.Kind.TheVariants.{Any, Requirement, Text, Texts}
 use Rattle.arguments.specs.Row.{KeywordData, RowData, optional, row, with_others}
-use Rattle.data.specs.declared.language_names.object_methods.CompilerMethod.{CompilerMethod}
-use Rattle.data.specs.declared.language_names.object_methods.CompilerMethod.TheVariants as methods
+use Rattle.values.specs.declared.language_names.object_methods.CompilerMethod.{CompilerMethod}
+use Rattle.values.specs.declared.language_names.object_methods.CompilerMethod.TheVariants as methods
 
 -- the keywords of all that asks the compiler: a value of any type is read and dropped, since the machine file answers
 abbrev pub asking_keywords : List KeywordData

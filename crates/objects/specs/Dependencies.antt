@@ -1,13 +1,13 @@
 -- The methods of a dependency: the type `dep` of the page "Reference manual".
 use Rattle.std.specs.Prelude.{ℕ, List, Option, Some, None, Result, Ok, Err, codes, if◌then◌else◌}
-use Rattle.data.specs.Data.{Data, boolean, text}
-use Rattle.data.specs.Limits.{within}
-use Rattle.data.specs.declared.object.Dependency.{Dependency}
-use Rattle.data.specs.declared.refusal.Refusal.{Refusal}
-use Rattle.data.specs.declared.refusal.Refusal.TheVariants as refusal
-use Rattle.data.specs.declared.language_names.object_methods.DependencyMethod.{DependencyMethod}
-use Rattle.data.specs.declared.language_names.object_methods.DependencyMethod.TheVariants.{Found, Name, Version}
-use Rattle.data.specs.language_names.ObjectMethods.{dependency_method_named}
+use Rattle.values.specs.Data.{Data, boolean, text}
+use Rattle.values.specs.Limits.{within}
+use Rattle.values.specs.declared.object.Dependency.{Dependency}
+use Rattle.values.specs.declared.refusal.Refusal.{Refusal}
+use Rattle.values.specs.declared.refusal.Refusal.TheVariants as refusal
+use Rattle.values.specs.declared.language_names.object_methods.DependencyMethod.{DependencyMethod}
+use Rattle.values.specs.declared.language_names.object_methods.DependencyMethod.TheVariants.{Found, Name, Version}
+use Rattle.values.specs.language_names.ObjectMethods.{dependency_method_named}
 
 -- the version, `unknown` where it is not found
 abbrev pub version_of : Dependency → Result Data Refusal

@@ -1,13 +1,13 @@
 -- The methods of a feature: the type `feature` of the page "Reference manual".
 use Rattle.std.specs.Prelude.{ℕ, Bool, true, false, not, List, Option, Some, None, Result, Ok, Err}
-use Rattle.data.specs.Data.{Data, boolean}
-use Rattle.data.specs.declared.object.Feature.{Feature}
-use Rattle.data.specs.declared.object.Feature.TheVariants as features
-use Rattle.data.specs.declared.refusal.Refusal.{Refusal}
-use Rattle.data.specs.declared.refusal.Refusal.TheVariants as refusal
-use Rattle.data.specs.declared.language_names.object_methods.FeatureMethod.{FeatureMethod}
-use Rattle.data.specs.declared.language_names.object_methods.FeatureMethod.TheVariants.{Allowed, Auto, Disabled, Enabled}
-use Rattle.data.specs.language_names.ObjectMethods.{feature_method_named}
+use Rattle.values.specs.Data.{Data, boolean}
+use Rattle.values.specs.declared.object.Feature.{Feature}
+use Rattle.values.specs.declared.object.Feature.TheVariants as features
+use Rattle.values.specs.declared.refusal.Refusal.{Refusal}
+use Rattle.values.specs.declared.refusal.Refusal.TheVariants as refusal
+use Rattle.values.specs.declared.language_names.object_methods.FeatureMethod.{FeatureMethod}
+use Rattle.values.specs.declared.language_names.object_methods.FeatureMethod.TheVariants.{Allowed, Auto, Disabled, Enabled}
+use Rattle.values.specs.language_names.ObjectMethods.{feature_method_named}
 
 abbrev pub is_enabled : Feature → Bool
 is_enabled features.Enabled = true

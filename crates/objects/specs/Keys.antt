@@ -1,8 +1,8 @@
 -- What the machine file says at a key.
 use Rattle.std.specs.Prelude.{ℕ, List, Option, Some, unwrap_or}
 use Rattle.std.specs.Option.{option_and_then}
-use Rattle.data.specs.Data.{Data, text}
-use Rattle.data.specs.Limits.{within}
+use Rattle.values.specs.Data.{Data, text}
+use Rattle.values.specs.Limits.{within}
 use Rattle.machine.specs.machine_file.Questions.{Answer, Key, plain, value_of_answer}
 use Rattle.machine.specs.machine_file.Readers.{text_said}
 use Rattle.world.specs.Deed.{Deed, give, consult, ◌>>=◌, answered}

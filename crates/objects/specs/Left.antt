@@ -1,8 +1,8 @@
 -- The methods that are left out for good.
 use Rattle.std.specs.Prelude.{ℕ, Bool, false, List}
 use Rattle.objects.specs.CompilerNames.{is_left_out as is_left_out_of_compilers}
-use Rattle.data.specs.declared.object.Object.{Object}
-use Rattle.data.specs.declared.object.Object.TheVariants as objects
+use Rattle.values.specs.declared.object.Object.{Object}
+use Rattle.values.specs.declared.object.Object.TheVariants as objects
 
 -- whether a method of this name is left out; the compiler alone has such
 abbrev pub is_left_out : Object → List ℕ → Bool

@@ -2,14 +2,14 @@
 use Rattle.std.specs.Prelude.{ℕ, List, [], Option, Some, None, codes}
 use Rattle.arguments.specs.Arguments.{ArgumentsData}
 use Rattle.arguments.specs.Row.{row}
-use Rattle.basics.specs.declared.faults.refusal.Refusal.TheVariants as refusals
+use Rattle.support.specs.declared.faults.refusal.Refusal.TheVariants as refusals
 use Rattle.objects.specs.Keys.{keyed}
-use Rattle.data.specs.Data.{Data}
-use Rattle.data.specs.declared.language_names.object_methods.MachineMethod.{MachineMethod}
-use Rattle.data.specs.declared.language_names.object_methods.MachineMethod.TheVariants.{Cpu, CpuFamily, Endian, System}
+use Rattle.values.specs.Data.{Data}
+use Rattle.values.specs.declared.language_names.object_methods.MachineMethod.{MachineMethod}
+use Rattle.values.specs.declared.language_names.object_methods.MachineMethod.TheVariants.{Cpu, CpuFamily, Endian, System}
 use Rattle.world.specs.Deed.{Deed, refuse, ◌>>=◌}
 use Rattle.world.specs.Fit.{fit}
-use Rattle.data.specs.language_names.ObjectMethods.{machine_method_named}
+use Rattle.values.specs.language_names.ObjectMethods.{machine_method_named}
 
 -- what the section `host_machine` of the machine file has at the method's key, or what stands in its place
 abbrev pub told : MachineMethod → Deed (Option Data)

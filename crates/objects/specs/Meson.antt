@@ -2,16 +2,16 @@
 use Rattle.std.specs.Prelude.{ℕ, false, ◌==◌, List, length, Option, Some, None, Result, Ok, Err, codes, bytes_eq, if◌then◌else◌}
 use Rattle.arguments.specs.Arguments.{ArgumentsData}
 use Rattle.arguments.specs.Given.{text_at}
-use Rattle.data.specs.Data.{Data, boolean, object, text}
-use Rattle.data.specs.Limits.{within}
-use Rattle.data.specs.declared.object.Object.TheVariants as objects
-use Rattle.data.specs.declared.refusal.Refusal.{Refusal}
-use Rattle.data.specs.declared.refusal.Refusal.TheVariants as refusal
-use Rattle.paths.specs.Below.{path_below}
+use Rattle.values.specs.Data.{Data, boolean, object, text}
+use Rattle.values.specs.Limits.{within}
+use Rattle.values.specs.declared.object.Object.TheVariants as objects
+use Rattle.values.specs.declared.refusal.Refusal.{Refusal}
+use Rattle.values.specs.declared.refusal.Refusal.TheVariants as refusal
+use Rattle.support.specs.paths.Below.{path_below}
 use Rattle.world.specs.World.{Facts}
-use Rattle.data.specs.declared.language_names.object_methods.MesonMethod.{MesonMethod}
-use Rattle.data.specs.declared.language_names.object_methods.MesonMethod.TheVariants as methods
-use Rattle.data.specs.language_names.ObjectMethods.{meson_method_named}
+use Rattle.values.specs.declared.language_names.object_methods.MesonMethod.{MesonMethod}
+use Rattle.values.specs.declared.language_names.object_methods.MesonMethod.TheVariants as methods
+use Rattle.values.specs.language_names.ObjectMethods.{meson_method_named}
 
 -- a folder of the tree below a root; the root folder is the root itself
 abbrev pub folder_below : List ℕ → List ℕ → List ℕ

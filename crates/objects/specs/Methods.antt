@@ -6,14 +6,14 @@ use Rattle.arguments.specs.declared.rule.Rule.{Rule}
 use Rattle.arguments.specs.declared.rule.Rule.TheVariants as rules
 use Rattle.objects.specs.CompilerMethods as compilers
 use Rattle.objects.specs.configuration_calls.Methods as configurations
-use Rattle.data.specs.Data.{Data}
-use Rattle.data.specs.declared.object.Object.{Object}
-use Rattle.data.specs.declared.object.Object.TheVariants as objects
-use Rattle.data.specs.declared.refusal.Refusal.{Refusal}
-use Rattle.data.specs.declared.refusal.Refusal.TheVariants as refusal
-use Rattle.data.specs.language_names.ObjectMethods.{build_target_method_named, custom_target_method_named, dependency_method_named}
-use Rattle.data.specs.language_names.ObjectMethods.{feature_method_named, machine_method_named, meson_method_named}
-use Rattle.data.specs.language_names.ObjectMethods.{output_method_named, program_method_named}
+use Rattle.values.specs.Data.{Data}
+use Rattle.values.specs.declared.object.Object.{Object}
+use Rattle.values.specs.declared.object.Object.TheVariants as objects
+use Rattle.values.specs.declared.refusal.Refusal.{Refusal}
+use Rattle.values.specs.declared.refusal.Refusal.TheVariants as refusal
+use Rattle.values.specs.language_names.ObjectMethods.{build_target_method_named, custom_target_method_named, dependency_method_named}
+use Rattle.values.specs.language_names.ObjectMethods.{feature_method_named, machine_method_named, meson_method_named}
+use Rattle.values.specs.language_names.ObjectMethods.{output_method_named, program_method_named}
 use Rattle.world.specs.Deed.{Deed, give, read, ◌>>=◌}
 use Rattle.world.specs.Fit.{fit}
 use Rattle.world.specs.Ruled.{answered_by}

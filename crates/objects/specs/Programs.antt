@@ -1,15 +1,15 @@
 -- The methods of a program: the type `external_program` of the page "Reference manual".
 use Rattle.std.specs.Prelude.{ℕ, Bool, true, false, List, [], ◌∷◌, Option, Some, None, Result, Ok, Err}
-use Rattle.data.specs.Data.{Data, boolean, text}
-use Rattle.data.specs.Limits.{within}
-use Rattle.data.specs.declared.object.Program.{Program}
-use Rattle.data.specs.declared.object.Program.TheVariants as programs
-use Rattle.data.specs.declared.refusal.Refusal.{Refusal}
-use Rattle.data.specs.declared.refusal.Refusal.TheVariants as refusal
-use Rattle.data.specs.declared.language_names.object_methods.ProgramMethod.{ProgramMethod}
-use Rattle.data.specs.declared.language_names.object_methods.ProgramMethod.TheVariants.{Found, FullPath}
-use Rattle.data.specs.language_names.ObjectMethods.{program_method_named}
-use Rattle.paths.specs.Below.{path_below}
+use Rattle.values.specs.Data.{Data, boolean, text}
+use Rattle.values.specs.Limits.{within}
+use Rattle.values.specs.declared.object.Program.{Program}
+use Rattle.values.specs.declared.object.Program.TheVariants as programs
+use Rattle.values.specs.declared.refusal.Refusal.{Refusal}
+use Rattle.values.specs.declared.refusal.Refusal.TheVariants as refusal
+use Rattle.values.specs.declared.language_names.object_methods.ProgramMethod.{ProgramMethod}
+use Rattle.values.specs.declared.language_names.object_methods.ProgramMethod.TheVariants.{Found, FullPath}
+use Rattle.values.specs.language_names.ObjectMethods.{program_method_named}
+use Rattle.support.specs.paths.Below.{path_below}
 
 abbrev pub is_found : Program → Bool
 is_found programs.NotFound = false

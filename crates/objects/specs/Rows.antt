@@ -2,8 +2,8 @@
 use Rattle.std.specs.Prelude.{ℕ, List, [], ◌∷◌, bytes_eq, codes, if◌then◌else◌}
 use Rattle.arguments.specs.declared.row.Kind.TheVariants.{Text}
 use Rattle.arguments.specs.Row.{RowData, row}
-use Rattle.data.specs.declared.object.Object.{Object}
-use Rattle.data.specs.declared.object.Object.TheVariants as objects
+use Rattle.values.specs.declared.object.Object.{Object}
+use Rattle.values.specs.declared.object.Object.TheVariants as objects
 
 -- what the method with a name takes
 abbrev pub row_of : Object → List ℕ → RowData

@@ -2,21 +2,21 @@
 -- "Reference manual".
 use Rattle.std.specs.Prelude.{ℕ, zero, suc, ◌+◌, List, [], ◌∷◌, Option, Some, None, Result, Err, slice_get, option_map}
 use Rattle.std.specs.Prelude.{option_and_then}
-use Rattle.data.specs.Data.{Data, list, object, text, Items, no_items, item}
-use Rattle.data.specs.Limits.{within}
-use Rattle.data.specs.declared.object.Object.TheVariants as objects
-use Rattle.data.specs.declared.refusal.Refusal.{Refusal}
-use Rattle.data.specs.declared.refusal.Refusal.TheVariants as refusal
-use Rattle.targets.specs.edge.Texts.{Path, Text}
-use Rattle.paths.specs.Below.{path_below}
-use Rattle.targets.specs.Data.{TargetData, Build, Custom}
-use Rattle.paths.specs.Paths.{path_in}
-use Rattle.targets.specs.Files.{file_path}
-use Rattle.targets.specs.Libraries.{LinkedData, linked_of}
+use Rattle.values.specs.Data.{Data, list, object, text, Items, no_items, item}
+use Rattle.values.specs.Limits.{within}
+use Rattle.values.specs.declared.object.Object.TheVariants as objects
+use Rattle.values.specs.declared.refusal.Refusal.{Refusal}
+use Rattle.values.specs.declared.refusal.Refusal.TheVariants as refusal
+use Rattle.build.specs.edge.Texts.{Path, Text}
+use Rattle.support.specs.paths.Below.{path_below}
+use Rattle.build.specs.Data.{TargetData, Build, Custom}
+use Rattle.support.specs.paths.Paths.{path_in}
+use Rattle.build.specs.Files.{file_path}
+use Rattle.build.specs.Libraries.{LinkedData, linked_of}
 use Rattle.world.specs.World.{Facts}
-use Rattle.data.specs.declared.language_names.object_methods.TargetMethod.{TargetMethod}
-use Rattle.data.specs.declared.language_names.object_methods.TargetMethod.TheVariants.{FullPath, Name, ToList}
-use Rattle.data.specs.language_names.ObjectMethods.{build_target_method_named, custom_target_method_named, output_method_named}
+use Rattle.values.specs.declared.language_names.object_methods.TargetMethod.{TargetMethod}
+use Rattle.values.specs.declared.language_names.object_methods.TargetMethod.TheVariants.{FullPath, Name, ToList}
+use Rattle.values.specs.language_names.ObjectMethods.{build_target_method_named, custom_target_method_named, output_method_named}
 
 -- ---- names
 

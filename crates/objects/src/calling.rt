@@ -14,10 +14,10 @@ use crate::meson_object::meson_answer;
 use crate::programs::program_answer;
 use crate::target_methods::{output_answer, target_answer};
 use arguments::{Arguments, Kind, Row, Rule};
-use data::language_names::MethodName;
-use data::{Object, Refusal, Value};
 use ports::{Outputs, Tree};
 use std::alloc::{AllocError, Global};
+use values::language_names::MethodName;
+use values::{Object, Refusal, Value};
 use world::{Caller, Stop, Store};
 
 /// Whether the kind of an object has a method of a name that is not left out. It takes no memory.

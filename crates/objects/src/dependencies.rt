@@ -3,9 +3,9 @@ ghost use Rattle.std.specs.Prelude.{IfOk};
 ghost use Rattle.world.specs.Prelude.{Answers};
 ghost use Rattle.objects.specs.Dependencies.{answer, version_of};
 
-use data::language_names::{DependencyMethod, MethodName};
-use data::{Dependency, Refusal, Value};
 use std::alloc::{AllocError, Global};
+use values::language_names::{DependencyMethod, MethodName};
+use values::{Dependency, Refusal, Value};
 
 fn version_of(alloc: Global, dependency: &Dependency) -> Result<Result<Value, Refusal>, AllocError>
     ensures { IfOk result (λ r. Answers (version_of dependency.now) r) }

@@ -3,8 +3,8 @@ ghost use Rattle.std.specs.Prelude.{◌≡◌};
 ghost use Rattle.world.specs.Prelude.{Answers};
 ghost use Rattle.objects.specs.Features.{answer, tells};
 
-use data::language_names::{FeatureMethod, MethodName};
-use data::{Feature, Refusal, Value};
+use values::language_names::{FeatureMethod, MethodName};
+use values::{Feature, Refusal, Value};
 
 fn tells(method: FeatureMethod, feature: Feature) -> bool
     ensures { result ≡ tells method feature }

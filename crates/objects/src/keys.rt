@@ -3,8 +3,8 @@ ghost use Rattle.std.specs.Prelude.{option_map};
 ghost use Rattle.world.specs.Prelude.{Does, data_of};
 ghost use Rattle.objects.specs.Keys.{keyed};
 
-use data::Value;
 use ports::{Outputs, Tree};
+use values::Value;
 use world::{Caller, Stop};
 
 /// The text that a section of the machine file has at a key, or else this one: E22 where it is too long.

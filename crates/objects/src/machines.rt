@@ -1,14 +1,14 @@
 //! The methods of a machine: the type `build_machine` of the page "Reference manual".
 ghost use Rattle.std.specs.Prelude.{option_map};
-ghost use Rattle.data.specs.language_names.ObjectMethods.{machine_method_named};
+ghost use Rattle.values.specs.language_names.ObjectMethods.{machine_method_named};
 ghost use Rattle.world.specs.Prelude.{Does, data_of};
 ghost use Rattle.objects.specs.Machines.{told, told_by};
 
 use crate::keys::read_key;
-use basics::faults::Refusal;
-use data::Value;
-use data::language_names::{MachineMethod, MethodName};
 use ports::{Outputs, Tree};
+use support::faults::Refusal;
+use values::Value;
+use values::language_names::{MachineMethod, MethodName};
 use world::{Caller, Stop};
 
 // What a method gives.

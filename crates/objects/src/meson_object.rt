@@ -1,28 +1,28 @@
 //! The methods of the object `meson`: the page of its type in the manual.
 ghost use Rattle.std.specs.Prelude.{◌≡◌, IfOk, string_bytes};
-ghost use Rattle.data.specs.Data.{text};
+ghost use Rattle.values.specs.Data.{text};
 ghost use Rattle.world.specs.Prelude.{Answers, arguments_data, within, world_of};
 ghost use Rattle.objects.specs.Meson.{answer, compiler_of, folder_below};
 
 use arguments::Arguments;
-use data::language_names::{MesonMethod, MethodName};
-use data::{Object, Refusal, Value};
-use paths::path_below;
 use std::alloc::{AllocError, Global};
+use support::paths::path_below;
+use values::language_names::{MesonMethod, MethodName};
+use values::{Object, Refusal, Value};
 use world::Store;
 
 /// The source root of the run.
 pub fn source_root(store: &Store) -> &str
     ensures { result.now ≡ (world_of store.now).facts.settings.source_root }
 {
-    store.settings().source_root.as_str()
+    store.settings().source_root()
 }
 
 /// The build root of the run.
 pub fn build_root(store: &Store) -> &str
     ensures { result.now ≡ (world_of store.now).facts.settings.build_root }
 {
-    store.settings().build_root.as_str()
+    store.settings().build_root()
 }
 
 // A folder of the tree below a root.

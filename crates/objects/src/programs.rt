@@ -4,10 +4,10 @@ ghost use Rattle.world.specs.Prelude.{Answers, world_of};
 ghost use Rattle.objects.specs.Programs.{answer, first_word, full_path, is_found};
 
 use crate::meson_object::source_root;
-use data::language_names::{MethodName, ProgramMethod};
-use data::{Program, Refusal, Text, Value};
-use paths::path_below;
 use std::alloc::{AllocError, Global};
+use support::paths::path_below;
+use values::language_names::{MethodName, ProgramMethod};
+use values::{Program, Refusal, Text, Value};
 use world::Store;
 
 fn is_found(program: &Program) -> bool

@@ -1,20 +1,20 @@
 //! The methods of targets, and of the outputs of custom targets: the types `build_tgt`, `custom_tgt` and `custom_idx` of the page
 //! "Reference manual".
 ghost use Rattle.std.specs.Prelude.{◌≡◌, IfOk, Some, option_map, string_bytes};
-ghost use Rattle.targets.specs.edge.Texts.{texts};
-ghost use Rattle.targets.specs.LinkedViews.{linked_views};
-ghost use Rattle.targets.specs.View.{target_view};
+ghost use Rattle.build.specs.edge.Texts.{texts};
+ghost use Rattle.build.specs.LinkedViews.{linked_views};
+ghost use Rattle.build.specs.View.{target_view};
 ghost use Rattle.world.specs.Prelude.{Answers, items_of, world_of};
 ghost use Rattle.objects.specs.Targets.{answer_by, at, name_of, name_value};
 ghost use Rattle.objects.specs.Targets.{only_path, output_answer, output_list, output_of, outputs_from, path_of, path_value};
 ghost use Rattle.objects.specs.Targets.{told_of};
 
 use crate::meson_object::build_root;
-use data::language_names::{MethodName, TargetMethod};
-use data::{List, Object, Refusal, Value};
-use paths::{path_below, path_in};
+use build::{Linked, Target, file_path, target_at};
 use std::alloc::{AllocError, Global};
-use targets::{Linked, Target, file_path, target_at};
+use support::paths::{path_below, path_in};
+use values::language_names::{MethodName, TargetMethod};
+use values::{List, Object, Refusal, Value};
 use world::Store;
 
 // ---- what a target has

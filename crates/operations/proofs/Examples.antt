@@ -1,8 +1,8 @@
 -- What the definitions say of operations that are written out.
 use Rattle.std.proofs.Common.{◌≡◌, pos, negsuc, true, false, [], ◌∷◌, codes, Ok, Err, refl}
-use Rattle.data.specs.declared.object.Object.TheVariants as TheObject
-use Rattle.data.specs.declared.refusal.Refusal.TheVariants as refusal
-use Rattle.data.specs.Data.{boolean, integer, text, list, dictionary, object, no_items, item, no_entries, entry}
+use Rattle.values.specs.declared.object.Object.TheVariants as TheObject
+use Rattle.values.specs.declared.refusal.Refusal.TheVariants as refusal
+use Rattle.values.specs.Data.{boolean, integer, text, list, dictionary, object, no_items, item, no_entries, entry}
 use Rattle.operations.specs.declared.operators.operator.Binary.TheVariants.{Add, Divide, Remainder, Equal, Less, In}
 use Rattle.operations.specs.declared.operators.operator.Unary.TheVariants.{Negate}
 use Rattle.operations.specs.operators.Operations.{unary_answer, binary_answer, disabler}

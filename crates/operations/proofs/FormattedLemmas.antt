@@ -4,15 +4,15 @@ use Rattle.std.specs.Prelude.{Result, ◌&&◌, nat_le, if◌then◌else◌}
 use Rattle.std.specs.List.{list_all, flat_map}
 use Rattle.std.proofs.lemmas.Bool.Decides.{nat_tests}
 use Rattle.std.proofs.lemmas.Bool.{cond-true, cond-false}
-use Rattle.data.specs.declared.refusal.Refusal.{Refusal}
-use Rattle.data.specs.declared.refusal.Refusal.TheVariants as refusal
-use Rattle.data.specs.declared.value.Value.{Value}
-use Rattle.data.specs.Data.{Data}
-use Rattle.data.specs.Limits.{within_bytes, Appends}
-use Rattle.data.specs.View.{data_of}
-use Rattle.data.specs.printing.Printed.{is_printable}
-use Rattle.data.specs.declared.texts.placed.Places.TheVariants as places
-use Rattle.data.specs.texts.Segments.{Segment, segments}
+use Rattle.values.specs.declared.refusal.Refusal.{Refusal}
+use Rattle.values.specs.declared.refusal.Refusal.TheVariants as refusal
+use Rattle.values.specs.declared.value.Value.{Value}
+use Rattle.values.specs.Data.{Data}
+use Rattle.values.specs.Limits.{within_bytes, Appends}
+use Rattle.values.specs.View.{data_of}
+use Rattle.values.specs.printing.Printed.{is_printable}
+use Rattle.values.specs.declared.texts.placed.Places.TheVariants as places
+use Rattle.values.specs.texts.Segments.{Segment, segments}
 use Rattle.operations.specs.methods.Formatted.{has_value, filled, formatted_text}
 
 list_all-data_of : (vs : List Value) → list_all is_printable (map data_of vs) ≡ list_all (λ v. is_printable (data_of v)) vs

@@ -10,7 +10,7 @@ use Rattle.std.proofs.lemmas.Int.{ints}
 use Rattle.std.specs.Option.{SomeIff}
 use Rattle.std.specs.Prelude.{if◌then◌else◌}
 use Rattle.std.specs.Int.RustNames.{FitsSigned}
-use Rattle.basics.specs.Limits.{is_in_range}
+use Rattle.support.specs.Limits.{is_in_range}
 use Rattle.operations.specs.operators.Integers.{IsRest, in_range, is_zero, floor, quotient, remainder}
 
 -- one more than a, divided by n

@@ -1,10 +1,10 @@
 -- Lists within their limits.
 use Rattle.std.proofs.Common.{◌≡◌, Bool, true, false, Ok, Err, refl, sym, ap, ◌∙◌}
 use Rattle.std.specs.Prelude.{Result, if◌then◌else◌}
-use Rattle.data.specs.declared.refusal.Refusal.{Refusal}
-use Rattle.data.specs.declared.refusal.Refusal.TheVariants as refusal
-use Rattle.data.specs.Data.{Data, list, Items}
-use Rattle.data.specs.Limits.{within, items_fit}
+use Rattle.values.specs.declared.refusal.Refusal.{Refusal}
+use Rattle.values.specs.declared.refusal.Refusal.TheVariants as refusal
+use Rattle.values.specs.Data.{Data, list, Items}
+use Rattle.values.specs.Limits.{within, items_fit}
 
 abbrev made : {X : Type 0} → (X → Data) → Result X Refusal → Result Data Refusal
 made f (Ok x) = Ok (f x)

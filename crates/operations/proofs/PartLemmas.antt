@@ -1,8 +1,8 @@
 -- Items by their place.
 use Rattle.std.proofs.Common.{◌≡◌, ℕ, zero, suc, option_map, List, [], ◌∷◌, refl}
 use Rattle.std.specs.Prelude.{slice_get}
-use Rattle.data.specs.View.{data_of, items_of}
-use Rattle.data.specs.declared.value.Value.{Value}
+use Rattle.values.specs.View.{data_of, items_of}
+use Rattle.values.specs.declared.value.Value.{Value}
 use Rattle.operations.specs.operators.Index.{item_at}
 
 pub item_at-items_of : (vs : List Value) (k : ℕ) → item_at (items_of vs) k ≡ option_map data_of (slice_get vs k)

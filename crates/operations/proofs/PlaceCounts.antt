@@ -4,8 +4,8 @@ use Rattle.std.specs.Prelude.{◌&&◌, slice_get, option_and_then, if◌then◌
 use Rattle.std.proofs.lemmas.Bool.Decides.{nat_tests}
 use Rattle.std.proofs.lemmas.Option.{slice_get_past}
 use Rattle.std.specs.Str.Parse.{digits_value}
-use Rattle.data.specs.Data.{Data}
-use Rattle.data.specs.texts.Segments.{is_number}
+use Rattle.values.specs.Data.{Data}
+use Rattle.values.specs.texts.Segments.{is_number}
 use Rattle.operations.specs.methods.PlaceNumbers.{PlacesCount}
 
 counted : (values : List Data) (n most : ℕ) (a b : Bool) → length values ≤ most → nat_lt n most ≡ b

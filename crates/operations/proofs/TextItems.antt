@@ -6,15 +6,15 @@ use Rattle.std.proofs.Math.Seq.{get_or-append_seam, set-append_seam}
 use Rattle.std.proofs.lemmas.Bool.{cond-true, cond-false}
 use Rattle.std.proofs.lemmas.List.{at_drop_more}
 use Rattle.std.specs.Prelude.{nat_le}
-use Rattle.data.specs.Data.{text, Items, no_items, item, items_append}
-use Rattle.data.specs.Limits.{Appends, within}
-use Rattle.data.specs.View.{data_of, items_of}
-use Rattle.data.specs.declared.refusal.Refusal.{Refusal}
-use Rattle.data.specs.declared.refusal.Refusal.TheVariants as refusals
-use Rattle.data.specs.declared.text.Text.{Text}
-use Rattle.data.specs.declared.value.Value.{Value}
-use Rattle.data.specs.declared.value.Value.TheVariants as values
-use Rattle.data.proofs.ItemsLemmas.{items_of-push}
+use Rattle.values.specs.Data.{text, Items, no_items, item, items_append}
+use Rattle.values.specs.Limits.{Appends, within}
+use Rattle.values.specs.View.{data_of, items_of}
+use Rattle.values.specs.declared.refusal.Refusal.{Refusal}
+use Rattle.values.specs.declared.refusal.Refusal.TheVariants as refusals
+use Rattle.values.specs.declared.text.Text.{Text}
+use Rattle.values.specs.declared.value.Value.{Value}
+use Rattle.values.specs.declared.value.Value.TheVariants as values
+use Rattle.values.proofs.ItemsLemmas.{items_of-push}
 use Rattle.operations.specs.operators.TextLists.{PutsText, and_then, texts_behind}
 
 -- one text more

@@ -1,8 +1,8 @@
 -- Texts as items, one after another.
 use Rattle.std.proofs.Common.{◌≡◌, ℕ, ◌+◌, ◌<◌, Bor, List, ◌∷◌, map, length, drop, get_or, ap}
 use Rattle.std.proofs.lemmas.List.{drop_more}
-use Rattle.data.specs.Data.{text, Items, no_items, item, items_append}
-use Rattle.data.proofs.ItemsLemmas.{items_append_assoc}
+use Rattle.values.specs.Data.{text, Items, no_items, item, items_append}
+use Rattle.values.proofs.ItemsLemmas.{items_append_assoc}
 use Rattle.operations.specs.methods.TextLists.{texts}
 
 pub next_text : (ts : List (Bor (List ℕ))) (i : ℕ) (x : Bor (List ℕ)) → i < length ts

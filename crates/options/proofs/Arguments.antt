@@ -6,8 +6,8 @@ use Rattle.std.specs.Prelude.{◌||◌, bytes_eq, if◌then◌else◌}
 use Rattle.std.specs.List.{list_any}
 use Rattle.std.specs.Option.{option_and_then}
 use Rattle.std.specs.declared.alloc.Global.{Global}
-use Rattle.grammar.specs.declared.tree.Argument.{Argument}
-use Rattle.grammar.specs.ExpressionTree.{ArgumentTree, NoArgument, MoreArguments, arguments, argument_of, argument_trees}
+use Rattle.syntax.specs.declared.tree.Argument.{Argument}
+use Rattle.syntax.specs.ExpressionTree.{ArgumentTree, NoArgument, MoreArguments, arguments, argument_of, argument_trees}
 use Rattle.machine.specs.option_values.View.{strings_in}
 use Rattle.options.specs.option_file.Calls.{stands_key, with_key, gives_twice, is_left_out_key, gives_left_out, with_argument}
 use Rattle.options.specs.option_file.Calls.{keywords_from}
@@ -16,7 +16,7 @@ use Rattle.options.specs.option_file.Declarations.{Declaration}
 use Rattle.options.specs.option_file.Keywords.{Keywords, nothing_given}
 use Rattle.options.specs.option_file.Misfits.{LeftOut, RefusedData, Twice, refused_as}
 use Rattle.options.specs.option_file.Unfit.{listed}
-use Rattle.basics.specs.Among.{is_among}
+use Rattle.support.specs.Among.{is_among}
 use Rattle.options.proofs.Walks.{next_is, none_is}
 
 trees_at : (xs : List Argument) (i : ℕ) (x : Argument) → i < length xs → x ≡ get_or xs i x

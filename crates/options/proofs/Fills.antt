@@ -5,7 +5,7 @@ use Rattle.std.specs.List.{slice_get}
 use Rattle.std.specs.declared.alloc.Global.{Global}
 use Rattle.std.specs.Map.{lookup, set_value}
 use Rattle.std.specs.Str.{bytes_eq}
-use Rattle.basics.specs.Maps.{set_value_at}
+use Rattle.support.specs.Maps.{set_value_at}
 use Rattle.machine.specs.option_values.Values.{Value}
 use Rattle.machine.specs.declared.option_values.settings.Setting.{Setting}
 use Rattle.machine.specs.option_values.Settings as plain

@@ -7,7 +7,7 @@ use Rattle.std.specs.Option.{option_and_then}
 use Rattle.std.proofs.lemmas.List.{append-nil}
 use Rattle.std.proofs.lemmas.List.Sums.{fold-append}
 use Rattle.machine.specs.machine_file.Files as machine
-use Rattle.basics.specs.Among.{is_among}
+use Rattle.support.specs.Among.{is_among}
 use Rattle.machine.specs.declared.option_values.kind.FeatureState.{FeatureState}
 use Rattle.machine.specs.declared.option_values.kind.FeatureState.TheVariants as feature
 use Rattle.machine.specs.option_values.BuiltIns.{built_ins, built_in_kinds, built_in_kind, levels}

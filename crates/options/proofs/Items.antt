@@ -4,8 +4,8 @@ use Rattle.std.proofs.Common.{map, refl, sym, ap, ◌∙◌, append_assoc, arith
 use Rattle.std.specs.Option.{option_map}
 use Rattle.std.specs.declared.alloc.Global.{Global}
 use Rattle.std.proofs.lemmas.List.{append-nil, map-append}
-use Rattle.grammar.specs.declared.tree.Expression.{Expression}
-use Rattle.grammar.specs.ExpressionTree.{ExpressionTree, expression_of, expressions}
+use Rattle.syntax.specs.declared.tree.Expression.{Expression}
+use Rattle.syntax.specs.ExpressionTree.{ExpressionTree, expression_of, expressions}
 use Rattle.machine.specs.option_values.View.{strings_in}
 use Rattle.options.specs.declared.option_file.declaration.Given.{Given as Written}
 use Rattle.options.specs.declared.option_file.declaration.Given.TheVariants as written

@@ -5,8 +5,8 @@ use Rattle.std.specs.Prelude.{◌||◌, ◌&&◌, not, bytes_eq, codes, if◌the
 use Rattle.std.proofs.lemmas.Slice.Eq.{bytes_eq-Decides}
 use Rattle.std.specs.Option.{option_map, option_and_then}
 use Rattle.options.specs.option_file.Misfits.{RefusedData, NoCall, refused_as}
-use Rattle.grammar.specs.ExpressionTree.{ExpressionTree, ArgumentTrees, NoArgument, MoreArguments, FunctionTree}
-use Rattle.grammar.specs.Tree.{StatementTree, ValueTree}
+use Rattle.syntax.specs.ExpressionTree.{ExpressionTree, ArgumentTrees, NoArgument, MoreArguments, FunctionTree}
+use Rattle.syntax.specs.Tree.{StatementTree, ValueTree}
 use Rattle.machine.specs.option_values.BuiltIns.{is_built_in}
 use Rattle.machine.specs.option_values.Kinds.{Kind}
 use Rattle.options.specs.option_file.Calls.{gives_twice, gives_left_out, is_free_name, name_in, with_name, keywords_from, option_of}

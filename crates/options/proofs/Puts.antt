@@ -6,7 +6,7 @@ use Rattle.std.proofs.lemmas.List.{length-map}
 use Rattle.machine.specs.declared.option_values.built_in.BuiltIn.{BuiltIn}
 use Rattle.std.specs.declared.alloc.Global.{Global}
 use Rattle.std.specs.String.{string_eq}
-use Rattle.basics.specs.Maps.{insert_entry}
+use Rattle.support.specs.Maps.{insert_entry}
 use Rattle.machine.specs.declared.option_values.settings.Setting.{Setting}
 use Rattle.machine.specs.option_values.BuiltIns.{built_ins}
 use Rattle.machine.specs.option_values.View.{row_in}

@@ -3,7 +3,7 @@ use Rattle.std.proofs.Common.{◌≡◌, ℕ, ◌<◌, ◌≤◌, ◌^◌, Bool,
 use Rattle.std.specs.Prelude.{nat_lt, if◌then◌else◌}
 use Rattle.std.specs.Option.{option_map}
 use Rattle.std.proofs.lemmas.Bool.Decides.{nat_tests}
-use Rattle.lexer.specs.Numerals.{magnitude}
+use Rattle.syntax.specs.lexer.Numerals.{magnitude}
 use Rattle.machine.specs.machine_file.Numbers.{integer_of}
 use Rattle.options.specs.option_file.Given.{integer, numeral}
 use Rattle.options.specs.option_file.Numbers.{past_integers, number_of}

@@ -1,7 +1,7 @@
 -- The statements of a file, one by one.
 use Rattle.std.proofs.Common.{◌≡◌, ℕ, ◌+◌, ◌<◌, ◌≤◌, List, [], length, drop, get_or, Result, Ok, Err, map, sym, ap, ◌∙◌}
-use Rattle.grammar.specs.declared.tree.Statement.{Statement}
-use Rattle.grammar.specs.Tree.{StatementTree, statement_of}
+use Rattle.syntax.specs.declared.tree.Statement.{Statement}
+use Rattle.syntax.specs.Tree.{StatementTree, statement_of}
 use Rattle.options.specs.option_file.Misfits.{RefusedData}
 use Rattle.options.specs.option_file.Declarations.{Declaration}
 use Rattle.options.specs.option_file.Declares.{line_of, after, go_on, declares_from}

@@ -2,7 +2,7 @@
 use Rattle.std.proofs.Common.{◌≡◌, ℕ, ◌+◌, Bool, true, List, [], ◌∷◌, ◌++◌, map, Option, Some, None, refl, sym, ap, ◌∙◌}
 use Rattle.std.proofs.Common.{append_assoc}
 use Rattle.std.specs.List.{list_all, flat_map}
-use Rattle.lexer.specs.Bytes.{equals}
+use Rattle.syntax.specs.lexer.Bytes.{equals}
 use Rattle.machine.specs.machine_file.Files as machine
 use Rattle.machine.specs.machine_file.Texts.{Parts, cut_first}
 use Rattle.machine.specs.machine_file.Values as written

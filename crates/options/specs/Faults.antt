@@ -1,7 +1,7 @@
 -- A fault of an option's value, as a run tells it.
 use Rattle.std.specs.Prelude.{ℕ, List, codes}
-use Rattle.basics.specs.Faults.{FaultData}
-use Rattle.basics.specs.declared.faults.refusal.Refusal.{Refusal}
+use Rattle.support.specs.Faults.{FaultData}
+use Rattle.support.specs.declared.faults.refusal.Refusal.{Refusal}
 use Rattle.options.specs.declared.fault.Place.{Place}
 use Rattle.options.specs.declared.fault.Place.TheVariants.{Declared, Project, MachineFile, CommandLine}
 

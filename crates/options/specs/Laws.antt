@@ -1,7 +1,7 @@
 -- What holds of all final values.
 use Rattle.std.specs.Prelude.{ℕ, Bool, true, false, List, [], ◌∷◌, map, Option, Some, None, bytes_eq, if◌then◌else◌}
 use Rattle.std.specs.List.{list_all}
-use Rattle.basics.specs.Among.{is_among}
+use Rattle.support.specs.Among.{is_among}
 use Rattle.machine.specs.option_values.BuiltIns.{BuiltIn, built_ins}
 use Rattle.machine.specs.option_values.Integers.{is_within}
 use Rattle.machine.specs.option_values.Kinds as kind

@@ -1,8 +1,8 @@
 -- What is wrong with a value that a place gives an option, and the words that say so.
 use Rattle.std.specs.Prelude.{ℕ, List, ◌++◌, Option, Some, None, codes}
 use Rattle.std.specs.Fmt.{signed_decimal}
-use Rattle.basics.specs.declared.faults.refusal.Refusal.{Refusal}
-use Rattle.basics.specs.declared.faults.refusal.Refusal.TheVariants as refusals
+use Rattle.support.specs.declared.faults.refusal.Refusal.{Refusal}
+use Rattle.support.specs.declared.faults.refusal.Refusal.TheVariants as refusals
 use Rattle.machine.specs.machine_file.Values as written
 use Rattle.options.specs.option_file.Given as given
 use Rattle.machine.specs.option_values.Given.{boolean_text}

@@ -1,7 +1,7 @@
 -- What it means that a place gives an option a value.
 use Rattle.std.specs.Prelude.{ℕ, ◌+◌, Bool, true, false, ◌&&◌, List, [], ◌∷◌, map, Option, Some, None, codes, if◌then◌else◌, bytes_eq}
 use Rattle.std.specs.Option.{option_map}
-use Rattle.lexer.specs.Bytes.{equals}
+use Rattle.syntax.specs.lexer.Bytes.{equals}
 use Rattle.machine.specs.machine_file.Files as machine
 use Rattle.machine.specs.machine_file.Texts.{Parts, cut_first}
 use Rattle.machine.specs.machine_file.Values as written

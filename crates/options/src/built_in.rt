@@ -6,9 +6,9 @@ ghost use Rattle.machine.specs.option_values.Settings.{built_in_settings, add_se
 ghost use Rattle.machine.specs.option_values.SettingsView.{settings_in};
 
 use crate::state::put;
-use basics::tables::{SipMap, new_map};
 use machine::option_values::{BuiltIn, Setting, built_in_value, built_ins};
 use std::alloc::{AllocError, Global};
+use support::tables::{SipMap, new_map};
 
 // The option of a row of the table has the value that stands there.
 fn put_value_of(

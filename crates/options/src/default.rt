@@ -8,11 +8,11 @@ ghost use Rattle.options.specs.Defaults.{first_of, value_of_kind, boolean_of, in
 ghost use Rattle.options.specs.Defaults.{declared_value, value_or_kind, default_of};
 
 use crate::option_file::{Declaration, Given};
-use basics::text_lists::copies;
 use machine::option_values::{
     Choices, FeatureState, OptionKind, OptionValue, is_within, value_of_items, value_of_text,
 };
 use std::alloc::{AllocError, Global};
+use support::text_lists::copies;
 
 // A combo's first choice.
 fn first_of(alloc: Global, choices: &Choices) -> Result<Option<OptionValue>, AllocError>

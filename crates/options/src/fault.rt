@@ -1,15 +1,16 @@
 //! Why options have no values.
 
 ghost use Rattle.std.specs.Prelude.{◌≡◌, IfOk};
-ghost use Rattle.basics.specs.View.{fault_view};
+ghost use Rattle.support.specs.View.{fault_view};
 ghost use Rattle.options.specs.Faults.{told_in};
 ghost use Rattle.options.specs.View.{fault_in};
 
-use basics::faults::{Fault, Refusal};
 use std::alloc::{AllocError, Global};
+use support::faults::{Fault, Refusal};
+use thiserror::Error;
 
 /// Where a value stands.
-#[derive(Clone, Copy)]
+#[derive(Clone, Copy, Debug)]
 pub enum Place {
     /// The statement on this line, from 1, of the option file.
     Declared(usize),
@@ -23,7 +24,8 @@ pub enum Place {
 
 /// What is wrong with a value, and its place: E15, where it is no value of its option, there is no such option, or it is no name
 /// with a value; or E23, where it is a value that is left out.
-#[derive(Drop)]
+#[derive(Debug, Drop, Error)]
+#[error("{refusal}{}{detail}", if .detail.is_empty() {""} else {": "})]
 pub struct OptionFault {
     pub place: Place,
     pub refusal: Refusal,

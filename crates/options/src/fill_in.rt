@@ -9,9 +9,9 @@ ghost use Rattle.machine.specs.option_values.Settings.{fill, change_at};
 ghost use Rattle.options.specs.View.{type_in};
 ghost use Rattle.machine.specs.option_values.SettingsView.{settings_in};
 
-use basics::tables::SipMap;
 use machine::option_values::{FeatureState, OptionValue, Setting};
 use std::alloc::{AllocError, Global};
+use support::tables::SipMap;
 
 /// What a type of build says of the options `debug` and `optimization`.
 #[derive(Clone, Copy)]

@@ -8,9 +8,9 @@ ghost use Rattle.machine.specs.option_values.View.{AreBuiltIns, kind_in};
 ghost use Rattle.options.specs.Verdicts.{scope_of, declared_kind, kind_named, kind_in_scope};
 
 use crate::option_file::Declared;
-use basics::tables::SipMap;
 use machine::option_values::{OptionKind, built_in_kinds};
 use std::alloc::{AllocError, Global};
+use support::tables::SipMap;
 
 /// Which options a section of the machine file knows.
 #[derive(Clone, Copy)]

@@ -1,6 +1,7 @@
 //! What is wrong with a value that a place gives an option, and the words that say so.
 
 ghost use Rattle.std.specs.Prelude.{◌≡◌, IfOk, option_map, string_bytes};
+ghost use Rattle.std.specs.Fmt.{signed_decimal};
 ghost use Rattle.options.specs.option_file.View.{given_in};
 ghost use Rattle.machine.specs.option_values.Given.{boolean_text};
 ghost use Rattle.machine.specs.option_values.View.{kind_in};
@@ -10,10 +11,11 @@ ghost use Rattle.options.specs.Misfits.{default_words, given_words, in_quotes, o
 ghost use Rattle.machine.specs.machine_file.View.{value_in as machine_value_in};
 
 use crate::option_file::Given;
-use basics::faults::Refusal;
+use itoa::Buffer;
 use machine::machine_file::MachineValue;
 use machine::option_values::{OptionKind, kind_words};
 use std::alloc::{AllocError, Global};
+use support::faults::Refusal;
 
 /// What is written at a place.
 #[derive(Clone, Copy)]
@@ -51,13 +53,20 @@ fn boolean_words(alloc: Global, boolean: bool) -> Result<String, AllocError>
     String::from_str(alloc, words)
 }
 
+fn integer_words(alloc: Global, number: i64) -> Result<String, AllocError>
+    ensures { IfOk result (λ words. string_bytes words ≡ signed_decimal number) }
+{
+    let mut buffer = Buffer::new();
+    String::from_str(alloc, buffer.format(number))
+}
+
 // A value of the machine file, a list by its form alone.
 fn value_words(alloc: Global, value: &MachineValue) -> Result<String, AllocError>
     ensures { IfOk result (λ words. string_bytes words ≡ written_words (machine_value_in value.now)) }
 {
     match value {
         MachineValue::Text(text) => in_quotes(alloc, text),
-        MachineValue::Integer(number) => format!(in alloc; "{}", *number),
+        MachineValue::Integer(number) => integer_words(alloc, *number),
         MachineValue::Boolean(boolean) => boolean_words(alloc, *boolean),
         MachineValue::Texts(_) => String::from_str(alloc, "a list"),
     }
@@ -78,7 +87,7 @@ fn given_words(alloc: Global, given: &Given) -> Result<String, AllocError>
 {
     match given {
         Given::Text(text) => in_quotes(alloc, text),
-        Given::Integer(number) => format!(in alloc; "{}", *number),
+        Given::Integer(number) => integer_words(alloc, *number),
         Given::Boolean(boolean) => boolean_words(alloc, *boolean),
         Given::Texts(_) => String::from_str(alloc, "a list"),
         Given::Other => String::from_str(alloc, "another value"),

@@ -11,9 +11,9 @@ use crate::fault::OptionFault;
 use crate::fill_in::fill_in;
 use crate::resolution::Resolved;
 use crate::verdict::Verdict;
-use basics::tables::SipMap;
 use machine::option_values::{Options, Setting};
 use std::alloc::{AllocError, Global};
+use support::tables::SipMap;
 
 /// The names of no option so far, the options with their values, and the first fault.
 pub struct State {

@@ -1,10 +1,10 @@
 -- What the definitions say of projects and of edges that are written out.
 use Rattle.std.proofs.Common.{◌≡◌, Bool, true, false, None, List, [], ◌∷◌, codes, refl, arith}
-use Rattle.targets.specs.edge.Texts.{Path, Text}
-use Rattle.targets.specs.Data.{FactsData, TargetData, Custom}
-use Rattle.project.specs.World.{WorldData, new_world}
-use Rattle.outputs.specs.ninja.Reading.{BuildEdge}
-use Rattle.outputs.specs.build_file.BuildFile.{default_outputs}
+use Rattle.build.specs.edge.Texts.{Path, Text}
+use Rattle.build.specs.Data.{FactsData, TargetData, Custom}
+use Rattle.build.specs.project.World.{WorldData, new_world}
+use Rattle.ninja.specs.Reading.{BuildEdge}
+use Rattle.ninja.specs.Defaults.{default_outputs}
 use Rattle.outputs.specs.build_file.FileEdges.{are_made, Reaches, at_once, through}
 use Rattle.outputs.specs.build_file.Means.{Means}
 

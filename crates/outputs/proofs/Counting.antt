@@ -4,12 +4,12 @@ use Rattle.std.proofs.lemmas.List.{length-map}
 use Rattle.ports.specs.Endings.{Whole}
 use Rattle.ports.specs.Outputs.{OutputState, Writes}
 use Rattle.ports.proofs.Sending.{writes_then}
-use Rattle.targets.specs.Libraries.{linked_of}
-use Rattle.targets.specs.LinkedViews.{linked_views}
-use Rattle.targets.specs.View.{target_view}
-use Rattle.targets.specs.declared.linked_target.Linked.{Linked}
-use Rattle.targets.proofs.LinkedLists.{kept_targets}
-use Rattle.project.specs.World.{WorldData}
+use Rattle.build.specs.Libraries.{linked_of}
+use Rattle.build.specs.LinkedViews.{linked_views}
+use Rattle.build.specs.View.{target_view}
+use Rattle.build.specs.declared.linked_target.Linked.{Linked}
+use Rattle.build.proofs.LinkedLists.{kept_targets}
+use Rattle.build.specs.project.World.{WorldData}
 use Rattle.outputs.specs.build_file.BuildFile.{ending_of}
 use Rattle.outputs.specs.build_file.Parts.{target_steps, targets_steps}
 use Rattle.outputs.specs.declared.build_file.stop.WriteStop.{WriteStop}

@@ -1,26 +1,21 @@
--- What is made by default: that the kept paths are the definition's, and that each is a path that Ninja can hold.
+-- What is made by default: each is a path that Ninja can hold.
 use Rattle.std.proofs.Common.{◌≡◌, ℕ, Bool, true, false, List, [], ◌∷◌, ◌++◌, map, refl, sym, ap, ◌∙◌, inl, inr}
 use Rattle.std.specs.Prelude.{◌&&◌, if◌then◌else◌}
 use Rattle.std.specs.List.{flat_map, list_all}
 use Rattle.std.proofs.lemmas.Bool.{and_parts, cases_Bool}
 use Rattle.std.proofs.lemmas.List.Folds.{flat_map-map, list_all-append}
-use Rattle.targets.specs.edge.Texts.{Path, Text}
-use Rattle.targets.specs.edge.Data.{EdgeData}
-use Rattle.targets.specs.edge.Holding.{is_path, is_some_list, is_writable, are_writable, paths_writable, values_writable}
-use Rattle.targets.specs.Data.{SurroundingsData, BuildData, TargetData, Build, Custom}
-use Rattle.targets.specs.Files.{default_paths, file_name, file_path, is_static, link_paths, object_paths}
-use Rattle.targets.specs.Libraries.{LinkedData, linked, linked_of, libraries_in}
-use Rattle.targets.specs.LinkedViews.{linked_views}
-use Rattle.targets.specs.View.{target_view}
-use Rattle.targets.specs.declared.linked_target.Linked.{Linked}
-use Rattle.targets.proofs.LinkedLists.{kept_targets}
-use Rattle.targets.specs.target_edges.Edges.{naming, file_edge, link_edges, compile_edges, custom_edge, edges_of, edges_after, all_edges}
-use Rattle.outputs.specs.build_file.BuildFile.{defaults_of, is_default}
-
--- ---- the targets, as they are kept
-
-pub asked_are : (kept : List Linked) (ts : List TargetData) → linked_views kept ≡ linked_of ts → flat_map (λ l. defaults_of (target_view l.target)) kept ≡ flat_map defaults_of ts
-asked_are kept ts e = sym (flat_map-map defaults_of (λ (l : Linked). target_view l.target) kept) ∙ ap (flat_map defaults_of) (kept_targets kept ts e)
+use Rattle.build.specs.edge.Texts.{Path, Text}
+use Rattle.build.specs.edge.Data.{EdgeData}
+use Rattle.build.specs.edge.Holding.{is_path, is_some_list, is_writable, are_writable, paths_writable, values_writable}
+use Rattle.build.specs.Data.{SurroundingsData, BuildData, TargetData, Build, Custom}
+use Rattle.build.specs.Files.{default_paths, file_name, file_path, is_static, link_paths, object_paths}
+use Rattle.build.specs.Libraries.{LinkedData, linked, linked_of, libraries_in}
+use Rattle.build.specs.LinkedViews.{linked_views}
+use Rattle.build.specs.View.{target_view}
+use Rattle.build.specs.declared.linked_target.Linked.{Linked}
+use Rattle.build.proofs.LinkedLists.{kept_targets}
+use Rattle.build.specs.target_edges.Edges.{naming, file_edge, link_edges, compile_edges, custom_edge, edges_of, edges_after, all_edges}
+use Rattle.ninja.specs.Defaults.{defaults_of, is_default}
 
 -- ---- each is a path
 

@@ -4,8 +4,8 @@ use Rattle.std.proofs.lemmas.Bool.{false≢true}
 use Rattle.ports.specs.Endings.{ended}
 use Rattle.ports.specs.Outputs.{OutputState, Step, Makes, Writes, faults}
 use Rattle.ports.specs.declared.fault.DeviceFault.{DeviceFault}
-use Rattle.basics.specs.Faults.{FaultData, fault_line}
-use Rattle.project.specs.World.{WorldData}
+use Rattle.support.specs.Faults.{FaultData, fault_line}
+use Rattle.build.specs.project.World.{WorldData}
 use Rattle.outputs.specs.build_file.BuildFile.{ending_of}
 use Rattle.outputs.specs.declared.build_file.stop.WriteStop.{WriteStop}
 use Rattle.outputs.specs.declared.build_file.stop.WriteStop.TheVariants as stops

@@ -2,7 +2,7 @@
 use Rattle.std.proofs.Common.{◌≡◌, ℕ, List, [], ◌++◌, Option, Some, None, codes, decimal, refl, sym, ap, ◌∙◌}
 use Rattle.std.proofs.lemmas.List.{map-append}
 use Rattle.ports.specs.Outputs.{Step, Faults, faults}
-use Rattle.basics.specs.Faults.{FaultData, detail_behind, detail_sign, fault_text, fault_line, number_of, words_of}
+use Rattle.support.specs.Faults.{FaultData, detail_behind, detail_sign, fault_text, fault_line, number_of, words_of}
 use Rattle.outputs.specs.build_file.FaultSteps.{behind_steps, text_steps, line_steps}
 
 pub faults-append : (a b : List ℕ) → faults (a ++ b) ≡ faults a ++ faults b

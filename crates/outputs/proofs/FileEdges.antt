@@ -5,24 +5,24 @@ use Rattle.std.specs.Prelude.{◌&&◌, slice_get, flat_map, if◌then◌else◌
 use Rattle.std.proofs.lemmas.Bool.{false≢true}
 use Rattle.std.proofs.lemmas.Slice.Eq.{bytes_eq-Decides}
 use Rattle.std.proofs.lemmas.Grind.{flat_map-append}
-use Rattle.targets.specs.edge.Texts.{Path, holds}
-use Rattle.targets.specs.edge.Paths.{source_path, is_upward}
-use Rattle.targets.specs.edge.Data.{EdgeData}
-use Rattle.targets.specs.Data.{SurroundingsData, TargetData, Build, Custom}
-use Rattle.targets.specs.Files.{default_paths, file_path, link_paths, object_paths, output_paths}
-use Rattle.targets.specs.Libraries.{LinkedData, linked}
-use Rattle.targets.specs.target_edges.Edges.{edges_of, edges_after, all_edges}
-use Rattle.project.specs.Laws.{outputs_of, AtMostOnce, all_held, all_made, outputs_if}
-use Rattle.project.specs.Laws as laws
-use Rattle.project.specs.World.{WorldData, edges_in, known_in, reserved, taken_in}
-use Rattle.project.proofs.PathLists.{times-append}
-use Rattle.project.proofs.EdgeOrder.{split_and, both, or_cases, list_all-weaker, list_all-joined, holds_append, holds_left, holds_right}
-use Rattle.project.proofs.EdgeOrder.{held_more, held_self}
-use Rattle.project.proofs.NoCycle.{member, times_held, sources_up}
-use Rattle.project.proofs.NextMade.{outputs-build}
-use Rattle.outputs.specs.ninja.Meaning.{edge_seen, edges_seen, all_seen}
-use Rattle.outputs.specs.ninja.Reading.{BuildEdge}
-use Rattle.outputs.specs.build_file.BuildFile.{defaults_of, default_outputs, is_default}
+use Rattle.build.specs.edge.Texts.{Path, holds}
+use Rattle.build.specs.edge.Paths.{source_path, is_upward}
+use Rattle.build.specs.edge.Data.{EdgeData}
+use Rattle.build.specs.Data.{SurroundingsData, TargetData, Build, Custom}
+use Rattle.build.specs.Files.{default_paths, file_path, link_paths, object_paths, output_paths}
+use Rattle.build.specs.Libraries.{LinkedData, linked}
+use Rattle.build.specs.target_edges.Edges.{edges_of, edges_after, all_edges}
+use Rattle.build.specs.project.Laws.{outputs_of, AtMostOnce, all_held, all_made, outputs_if}
+use Rattle.build.specs.project.Laws as laws
+use Rattle.build.specs.project.World.{WorldData, edges_in, known_in, reserved, taken_in}
+use Rattle.build.proofs.PathLists.{times-append}
+use Rattle.build.proofs.EdgeOrder.{split_and, both, or_cases, list_all-weaker, list_all-joined, holds_append, holds_left, holds_right}
+use Rattle.build.proofs.EdgeOrder.{held_more, held_self}
+use Rattle.build.proofs.NoCycle.{member, times_held, sources_up}
+use Rattle.build.proofs.NextMade.{outputs-build}
+use Rattle.ninja.specs.Meaning.{edge_seen, edges_seen, all_seen}
+use Rattle.ninja.specs.Reading.{BuildEdge}
+use Rattle.ninja.specs.Defaults.{defaults_of, default_outputs, is_default}
 use Rattle.outputs.specs.build_file.FileEdges.{made_by, made_by_all, made_by_if, needed_by_if, are_made, Feeds, Reaches, at_once, through}
 use Rattle.outputs.specs.build_file.Means.{edges_read, made_by_none}
 

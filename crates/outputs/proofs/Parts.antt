@@ -4,16 +4,17 @@ use Rattle.std.proofs.Common.{arith}
 use Rattle.std.specs.Prelude.{slice_get}
 use Rattle.std.proofs.lemmas.Grind.{flat_map-append}
 use Rattle.ports.specs.Outputs.{Step, opening, closing, puts}
-use Rattle.targets.specs.edge.Data.{EdgeData}
-use Rattle.targets.specs.edge.Texts.{Path}
-use Rattle.targets.specs.Data.{SurroundingsData}
-use Rattle.targets.specs.Libraries.{LinkedData, linked_of}
-use Rattle.project.specs.World.{WorldData, edges_in}
-use Rattle.project.specs.Adding.{edges_at, edges_between, edges_by_number, edges_if}
-use Rattle.outputs.specs.ninja.Writing.{edge_text, edges_text, head_text, tail_text}
-use Rattle.outputs.specs.build_file.BuildFile.{build_steps, default_outputs}
-use Rattle.outputs.specs.build_file.Parts.{head_steps, parts_steps, tail_steps, target_steps, targets_steps}
-use Rattle.outputs.proofs.Puts.{puts-append, puts-nil}
+use Rattle.build.specs.edge.Data.{EdgeData}
+use Rattle.build.specs.edge.Texts.{Path}
+use Rattle.build.specs.Data.{SurroundingsData}
+use Rattle.build.specs.Libraries.{LinkedData, linked_of}
+use Rattle.build.specs.project.World.{WorldData, edges_in}
+use Rattle.build.specs.project.Adding.{edges_at, edges_between, edges_by_number, edges_if}
+use Rattle.ninja.specs.Writing.{edge_text, edges_text, head_text, tail_text}
+use Rattle.outputs.specs.build_file.BuildFile.{build_steps}
+use Rattle.ninja.specs.Defaults.{default_outputs}
+use Rattle.outputs.specs.build_file.Parts.{parts_steps, target_steps, targets_steps}
+use Rattle.ninja.proofs.Puts.{puts-append, puts-nil}
 
 -- ---- one target after another
 
@@ -87,9 +88,8 @@ four_parts a h t e c =
     ap (λ r. a ++ r) (ap (λ r. puts h ++ r) (sym (append_assoc (puts e) (puts t) c) ∙ ap (λ r. r ++ c) (sym (puts-append e t))) ∙ sym (append_assoc (puts h) (puts (e ++ t)) c) ∙ ap (λ r. r ++ c) (sym (puts-append h (e ++ t))))
 
 -- the parts that are written are the file
-pub parts-build_steps : (w : WorldData) (paths : List Path) → edges_by_number w ≡ edges_in w → paths ≡ default_outputs w → parts_steps w paths ≡ build_steps w
-unfolding head_steps targets_steps tail_steps
-parts-build_steps w paths e same =
-    four_parts (opening (codes "build.ninja")) head_text (tail_text paths) (edges_text (edges_by_number w)) closing
-    ∙ ap (λ es. opening (codes "build.ninja") ++ (puts (head_text ++ (edges_text es ++ tail_text paths)) ++ closing)) e
-    ∙ ap (λ ps. opening (codes "build.ninja") ++ (puts (head_text ++ (edges_text (edges_in w) ++ tail_text ps)) ++ closing)) same
+pub parts-build_steps : (w : WorldData) → edges_by_number w ≡ edges_in w → parts_steps w ≡ build_steps w
+unfolding targets_steps
+parts-build_steps w e =
+    four_parts (opening (codes "build.ninja")) head_text (tail_text (default_outputs w)) (edges_text (edges_by_number w)) closing
+    ∙ ap (λ es. opening (codes "build.ninja") ++ (puts (head_text ++ (edges_text es ++ tail_text (default_outputs w))) ++ closing)) e

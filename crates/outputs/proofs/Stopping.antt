@@ -46,11 +46,3 @@ pub writes_ends_at : {X B : Type 0} (f : X → List Step) {old mid new : OutputS
     → Writes mid (f x) (ending_of {B = Unit {0}} (Err s)) new → Writes old (flat_map f xs) (ending_of r) new
 writes_ends_at f xs i x r s before lt at e w =
     rw (← take-append-drop i xs, flat_map-append, drop_more xs i x lt, ← at) (writes_then before (writes_ends r s (flat_map f (drop (i + 1) xs)) e w))
-
--- bytes that are put, as the text that they are
-pub writes_as : {old new : OutputState} {e : Ending} (bytes text : List ℕ) → bytes ≡ text → Writes old (puts bytes) e new → Writes old (puts text) e new
-writes_as {old = old} {new = new} {e = e} bytes text same w = subst (λ b. Writes old (puts b) e new) same w
-
--- a run, as the run that it is
-pub writes_over : {old new : OutputState} {e : Ending} (a b : List Step) → a ≡ b → Writes old a e new → Writes old b e new
-writes_over {old = old} {new = new} {e = e} a b same w = subst (λ run. Writes old run e new) same w

@@ -4,27 +4,27 @@ use Rattle.std.proofs.Common.{ap, subst, ◌∙◌, arith}
 use Rattle.std.specs.List.{flat_map}
 use Rattle.std.proofs.lemmas.Grind.{flat_map-append}
 use Rattle.ports.specs.Outputs.{Step, puts}
-use Rattle.targets.specs.edge.Data.{EdgeData}
-use Rattle.targets.specs.edge.Holding.{is_some_list}
-use Rattle.targets.specs.edge.Parts.{OwnData, joined}
-use Rattle.targets.specs.edge.Paths.{object_path}
-use Rattle.targets.specs.edge.Texts.{Path, Text, texts}
-use Rattle.targets.specs.edge.View.{edge_view}
-use Rattle.targets.specs.declared.edge.edge.Edge.{Edge}
-use Rattle.targets.specs.declared.edge.rule.Rule.TheVariants.{CCompile}
-use Rattle.targets.specs.Inputs.{input_view}
-use Rattle.targets.specs.Sources.{InputData}
-use Rattle.targets.specs.declared.sources.Input.{Input}
-use Rattle.targets.specs.target_edges.Parts.{compile_own, compile_shared, has_first, joined_edge}
-use Rattle.targets.specs.target_edges.PartsView.{build_parts_edges, parts_edges}
-use Rattle.targets.specs.declared.target_edges.parts.BuildParts.{BuildParts}
-use Rattle.targets.specs.declared.target_edges.parts.TargetParts.{TargetParts}
-use Rattle.project.specs.Adding.{edges_at}
-use Rattle.project.specs.World.{WorldData}
-use Rattle.outputs.specs.ninja.Parts.{shared_text}
-use Rattle.outputs.specs.ninja.Writing.{edge_text, edges_text}
+use Rattle.build.specs.edge.Data.{EdgeData}
+use Rattle.build.specs.edge.Holding.{is_some_list}
+use Rattle.build.specs.edge.Parts.{OwnData, SharedData}
+use Rattle.build.specs.edge.Paths.{object_path}
+use Rattle.build.specs.edge.Texts.{Path, Text, texts}
+use Rattle.build.specs.edge.View.{edge_view}
+use Rattle.build.specs.declared.edge.edge.Edge.{Edge}
+use Rattle.build.specs.declared.edge.rule.Rule.TheVariants.{CCompile}
+use Rattle.build.specs.Inputs.{input_view}
+use Rattle.build.specs.Sources.{InputData}
+use Rattle.build.specs.declared.sources.Input.{Input}
+use Rattle.build.specs.target_edges.Parts.{compile_own, compile_shared, has_first, joined_edge}
+use Rattle.build.specs.target_edges.PartsView.{build_parts_edges, parts_edges}
+use Rattle.build.specs.declared.target_edges.parts.BuildParts.{BuildParts}
+use Rattle.build.specs.declared.target_edges.parts.TargetParts.{TargetParts}
+use Rattle.build.specs.project.Adding.{edges_at}
+use Rattle.build.specs.project.World.{WorldData}
+use Rattle.ninja.specs.Parts.{shared_text}
+use Rattle.ninja.specs.Writing.{edge_text, edges_text}
 use Rattle.outputs.specs.build_file.Parts.{target_steps}
-use Rattle.outputs.proofs.Puts.{puts-append, puts-flat_map}
+use Rattle.ninja.proofs.Puts.{puts-append, puts-flat_map}
 
 -- where something is compiled, there is a first word
 pub first_held : (ws : List (String Global)) (xs : List Input) (i : ℕ) → i < length xs → has_first ws xs ≡ true → is_some_list (texts ws) ≡ true
@@ -41,14 +41,11 @@ own_is object source depfile description words is a b c d e =
     ∙ ap (λ x. record is { description = x; depfile = depfile }) d
     ∙ ap (λ x. record is { depfile = x }) e
 
--- the block that is made from what is shared and what the edge has of its own
-pub compile_block : {T E : Type 0} (r : Result T E) (new old shared : List ℕ) (front : List Text) (generated : List Path) (file : Path) (i : InputData) (own : OwnData)
-    → shared ≡ shared_text generated front → is_some_list front ≡ true → own ≡ compile_own (object_path file i.name) i.path
-    → ((o : List (List ℕ)) (w : List ℕ) (ws : List (List ℕ)) → shared ≡ shared_text o (w ∷ ws) → IfOk r (λ _. new ≡ old ++ edge_text (joined (record { rule = CCompile; order_only = o; words = w ∷ ws }) own)))
-    → IfOk r (λ _. new ≡ old ++ edge_text (joined_edge front generated file i))
-compile_block r new old shared [] generated file i own h s e f = absurd cc
-compile_block r new old shared (w ∷ ws) generated file i own h s e f =
-    subst (λ (o : OwnData). IfOk r (λ _. new ≡ old ++ edge_text (joined (compile_shared (w ∷ ws) generated) o))) e (f generated w ws h)
+pub shared_is : (order_only words : List Path) (is_order_only is_words : List Path) → order_only ≡ is_order_only → words ≡ is_words
+    → (let shared : SharedData = record { rule = CCompile; order_only = order_only; words = words } in shared ≡ compile_shared is_words is_order_only)
+shared_is order_only words is_order_only is_words a b =
+    ap (λ x. let shared : SharedData = record { rule = CCompile; order_only = x; words = words } in shared) a
+    ∙ ap (λ x. let shared : SharedData = record { rule = CCompile; order_only = is_order_only; words = x } in shared) b
 
 -- ---- all edges of a target
 

@@ -1,3 +1,1 @@
 pub mod build_file
-pub mod introspection
-pub mod ninja

@@ -5,7 +5,6 @@
 //! nothing. [`conclude`] ends a run with all outputs, [`refuse`] with the line of a fault.
 
 mod concluding;
-mod defaults;
 mod document;
 mod fault;
 mod law;

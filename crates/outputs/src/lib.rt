@@ -2,5 +2,3 @@
 #![tactic(auto)]
 
 pub mod build_file;
-pub mod introspection;
-pub mod ninja;

@@ -2,3 +2,5 @@ pub mod Going
 pub mod OpenNames
 pub mod Sending
 pub mod Untold
+pub mod Files
+pub mod Recorded

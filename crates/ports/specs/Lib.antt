@@ -5,3 +5,4 @@ pub mod NoOutputs
 pub mod Outputs
 pub mod Reading
 pub mod Tree
+pub mod memory

@@ -52,6 +52,7 @@ mod disk_folder;
 mod disk_outputs;
 mod disk_tree;
 mod fault;
+pub mod memory;
 mod no_outputs;
 mod outputs;
 mod send;

@@ -1,6 +1,6 @@
 -- Answers that are handed on as they are.
 use Rattle.std.proofs.Common.{◌≡◌, Result, Ok, Err, refl, ap}
-use Rattle.data.specs.declared.refusal.Refusal.{Refusal}
+use Rattle.values.specs.declared.refusal.Refusal.{Refusal}
 use Rattle.world.specs.Answering.{State, Carries, IsAnswered, Views}
 use Rattle.world.specs.Deed.{answered}
 use Rattle.world.specs.declared.stop.Stop.{Stop}

@@ -1,10 +1,10 @@
 -- `declare_dependency`: lists that a target takes over.
 use Rattle.std.specs.Prelude.{Option, Some}
 use Rattle.arguments.specs.Arguments.{ArgumentsData}
-use Rattle.data.specs.Data.{Data, object}
-use Rattle.data.specs.declared.object.Dependency.{Dependency}
-use Rattle.data.specs.declared.object.Object.TheVariants as objects
-use Rattle.targets.specs.Libraries.{linked_of}
+use Rattle.values.specs.Data.{Data, object}
+use Rattle.values.specs.declared.object.Dependency.{Dependency}
+use Rattle.values.specs.declared.object.Object.TheVariants as objects
+use Rattle.build.specs.Libraries.{linked_of}
 use Rattle.world.specs.Deed.{Deed, give, read, ◌>>=◌, answered}
 use Rattle.world.specs.Fit.{passed}
 use Rattle.resource_calls.specs.JoinedLists.{joined_dependency}

@@ -1,17 +1,17 @@
 -- `dependency`: what the machine file has.
 use Rattle.std.specs.Prelude.{ℕ, Bool, false, List, [], ◌∷◌, Option, Some, None, codes, Result}
 use Rattle.arguments.specs.Arguments.{ArgumentsData}
-use Rattle.data.specs.Flat.{flat_all}
+use Rattle.values.specs.Flat.{flat_all}
 use Rattle.arguments.specs.Given.{text_at, texts}
 use Rattle.arguments.specs.declared.given.Requirement.{Requirement}
 use Rattle.arguments.specs.declared.given.Requirement.TheVariants as requirements
-use Rattle.data.specs.Data.{Data, object}
-use Rattle.data.specs.declared.object.Dependency.{Dependency}
-use Rattle.data.specs.declared.object.Object.TheVariants as objects
-use Rattle.data.specs.declared.refusal.Refusal.{Refusal}
-use Rattle.basics.specs.declared.faults.refusal.Refusal.TheVariants as refusals
+use Rattle.values.specs.Data.{Data, object}
+use Rattle.values.specs.declared.object.Dependency.{Dependency}
+use Rattle.values.specs.declared.object.Object.TheVariants as objects
+use Rattle.values.specs.declared.refusal.Refusal.{Refusal}
+use Rattle.support.specs.declared.faults.refusal.Refusal.TheVariants as refusals
 use Rattle.machine.specs.machine_file.Questions.{dependency_topic}
-use Rattle.project.specs.World.{AnswerData}
+use Rattle.build.specs.project.World.{AnswerData}
 use Rattle.named_sources.specs.resources.Beside.{call_question}
 use Rattle.named_sources.specs.resources.Fitting.{dependency_that_fits}
 use Rattle.named_sources.specs.resources.Found.{missing}

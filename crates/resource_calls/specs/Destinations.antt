@@ -6,10 +6,10 @@ use Rattle.arguments.specs.Each.{each_said}
 use Rattle.arguments.specs.Leaves.{leaves_from}
 use Rattle.arguments.specs.Said.{Said, ◌>>=◌, found}
 use Rattle.arguments.specs.declared.rule.Rule.TheVariants as rules
-use Rattle.targets.specs.edge.Texts.{Path, Text}
-use Rattle.paths.specs.Below.{path_below}
-use Rattle.project.specs.World.{InstallData}
-use Rattle.paths.specs.Names.{plain_name}
+use Rattle.build.specs.edge.Texts.{Path, Text}
+use Rattle.support.specs.paths.Below.{path_below}
+use Rattle.build.specs.project.World.{InstallData}
+use Rattle.support.specs.paths.Names.{plain_name}
 use Rattle.named_sources.specs.resources.Installs.{destination, headers_folder, man_folder}
 use Rattle.named_sources.specs.Sources.{NamedData, tree, built, sources_of}
 use Rattle.world.specs.Here.{HereData, here_of}

@@ -1,6 +1,6 @@
 -- Folders and files that are installed, without where they lie in memory.
 use Rattle.std.specs.Prelude.{map}
-use Rattle.project.specs.View.{install_view}
+use Rattle.build.specs.project.View.{install_view}
 use Rattle.named_sources.specs.SourcesView.{named_view}
 use Rattle.world.specs.HereView.{here_view}
 use Rattle.resource_calls.specs.Destinations.{FoldersData, SaidData}

@@ -1,8 +1,8 @@
 -- `install_headers`, `install_data` and `install_man`: files that are installed.
 use Rattle.std.specs.Prelude.{List, [], ◌∷◌, Option, None}
 use Rattle.arguments.specs.Arguments.{ArgumentsData}
-use Rattle.data.specs.Data.{Data}
-use Rattle.project.specs.World.{InstallData}
+use Rattle.values.specs.Data.{Data}
+use Rattle.build.specs.project.World.{InstallData}
 use Rattle.world.specs.Declaring.{add_install}
 use Rattle.world.specs.Deed.{Deed, give, read, ◌>>=◌}
 use Rattle.world.specs.Fit.{passed}

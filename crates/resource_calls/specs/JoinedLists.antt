@@ -3,18 +3,18 @@ use Rattle.std.specs.Prelude.{ℕ, true, false, List, [], ◌∷◌, ◌++◌, l
 use Rattle.std.specs.Prelude.{Result, Ok}
 use Rattle.arguments.specs.Arguments.{ArgumentsData}
 use Rattle.arguments.specs.Given.{keyword, text_given, texts}
-use Rattle.data.specs.Data.{Data}
-use Rattle.data.specs.Limits.{within_bytes}
-use Rattle.data.specs.declared.object.Dependency.{Dependency}
-use Rattle.data.specs.declared.object.Source.{Source}
-use Rattle.data.specs.declared.object.Source.TheVariants as source
-use Rattle.data.specs.declared.refusal.Refusal.{Refusal}
-use Rattle.targets.specs.edge.Texts.{Path, Text}
+use Rattle.values.specs.Data.{Data}
+use Rattle.values.specs.Limits.{within_bytes}
+use Rattle.values.specs.declared.object.Dependency.{Dependency}
+use Rattle.values.specs.declared.object.Source.{Source}
+use Rattle.values.specs.declared.object.Source.TheVariants as source
+use Rattle.values.specs.declared.refusal.Refusal.{Refusal}
+use Rattle.build.specs.edge.Texts.{Path, Text}
 use Rattle.named_sources.specs.resources.Found.{◌>>=◌, found, within_texts}
 use Rattle.named_sources.specs.resources.Joined.{dependencies_in, joined}
 use Rattle.named_sources.specs.Outputs.{outputs_at}
 use Rattle.named_sources.specs.Sources.{NamedData, tree, built, outputs, output}
-use Rattle.targets.specs.Libraries.{LinkedData}
+use Rattle.build.specs.Libraries.{LinkedData}
 use Rattle.resource_calls.specs.OwnLists.{OwnData}
 
 -- ---- sources, as a value of the language has them

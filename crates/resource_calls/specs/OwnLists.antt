@@ -5,12 +5,12 @@ use Rattle.arguments.specs.Arguments.{ArgumentsData}
 use Rattle.arguments.specs.Leaves.{leaves_named}
 use Rattle.arguments.specs.Said.{Said, ◌>>=◌, found}
 use Rattle.arguments.specs.declared.rule.Rule.TheVariants as rules
-use Rattle.data.specs.Data.{Data}
-use Rattle.targets.specs.edge.Texts.{Path}
+use Rattle.values.specs.Data.{Data}
+use Rattle.build.specs.edge.Texts.{Path}
 use Rattle.named_sources.specs.Folders.{folders_of}
 use Rattle.named_sources.specs.Libraries.{numbers_of}
 use Rattle.named_sources.specs.Sources.{NamedData, sources_of}
-use Rattle.targets.specs.Libraries.{LinkedData, is_library_at}
+use Rattle.build.specs.Libraries.{LinkedData, is_library_at}
 use Rattle.world.specs.Here.{HereData}
 
 -- the numbers where each is that of a library

@@ -1,6 +1,6 @@
 -- What a call lists of its own, without where it lies in memory.
 use Rattle.std.specs.Prelude.{map}
-use Rattle.targets.specs.edge.Texts.{texts}
+use Rattle.build.specs.edge.Texts.{texts}
 use Rattle.named_sources.specs.SourcesView.{named_view}
 use Rattle.resource_calls.specs.OwnLists.{OwnData}
 use Rattle.resource_calls.specs.declared.own_lists.Own.{Own}

@@ -1,20 +1,20 @@
 -- `find_program`: a program of the machine file, or a file of the tree.
 use Rattle.std.specs.Prelude.{Bool, true, false, List, [], ◌∷◌, Option, Some, None, codes, option_map, Result}
 use Rattle.arguments.specs.Arguments.{ArgumentsData}
-use Rattle.data.specs.Flat.{flat_all}
+use Rattle.values.specs.Flat.{flat_all}
 use Rattle.arguments.specs.declared.rule.Rule.TheVariants as rules
 use Rattle.arguments.specs.Given.{text_at}
 use Rattle.arguments.specs.declared.given.Requirement.{Requirement}
 use Rattle.arguments.specs.declared.given.Requirement.TheVariants as requirements
-use Rattle.data.specs.Data.{Data, object}
-use Rattle.data.specs.Limits.{within_bytes}
-use Rattle.data.specs.declared.object.Object.TheVariants as objects
-use Rattle.data.specs.declared.object.Program.{Program}
-use Rattle.data.specs.declared.object.Program.TheVariants as programs
-use Rattle.data.specs.declared.refusal.Refusal.{Refusal}
-use Rattle.targets.specs.edge.Texts.{Path, Text}
-use Rattle.basics.specs.declared.faults.refusal.Refusal.TheVariants as refusals
-use Rattle.paths.specs.Paths.{tree_path}
+use Rattle.values.specs.Data.{Data, object}
+use Rattle.values.specs.Limits.{within_bytes}
+use Rattle.values.specs.declared.object.Object.TheVariants as objects
+use Rattle.values.specs.declared.object.Program.{Program}
+use Rattle.values.specs.declared.object.Program.TheVariants as programs
+use Rattle.values.specs.declared.refusal.Refusal.{Refusal}
+use Rattle.build.specs.edge.Texts.{Path, Text}
+use Rattle.support.specs.declared.faults.refusal.Refusal.TheVariants as refusals
+use Rattle.support.specs.paths.Paths.{tree_path}
 use Rattle.machine.specs.machine_file.Questions.{Key, plain}
 use Rattle.named_sources.specs.resources.Fitting.{program_words}
 use Rattle.named_sources.specs.resources.Found.{within_texts}

@@ -5,10 +5,10 @@ use Rattle.arguments.specs.Given.{argument, text_at}
 use Rattle.arguments.specs.Said.{Said, ◌>>=◌, found}
 use Rattle.arguments.specs.declared.rule.Rule.{Rule}
 use Rattle.arguments.specs.declared.rule.Rule.TheVariants as rules
-use Rattle.data.specs.Data.{Data, object}
-use Rattle.data.specs.declared.object.Object.{Object}
-use Rattle.data.specs.declared.object.Object.TheVariants as objects
-use Rattle.targets.specs.edge.Texts.{Text}
+use Rattle.values.specs.Data.{Data, object}
+use Rattle.values.specs.declared.object.Object.{Object}
+use Rattle.values.specs.declared.object.Object.TheVariants as objects
+use Rattle.build.specs.edge.Texts.{Text}
 use Rattle.named_sources.specs.resources.Testing.{environment}
 use Rattle.resource_calls.specs.TestCommands.{command_given}
 use Rattle.world.specs.Here.{HereData}

@@ -1,5 +1,5 @@
 -- What a test runs, without where it lies in memory.
-use Rattle.targets.specs.edge.Texts.{texts}
+use Rattle.build.specs.edge.Texts.{texts}
 use Rattle.resource_calls.specs.Runs.{RunData}
 use Rattle.resource_calls.specs.declared.runs.Run.{Run}
 

@@ -4,13 +4,13 @@ use Rattle.arguments.specs.Arguments.{ArgumentsData}
 use Rattle.arguments.specs.Given.{argument}
 use Rattle.arguments.specs.Leaves.{leaves_named}
 use Rattle.arguments.specs.Maybe.{◌>>=◌}
-use Rattle.data.specs.Data.{Data, text, object}
-use Rattle.data.specs.declared.object.Program.{Program}
-use Rattle.data.specs.declared.object.Program.TheVariants as programs
-use Rattle.targets.specs.edge.Texts.{Path, Text}
-use Rattle.paths.specs.Below.{path_below}
-use Rattle.targets.specs.Data.{BuildData}
-use Rattle.targets.specs.Files.{file_path, is_library}
+use Rattle.values.specs.Data.{Data, text, object}
+use Rattle.values.specs.declared.object.Program.{Program}
+use Rattle.values.specs.declared.object.Program.TheVariants as programs
+use Rattle.build.specs.edge.Texts.{Path, Text}
+use Rattle.support.specs.paths.Below.{path_below}
+use Rattle.build.specs.Data.{BuildData}
+use Rattle.build.specs.Files.{file_path, is_library}
 use Rattle.arguments.specs.Each.{all_behind}
 use Rattle.named_sources.specs.Things.{ThingData, a_file, a_program, a_target, all_outputs, an_output, thing_of}
 use Rattle.world.specs.Here.{HereData}

@@ -2,9 +2,9 @@
 use Rattle.std.specs.Prelude.{ℤ, pos, false, Option, None, codes, Result, Ok, Err}
 use Rattle.arguments.specs.Arguments.{ArgumentsData}
 use Rattle.arguments.specs.Given.{flag, integer_of, text_at, texts}
-use Rattle.data.specs.Data.{Data}
-use Rattle.data.specs.declared.refusal.Refusal.{Refusal}
-use Rattle.project.specs.World.{TestData}
+use Rattle.values.specs.Data.{Data}
+use Rattle.values.specs.declared.refusal.Refusal.{Refusal}
+use Rattle.build.specs.project.World.{TestData}
 use Rattle.named_sources.specs.resources.Testing.{seconds_of}
 use Rattle.world.specs.Declaring.{add_test}
 use Rattle.world.specs.Deed.{Deed, give, read, ◌>>=◌, answered}

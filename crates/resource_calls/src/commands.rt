@@ -1,20 +1,20 @@
 //! The command of a test. Files and targets are absolute paths.
 ghost use Rattle.std.specs.Prelude.{◌≡◌, IfOk, map, option_map, string_bytes};
-ghost use Rattle.targets.specs.edge.Texts.{texts};
+ghost use Rattle.build.specs.edge.Texts.{texts};
 ghost use Rattle.arguments.specs.Each.{all_behind};
 ghost use Rattle.named_sources.specs.ThingsView.{thing_view};
-ghost use Rattle.paths.specs.Below.{path_below};
-ghost use Rattle.targets.specs.View.{build_view};
+ghost use Rattle.support.specs.paths.Below.{path_below};
+ghost use Rattle.build.specs.View.{build_view};
 ghost use Rattle.world.specs.Prelude.{arguments_data, data_of, here_view};
 ghost use Rattle.resource_calls.specs.TestCommands.{argument_words, command_given, command_of, command_words, file_word, one_word};
 ghost use Rattle.resource_calls.specs.TestCommands.{target_word, thing_in, word_if_executable, words_of, words_of_program};
 
 use arguments::Arguments;
-use data::{Program, Value};
+use build::{BuildTarget, file_path};
 use named_sources::{Thing, strings, thing_of};
-use paths::path_below;
 use std::alloc::{AllocError, Global};
-use targets::{BuildTarget, file_path};
+use support::paths::path_below;
+use values::{Program, Value};
 use world::Here;
 
 // ---- things of the project, by the words that they are

@@ -9,8 +9,8 @@ use crate::joined_lists::joined_dependency;
 use crate::named_files::require_files;
 use crate::own_lists::{Own, own_lists};
 use arguments::Arguments;
-use data::{Dependency, Object, Value};
 use ports::{Outputs, Tree};
+use values::{Dependency, Object, Value};
 use world::{Caller, Stop};
 
 // The dependency with these lists, or the refusal of lists that are too long.

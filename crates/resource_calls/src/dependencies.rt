@@ -1,6 +1,6 @@
 //! `dependency`: <https://mesonbuild.com/Reference-manual_functions.html#dependency>.
 ghost use Rattle.std.specs.Prelude.{◌≡◌, IfOk, map, option_map};
-ghost use Rattle.project.specs.View.{answer_view};
+ghost use Rattle.build.specs.project.View.{answer_view};
 ghost use Rattle.world.specs.Prelude.{Does, MayFail, arguments_data, data_of};
 ghost use Rattle.resource_calls.specs.Dependency.{answer_of, dependency, dependency_named, first_said, fitting_dependency};
 ghost use Rattle.resource_calls.specs.Dependency.{give_noted, none_fits};
@@ -9,13 +9,13 @@ ghost use Rattle.resource_calls.specs.Required.{required_by};
 use crate::giving::give_object;
 use crate::required::{gives_disabler, object_or, read_required};
 use arguments::{Arguments, Requirement};
-use basics::faults::Refusal;
-use data::{Dependency, Object, Value};
+use build::project::Answer;
 use machine::machine_file::Topic;
 use named_sources::resources::{call_question, dependency_that_fits, missing_dependency};
 use ports::{Outputs, Tree};
-use project::Answer;
 use std::alloc::{AllocError, Global};
+use support::faults::Refusal;
+use values::{Dependency, Object, Value};
 use world::{Caller, Stop};
 
 // The dependency of a name that the machine file has in a version that fits; for the empty name nothing is asked. Beside the question the
@@ -24,7 +24,7 @@ fn dependency_named<T: Tree, O: Outputs>(
     caller: &mut Caller<'_, T, O>,
     name: &str,
     arguments: &Arguments,
-) -> Result<Option<Result<Dependency, data::Refusal>>, Stop>
+) -> Result<Option<Result<Dependency, values::Refusal>>, Stop>
     ensures { Does T.seen O.seen (λ d. d) (dependency_named name.now (arguments_data arguments.now)) caller.old result caller.new }
 {
     if name.is_empty() {
@@ -43,7 +43,7 @@ fn first_said<T: Tree, O: Outputs>(
     caller: &mut Caller<'_, T, O>,
     names: &[&str],
     arguments: &Arguments,
-) -> Result<Option<Result<Dependency, data::Refusal>>, Stop>
+) -> Result<Option<Result<Dependency, values::Refusal>>, Stop>
     ensures { Does T.seen O.seen (λ d. d) (first_said (arguments_data arguments.now) (map (λ n. n.now) names.now))
         caller.old result caller.new }
 {
@@ -60,7 +60,7 @@ fn first_said<T: Tree, O: Outputs>(
 fn fitting_dependency<T: Tree, O: Outputs>(
     caller: &mut Caller<'_, T, O>,
     arguments: &Arguments,
-) -> Result<Option<Result<Dependency, data::Refusal>>, Stop>
+) -> Result<Option<Result<Dependency, values::Refusal>>, Stop>
     ensures { let a = arguments_data arguments.now in Does T.seen O.seen (λ d. d) (fitting_dependency (required_by a) a)
         caller.old result caller.new }
 {
@@ -86,7 +86,7 @@ fn answer_of(alloc: Global, dependency: &Dependency) -> Result<Answer, AllocErro
 // Notes a dependency, and gives it or a disabler in its place; refuses the call where what is said of it is too large.
 fn give_noted<T: Tree, O: Outputs>(
     caller: &mut Caller<'_, T, O>,
-    said: Result<Dependency, data::Refusal>,
+    said: Result<Dependency, values::Refusal>,
     is_disabled: bool,
 ) -> Result<Option<Value>, Stop>
     ensures { Does T.seen O.seen (option_map data_of) (give_noted said is_disabled) caller.old result caller.new }

@@ -3,7 +3,7 @@ ghost use Rattle.std.specs.Prelude.{◌≡◌, IfOk, [], codes, map, option_map,
 ghost use Rattle.arguments.specs.Each.{each_said};
 ghost use Rattle.arguments.specs.Given.{text_given};
 ghost use Rattle.arguments.specs.Refused.{said_data};
-ghost use Rattle.project.specs.View.{install_view};
+ghost use Rattle.build.specs.project.View.{install_view};
 ghost use Rattle.named_sources.specs.SourcesView.{named_view};
 ghost use Rattle.world.specs.Prelude.{arguments_data, state_of};
 ghost use Rattle.resource_calls.specs.Destinations.{folders_in, given_or, install_at, install_folder, install_of, installed, path_said};
@@ -11,12 +11,12 @@ ghost use Rattle.resource_calls.specs.Destinations.{said_of, usual_folder};
 ghost use Rattle.resource_calls.specs.DestinationsView.{folders_view, said_view};
 
 use arguments::{Arguments, Refused, Rule};
+use build::project::Install;
 use named_sources::resources::{destination, headers_folder, man_folder};
 use named_sources::{NamedSource, sources_of};
-use paths::{path_below, plain_name};
 use ports::{Outputs, Tree};
-use project::Install;
 use std::alloc::{AllocError, Global};
+use support::paths::{path_below, plain_name};
 use world::{Caller, Here};
 
 /// What sort of file is installed.

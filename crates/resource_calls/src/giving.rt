@@ -1,11 +1,11 @@
 //! What a call gives.
 ghost use Rattle.std.specs.Prelude.{Some, option_map};
-ghost use Rattle.data.specs.Data.{object};
+ghost use Rattle.values.specs.Data.{object};
 ghost use Rattle.world.specs.Prelude.{Does, data_of};
 ghost use Rattle.world.specs.Deed.{give};
 
-use data::{Object, Value};
 use ports::{Outputs, Tree};
+use values::{Object, Value};
 use world::{Caller, Stop};
 
 /// The object as a value.

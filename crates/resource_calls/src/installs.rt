@@ -1,16 +1,16 @@
 //! `install_headers`, `install_data` and `install_man`: <https://mesonbuild.com/Reference-manual_functions.html#install_headers> and its
 //! like.
 ghost use Rattle.std.specs.Prelude.{map, option_map};
-ghost use Rattle.project.specs.View.{install_view};
+ghost use Rattle.build.specs.project.View.{install_view};
 ghost use Rattle.world.specs.Prelude.{Does, MayFail, arguments_data, data_of};
 ghost use Rattle.resource_calls.specs.Installs.{all_installed, install};
 
 use crate::destinations::{Call, Sort, folders_in, said_of};
 use crate::named_files::require_files;
 use arguments::Arguments;
-use data::Value;
+use build::project::Install;
 use ports::{Outputs, Tree};
-use project::Install;
+use values::Value;
 use world::{Caller, Stop};
 
 // Notes where each file goes.

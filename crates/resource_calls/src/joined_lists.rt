@@ -2,7 +2,7 @@
 ghost use Rattle.std.specs.Prelude.{◌≡◌, codes, IfOk, map};
 ghost use Rattle.arguments.specs.Given.{keyword};
 ghost use Rattle.named_sources.specs.SourcesView.{named_view};
-ghost use Rattle.targets.specs.LinkedViews.{linked_views};
+ghost use Rattle.build.specs.LinkedViews.{linked_views};
 ghost use Rattle.world.specs.Prelude.{arguments_data, here_view};
 ghost use Rattle.resource_calls.specs.JoinedLists.{count_at, dependencies_given, joined_dependency, source_of};
 ghost use Rattle.resource_calls.specs.JoinedLists.{sources_within, tree_source, version_or, with_arguments, with_own};
@@ -10,11 +10,11 @@ ghost use Rattle.resource_calls.specs.OwnListsView.{own_view};
 
 use crate::own_lists::Own;
 use arguments::Arguments;
-use data::{Dependency, Refusal, Source, Sources, Text, Texts};
+use build::Linked;
 use named_sources::resources::{dependencies_in, found_dependency, join, within_texts};
 use named_sources::{NamedSource, outputs_at};
 use std::alloc::{AllocError, Global};
-use targets::Linked;
+use values::{Dependency, Refusal, Source, Sources, Text, Texts};
 use world::Here;
 
 // ---- sources

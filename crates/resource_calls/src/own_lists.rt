@@ -2,15 +2,15 @@
 ghost use Rattle.std.specs.Prelude.{◌≡◌, IfOk, codes, option_map};
 ghost use Rattle.arguments.specs.Leaves.{leaves_named};
 ghost use Rattle.arguments.specs.Refused.{said_data};
-ghost use Rattle.targets.specs.LinkedViews.{linked_views};
+ghost use Rattle.build.specs.LinkedViews.{linked_views};
 ghost use Rattle.world.specs.Prelude.{arguments_data, here_view};
 ghost use Rattle.resource_calls.specs.OwnLists.{if_libraries, libraries_of, own_lists};
 ghost use Rattle.resource_calls.specs.OwnListsView.{own_view};
 
 use arguments::{Arguments, Refused, Rule};
+use build::{Linked, are_libraries};
 use named_sources::{NamedSource, folders_named, numbers_named, sources_named};
 use std::alloc::{AllocError, Global};
-use targets::{Linked, are_libraries};
 use world::Here;
 
 /// What a call lists of its own.

@@ -8,11 +8,11 @@ ghost use Rattle.resource_calls.specs.Required.{required_by};
 use crate::giving::give_object;
 use crate::required::{gives_disabler, object_or, read_required};
 use arguments::{Arguments, Requirement, Rule};
-use basics::faults::Refusal;
-use data::{Object, Program, Text, Value};
 use named_sources::resources::program_words;
-use paths::tree_path;
 use ports::{Outputs, Tree};
+use support::faults::Refusal;
+use support::paths::tree_path;
+use values::{Object, Program, Text, Value};
 use world::{Caller, Stop};
 
 // ---- the program of a name
@@ -37,7 +37,7 @@ fn program_at<T: Tree, O: Outputs>(
 fn named_path<T: Tree, O: Outputs>(caller: &Caller<'_, T, O>, name: &str) -> Result<String, Stop>
     ensures { Does T.seen O.seen string_bytes (named_path name.now) caller.now result caller.now }
 {
-    let source_root = caller.store.settings().source_root.as_str();
+    let source_root = caller.store.settings().source_root();
     let path = tree_path(caller.alloc, source_root, caller.store.folder(), name)?;
     match path {
         Some(path) => Ok(path),

@@ -4,7 +4,7 @@ ghost use Rattle.world.specs.Prelude.{arguments_data};
 ghost use Rattle.resource_calls.specs.Required.{gives_disabler, object_or, required_by};
 
 use arguments::{Arguments, Requirement};
-use data::Object;
+use values::Object;
 
 /// What the keyword `required` says; where it is not given, the thing is required.
 pub fn read_required(arguments: &Arguments) -> Requirement

@@ -7,9 +7,9 @@ ghost use Rattle.resource_calls.specs.RunsView.{run_view};
 
 use crate::commands::command_given;
 use arguments::{Arguments, Refused, Rule};
-use data::{Object, Value};
 use named_sources::resources::environment;
 use std::alloc::{AllocError, Global};
+use values::{Object, Value};
 use world::Here;
 
 /// What a test runs.

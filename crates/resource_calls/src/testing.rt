@@ -1,6 +1,6 @@
 //! `test`: <https://mesonbuild.com/Reference-manual_functions.html#test>.
 ghost use Rattle.std.specs.Prelude.{◌≡◌, IfOk, option_map};
-ghost use Rattle.project.specs.View.{test_view};
+ghost use Rattle.build.specs.project.View.{test_view};
 ghost use Rattle.world.specs.Prelude.{Does, MayFail, arguments_data, data_of};
 ghost use Rattle.world.specs.Answering.{Views};
 ghost use Rattle.resource_calls.specs.RunsView.{run_view};
@@ -8,15 +8,15 @@ ghost use Rattle.resource_calls.specs.Tests.{seconds_given, test, test_given};
 
 use crate::runs::{Run, run_of};
 use arguments::Arguments;
-use data::Value;
+use build::project::Test;
 use named_sources::resources::seconds_of;
 use ports::{Outputs, Tree};
-use project::Test;
 use std::alloc::{AllocError, Global};
+use values::Value;
 use world::{Caller, Stop};
 
 // The seconds that the keyword `timeout` says, else 30.
-fn seconds_given(arguments: &Arguments) -> Result<i64, data::Refusal>
+fn seconds_given(arguments: &Arguments) -> Result<i64, values::Refusal>
     ensures { result ≡ seconds_given (arguments_data arguments.now) }
 {
     seconds_of(arguments.integer("timeout", 30))
@@ -27,7 +27,7 @@ fn test_given(
     alloc: Global,
     arguments: &Arguments,
     run: Run,
-) -> Result<Result<Test, data::Refusal>, AllocError>
+) -> Result<Result<Test, values::Refusal>, AllocError>
     ensures { IfOk result (λ t. Views test_view (test_given (arguments_data arguments.now) (run_view run)) t) }
 {
     let seconds = match seconds_given(arguments) {

@@ -8,8 +8,8 @@ use Rattle.arguments.specs.Arguments.{named_data}
 use Rattle.arguments.specs.Leaves.{leaves_in}
 use Rattle.arguments.specs.Row.{value_named}
 use Rattle.arguments.specs.declared.arguments.Named.{Named}
-use Rattle.data.specs.Data.{Data}
-use Rattle.data.specs.Flat.{opened}
+use Rattle.values.specs.Data.{Data}
+use Rattle.values.specs.Flat.{opened}
 use Rattle.target_calls.specs.CustomTargets.{is_source_keyword, written_in}
 
 abbrev pub says : Named → Bool

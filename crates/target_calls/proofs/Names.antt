@@ -1,8 +1,8 @@
 -- The first of names that no file may have.
 use Rattle.std.proofs.Common.{◌≡◌, Bool, true, false, List, [], ◌∷◌, ◌++◌, Option, Some, refl, ap, ◌∙◌}
 use Rattle.std.specs.Prelude.{if◌then◌else◌}
-use Rattle.targets.specs.edge.Texts.{Path, Text}
-use Rattle.paths.specs.Names.{is_file_name}
+use Rattle.build.specs.edge.Texts.{Path, Text}
+use Rattle.support.specs.paths.Names.{is_file_name}
 use Rattle.target_calls.specs.FitBreaches.{bad_name, or_later}
 
 later : (fits : Bool) (n : Text) (first rest : Option Path)

@@ -6,10 +6,10 @@ use Rattle.arguments.specs.Given.{flag, keyword, text_at, text_given, text_of, t
 use Rattle.arguments.specs.Leaves.{leaves_from, leaves_named}
 use Rattle.arguments.specs.Said.{Said, ◌>>=◌, found, kept}
 use Rattle.arguments.specs.declared.rule.Rule.TheVariants as rules
-use Rattle.data.specs.Data.{Data, integer, text}
-use Rattle.targets.specs.edge.Texts.{Path, Text}
-use Rattle.targets.specs.Data.{Build, BuildData, ListsData, SourceData, TargetData}
-use Rattle.targets.specs.declared.target.Kind.{Kind}
+use Rattle.values.specs.Data.{Data, integer, text}
+use Rattle.build.specs.edge.Texts.{Path, Text}
+use Rattle.build.specs.Data.{Build, BuildData, ListsData, SourceData, TargetData}
+use Rattle.build.specs.declared.target.Kind.{Kind}
 use Rattle.named_sources.specs.Folders.{folders_of}
 use Rattle.named_sources.specs.Libraries.{numbers_of}
 use Rattle.named_sources.specs.Sources.{NamedData, sources_of}

@@ -1,6 +1,6 @@
 -- What a call declares, without where it lies in memory.
-use Rattle.targets.specs.edge.Texts.{texts}
-use Rattle.targets.specs.View.{target_view}
+use Rattle.build.specs.edge.Texts.{texts}
+use Rattle.build.specs.View.{target_view}
 use Rattle.target_calls.specs.BuildTargets.{NamedTargetData}
 use Rattle.target_calls.specs.declared.build_target.NamedTarget.{NamedTarget}
 

@@ -1,17 +1,17 @@
 -- The command of a custom target.
 use Rattle.std.specs.Prelude.{ℕ, Bool, true, false, ◌&&◌, not, List, [], ◌∷◌, ◌++◌, codes}
 use Rattle.std.specs.Prelude.{Option, Some, None, option_and_then, option_map, if◌then◌else◌}
-use Rattle.data.specs.Data.{Data, text, object}
-use Rattle.data.specs.declared.object.Object.{Object}
-use Rattle.data.specs.declared.object.Program.{Program}
-use Rattle.data.specs.declared.object.Program.TheVariants as programs
-use Rattle.targets.specs.edge.Paths.{source_path}
-use Rattle.targets.specs.edge.Texts.{Path, Text}
+use Rattle.values.specs.Data.{Data, text, object}
+use Rattle.values.specs.declared.object.Object.{Object}
+use Rattle.values.specs.declared.object.Program.{Program}
+use Rattle.values.specs.declared.object.Program.TheVariants as programs
+use Rattle.build.specs.edge.Paths.{source_path}
+use Rattle.build.specs.edge.Texts.{Path, Text}
 use Rattle.named_sources.specs.Holes.{PlaceData, words_of}
 use Rattle.named_sources.specs.Things.{ThingData, a_file, a_program, a_target, all_outputs, an_output, thing_of}
-use Rattle.paths.specs.Names.{has_slash}
-use Rattle.targets.specs.Data.{BuildData, SourceData, Tree, Built, Made}
-use Rattle.targets.specs.Files.{file_path, is_library}
+use Rattle.support.specs.paths.Names.{has_slash}
+use Rattle.build.specs.Data.{BuildData, SourceData, Tree, Built, Made}
+use Rattle.build.specs.Files.{file_path, is_library}
 use Rattle.world.specs.Here.{HereData}
 use Rattle.target_calls.specs.Sources.{one_made}
 

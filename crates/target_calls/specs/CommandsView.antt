@@ -1,7 +1,7 @@
 -- A part of a command, without where it lies in memory.
 use Rattle.std.specs.Prelude.{map}
-use Rattle.targets.specs.edge.Texts.{texts}
-use Rattle.targets.specs.View.{source_view}
+use Rattle.build.specs.edge.Texts.{texts}
+use Rattle.build.specs.View.{source_view}
 use Rattle.target_calls.specs.Commands.{PartData}
 use Rattle.target_calls.specs.declared.command.Part.{Part}
 

@@ -1,8 +1,8 @@
 -- `custom_target`.
 use Rattle.std.specs.Prelude.{Option, Some, codes}
 use Rattle.arguments.specs.Arguments.{ArgumentsData}
-use Rattle.data.specs.Data.{Data, object}
-use Rattle.data.specs.declared.object.Object.TheVariants as objects
+use Rattle.values.specs.Data.{Data, object}
+use Rattle.values.specs.declared.object.Object.TheVariants as objects
 use Rattle.world.specs.Deed.{Deed, give, read, ◌>>=◌}
 use Rattle.world.specs.Fit.{passed}
 use Rattle.target_calls.specs.BuildTargets.{NamedTargetData}

@@ -2,11 +2,11 @@
 use Rattle.std.specs.Prelude.{ℕ, List, [], ◌∷◌, codes, if◌then◌else◌}
 use Rattle.arguments.specs.Arguments.{ArgumentsData}
 use Rattle.arguments.specs.Given.{text_of}
-use Rattle.targets.specs.edge.Texts.{Path, Text}
-use Rattle.paths.specs.Below.{path_below}
-use Rattle.paths.specs.Paths.{path_in}
-use Rattle.project.specs.World.{InstallData}
-use Rattle.targets.specs.Data.{Build, Custom, CustomData, TargetData}
+use Rattle.build.specs.edge.Texts.{Path, Text}
+use Rattle.support.specs.paths.Below.{path_below}
+use Rattle.support.specs.paths.Paths.{path_in}
+use Rattle.build.specs.project.World.{InstallData}
+use Rattle.build.specs.Data.{Build, Custom, CustomData, TargetData}
 use Rattle.world.specs.Declaring.{add_install, add_target}
 use Rattle.world.specs.Deed.{Deed, give, read, ◌>>=◌}
 use Rattle.world.specs.Options.{option_text}

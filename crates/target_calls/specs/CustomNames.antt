@@ -4,12 +4,12 @@ use Rattle.arguments.specs.Arguments.{ArgumentsData}
 use Rattle.arguments.specs.Each.{each_or_none}
 use Rattle.arguments.specs.Given.{texts}
 use Rattle.arguments.specs.Maybe.{◌>>=◌}
-use Rattle.targets.specs.edge.Folders.{build_folder, source_folder}
-use Rattle.targets.specs.edge.Paths.{source_root}
-use Rattle.targets.specs.edge.Texts.{Path, Text}
+use Rattle.build.specs.edge.Folders.{build_folder, source_folder}
+use Rattle.build.specs.edge.Paths.{source_root}
+use Rattle.build.specs.edge.Texts.{Path, Text}
 use Rattle.named_sources.specs.Holes.{PlaceData, filled, first_of}
 use Rattle.named_sources.specs.declared.holes.Scope.TheVariants.{FileName}
-use Rattle.paths.specs.Paths.{path_in}
+use Rattle.support.specs.paths.Paths.{path_in}
 use Rattle.world.specs.Here.{HereData}
 
 -- what the placeholders of the call are seen from

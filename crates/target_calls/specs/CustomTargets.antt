@@ -7,12 +7,12 @@ use Rattle.arguments.specs.Leaves.{leaves_named}
 use Rattle.arguments.specs.Said.{Said, ◌>>=◌, found, unbroken}
 use Rattle.arguments.specs.declared.rule.Rule.{Rule}
 use Rattle.arguments.specs.declared.rule.Rule.TheVariants as rules
-use Rattle.data.specs.Data.{Data}
-use Rattle.targets.specs.edge.Texts.{Path, Text}
+use Rattle.values.specs.Data.{Data}
+use Rattle.build.specs.edge.Texts.{Path, Text}
 use Rattle.named_sources.specs.Holes.{PlaceData}
-use Rattle.targets.specs.Data.{Custom, CustomData, SourceData}
-use Rattle.targets.specs.Sources.{source_paths}
-use Rattle.data.specs.Flat.{opened}
+use Rattle.build.specs.Data.{Custom, CustomData, SourceData}
+use Rattle.build.specs.Sources.{source_paths}
+use Rattle.values.specs.Flat.{opened}
 use Rattle.named_sources.specs.Sources.{NamedData, sources_of}
 use Rattle.target_calls.specs.BuildTargets.{NamedTargetData}
 use Rattle.target_calls.specs.Commands.{PartData, command_of}

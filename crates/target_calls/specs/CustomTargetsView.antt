@@ -1,6 +1,6 @@
 -- Names of files, without where they lie in memory.
 use Rattle.std.specs.Prelude.{option_map, string_bytes}
-use Rattle.targets.specs.edge.Texts.{texts}
+use Rattle.build.specs.edge.Texts.{texts}
 use Rattle.target_calls.specs.CustomNames.{NamesData}
 use Rattle.target_calls.specs.declared.custom.Names.{Names}
 

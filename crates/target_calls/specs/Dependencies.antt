@@ -1,13 +1,13 @@
 -- What dependencies bring to a target.
 use Rattle.std.specs.Prelude.{true, false, List, [], ◌∷◌, ◌++◌, map, Option, Some, None, option_and_then, option_map, if◌then◌else◌}
-use Rattle.data.specs.Data.{Data, object}
-use Rattle.data.specs.declared.object.Dependency.{Dependency}
-use Rattle.data.specs.declared.object.Object.{Object}
-use Rattle.data.specs.declared.object.Object.TheVariants as objects
-use Rattle.data.specs.declared.object.Source.{Source}
-use Rattle.data.specs.declared.object.Source.TheVariants as source
-use Rattle.targets.specs.Data.{ListsData, SourceData}
-use Rattle.targets.specs.Libraries.{LinkedData}
+use Rattle.values.specs.Data.{Data, object}
+use Rattle.values.specs.declared.object.Dependency.{Dependency}
+use Rattle.values.specs.declared.object.Object.{Object}
+use Rattle.values.specs.declared.object.Object.TheVariants as objects
+use Rattle.values.specs.declared.object.Source.{Source}
+use Rattle.values.specs.declared.object.Source.TheVariants as source
+use Rattle.build.specs.Data.{ListsData, SourceData}
+use Rattle.build.specs.Libraries.{LinkedData}
 use Rattle.named_sources.specs.Sources.{NamedData, tree, built, outputs, output}
 use Rattle.target_calls.specs.Sources.{sources_in}
 

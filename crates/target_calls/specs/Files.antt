@@ -5,9 +5,9 @@ use Rattle.arguments.specs.Each.{each_said}
 use Rattle.arguments.specs.Said.{Said, found}
 use Rattle.arguments.specs.declared.rule.Rule.{Rule}
 use Rattle.arguments.specs.declared.rule.Rule.TheVariants as rules
-use Rattle.data.specs.Data.{Data}
-use Rattle.data.specs.Flat.{flat_all}
-use Rattle.paths.specs.Paths.{folder_path, tree_path}
+use Rattle.values.specs.Data.{Data}
+use Rattle.values.specs.Flat.{flat_all}
+use Rattle.support.specs.paths.Paths.{folder_path, tree_path}
 use Rattle.world.specs.Deed.{Deed, give, read, ◌>>=◌, answered, required}
 use Rattle.world.specs.Fit.{passed}
 use Rattle.world.specs.Here.{HereData, here_of}

@@ -3,14 +3,14 @@ use Rattle.std.specs.Prelude.{ℕ, List, [], ◌∷◌, ◌++◌, Option, Some, 
 use Rattle.std.specs.Option.{option_to_list, unwrap_or}
 use Rattle.arguments.specs.declared.rule.Rule.{Rule}
 use Rattle.arguments.specs.declared.rule.Rule.TheVariants as rules
-use Rattle.targets.specs.edge.Texts.{Path, Text}
-use Rattle.paths.specs.Names.{is_file_name}
-use Rattle.project.specs.Adding.{is_target_name}
-use Rattle.project.specs.World.{WorldData}
-use Rattle.targets.specs.Data.{Build, BuildData, Built, Custom, CustomData, ListsData, Made, SourceData, TargetData, Tree}
-use Rattle.targets.specs.Files.{file_name, link_names}
-use Rattle.targets.specs.Libraries.{LinkedData, linked_of, links_libraries}
-use Rattle.targets.specs.Sources.{is_foreign}
+use Rattle.build.specs.edge.Texts.{Path, Text}
+use Rattle.support.specs.paths.Names.{is_file_name}
+use Rattle.build.specs.project.Adding.{is_target_name}
+use Rattle.build.specs.project.World.{WorldData}
+use Rattle.build.specs.Data.{Build, BuildData, Built, Custom, CustomData, ListsData, Made, SourceData, TargetData, Tree}
+use Rattle.build.specs.Files.{file_name, link_names}
+use Rattle.build.specs.Libraries.{LinkedData, linked_of, links_libraries}
+use Rattle.build.specs.Sources.{is_foreign}
 
 -- a rule, and the text or the keyword that breaks it
 abbrev pub Breach : Type 0

@@ -2,13 +2,13 @@
 use Rattle.std.specs.Prelude.{Option, Some, None, codes, unwrap_or, if◌then◌else◌}
 use Rattle.arguments.specs.Arguments.{ArgumentsData}
 use Rattle.arguments.specs.Given.{text_given}
-use Rattle.targets.specs.edge.Texts.{Path}
-use Rattle.paths.specs.Below.{path_below}
-use Rattle.project.specs.World.{InstallData}
-use Rattle.targets.specs.Data.{Build, BuildData, Custom, TargetData}
-use Rattle.targets.specs.Files.{file_name, file_path}
-use Rattle.targets.specs.declared.target.Kind.{Kind}
-use Rattle.targets.specs.declared.target.Kind.TheVariants as kinds
+use Rattle.build.specs.edge.Texts.{Path}
+use Rattle.support.specs.paths.Below.{path_below}
+use Rattle.build.specs.project.World.{InstallData}
+use Rattle.build.specs.Data.{Build, BuildData, Custom, TargetData}
+use Rattle.build.specs.Files.{file_name, file_path}
+use Rattle.build.specs.declared.target.Kind.{Kind}
+use Rattle.build.specs.declared.target.Kind.TheVariants as kinds
 use Rattle.world.specs.Declaring.{add_install}
 use Rattle.world.specs.Deed.{Deed, give}
 use Rattle.world.specs.Options.{option_text}

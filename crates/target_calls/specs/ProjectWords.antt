@@ -2,10 +2,10 @@
 use Rattle.std.specs.Prelude.{Bool, false, List, [], ◌∷◌, Option, None, bytes_eq, codes}
 use Rattle.std.specs.List.{list_all}
 use Rattle.arguments.specs.Arguments.{ArgumentsData}
-use Rattle.data.specs.Flat.{flat_all}
+use Rattle.values.specs.Flat.{flat_all}
 use Rattle.arguments.specs.Given.{texts}
-use Rattle.data.specs.Data.{Data}
-use Rattle.targets.specs.edge.Texts.{Text}
+use Rattle.values.specs.Data.{Data}
+use Rattle.build.specs.edge.Texts.{Text}
 use Rattle.arguments.specs.declared.rule.Rule.TheVariants as rules
 use Rattle.world.specs.Declaring.{add_arguments, add_link_arguments}
 use Rattle.world.specs.Deed.{Deed, give, ◌>>=◌}

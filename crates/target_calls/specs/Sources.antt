@@ -1,8 +1,8 @@
 -- The sources of a target: files, and the outputs of earlier targets.
 use Rattle.std.specs.Prelude.{List, [], ◌∷◌, Option, Some, option_map}
-use Rattle.targets.specs.edge.Texts.{Path}
-use Rattle.targets.specs.Data.{SourceData, Tree, Built, Made}
-use Rattle.targets.specs.Libraries.{LinkedData}
+use Rattle.build.specs.edge.Texts.{Path}
+use Rattle.build.specs.Data.{SourceData, Tree, Built, Made}
+use Rattle.build.specs.Libraries.{LinkedData}
 use Rattle.arguments.specs.Each.{each_or_none}
 use Rattle.named_sources.specs.Outputs.{output_at, outputs_at}
 use Rattle.named_sources.specs.Sources.{NamedData, tree, built, outputs, output}

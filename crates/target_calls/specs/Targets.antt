@@ -1,14 +1,14 @@
 -- Functions that declare an executable or a library.
 use Rattle.std.specs.Prelude.{ℕ, Option, Some, bytes_eq, codes, if◌then◌else◌}
 use Rattle.arguments.specs.Arguments.{ArgumentsData}
-use Rattle.data.specs.Data.{Data, object}
-use Rattle.data.specs.declared.object.Object.TheVariants as objects
+use Rattle.values.specs.Data.{Data, object}
+use Rattle.values.specs.declared.object.Object.TheVariants as objects
 use Rattle.machine.specs.option_values.Values as option
 use Rattle.machine.specs.option_values.Settings.{value_named}
-use Rattle.project.specs.Adding.{is_fit}
-use Rattle.targets.specs.Data.{TargetData}
-use Rattle.targets.specs.declared.target.Kind.{Kind}
-use Rattle.targets.specs.declared.target.Kind.TheVariants as kinds
+use Rattle.build.specs.project.Adding.{is_fit}
+use Rattle.build.specs.Data.{TargetData}
+use Rattle.build.specs.declared.target.Kind.{Kind}
+use Rattle.build.specs.declared.target.Kind.TheVariants as kinds
 use Rattle.world.specs.Declaring.{add_target}
 use Rattle.world.specs.Deed.{Deed, give, read, ◌>>=◌}
 use Rattle.world.specs.Fit.{passed}

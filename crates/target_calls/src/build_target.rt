@@ -2,7 +2,7 @@
 ghost use Rattle.std.specs.Prelude.{◌≡◌, IfOk, codes, map, option_map, string_bytes};
 ghost use Rattle.arguments.specs.Given.{text_given};
 ghost use Rattle.arguments.specs.Refused.{said_data};
-ghost use Rattle.targets.specs.View.{build_view, lists_view, source_view};
+ghost use Rattle.build.specs.View.{build_view, lists_view, source_view};
 ghost use Rattle.named_sources.specs.SourcesView.{named_view, named_views};
 ghost use Rattle.world.specs.Prelude.{arguments_data, data_of, here_view};
 ghost use Rattle.target_calls.specs.BuildTargets.{build_target, declared, declared_from, named_sources, number_in, own_lists};
@@ -12,11 +12,12 @@ ghost use Rattle.target_calls.specs.BuildTargetsView.{named_target_view};
 use crate::dependencies::dependencies_given;
 use crate::sources::{files_among, sources_in};
 use arguments::{Arguments, Refused, Rule};
-use data::Value;
+use build::{BuildTarget, Kind, Lists, Source, Target};
+use itoa::Buffer;
 use named_sources::{NamedSource, folders_named, is_library_version, numbers_named, sources_of};
 use std::alloc::{AllocError, Global};
 use std::rc::Rc;
-use targets::{BuildTarget, Kind, Lists, Source, Target};
+use values::Value;
 use world::Here;
 
 /// What a call declares.
@@ -55,8 +56,8 @@ fn number_in(alloc: Global, value: &Value) -> Result<Option<String>, AllocError>
     match value {
         Value::Text(text) => Ok(Some(String::from_str(alloc, text.as_str())?)),
         Value::Integer(number) => {
-            let digits = format!(in alloc; "{}", *number)?;
-            Ok(Some(digits))
+            let mut buffer = Buffer::new();
+            Ok(Some(String::from_str(alloc, buffer.format(*number))?))
         }
         _ => Ok(None),
     }

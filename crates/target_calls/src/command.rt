@@ -1,22 +1,22 @@
 //! The command of a custom target.
 ghost use Rattle.std.specs.Prelude.{◌≡◌, ◌∷◌, [], IfOk, None, Some, map, option_map, string_bytes, if◌then◌else◌};
-ghost use Rattle.targets.specs.edge.Paths.{source_path as path_from};
-ghost use Rattle.targets.specs.edge.Texts.{texts};
+ghost use Rattle.build.specs.edge.Paths.{source_path as path_from};
+ghost use Rattle.build.specs.edge.Texts.{texts};
 ghost use Rattle.named_sources.specs.HolesView.{place_view};
 ghost use Rattle.named_sources.specs.ThingsView.{thing_view};
-ghost use Rattle.targets.specs.View.{build_view, source_view};
+ghost use Rattle.build.specs.View.{build_view, source_view};
 ghost use Rattle.world.specs.Prelude.{data_of, here_view};
 ghost use Rattle.target_calls.specs.Commands.{called, command_of, joined, of_build_target, of_file, of_object, of_output, of_outputs};
 ghost use Rattle.target_calls.specs.Commands.{of_program, of_text, of_thing, one_path, part_of, words_alone};
 ghost use Rattle.target_calls.specs.CommandsView.{part_view};
 
 use crate::sources::{make_of, one_made_of};
-use data::{Object, Program, Text, Value};
+use build::edge::{push_copies, source_path};
+use build::{BuildTarget, Source, file_path};
 use named_sources::{Place, Thing, push_words, strings, thing_of};
-use paths::has_slash;
 use std::alloc::{AllocError, Global};
-use targets::edge::{push_copies, source_path};
-use targets::{BuildTarget, Source, file_path};
+use support::paths::has_slash;
+use values::{Object, Program, Text, Value};
 use world::Here;
 
 /// The words of a part of the command, and what has to be there for it.

@@ -8,8 +8,8 @@ use crate::custom_installs::add_custom;
 use crate::declaring::require_fit;
 use crate::tree::require_all;
 use arguments::Arguments;
-use data::{Object, Value};
 use ports::{Outputs, Tree};
+use values::{Object, Value};
 use world::{Caller, Stop};
 
 /// `custom_target(name)`: E9, E14, E21, E11, E22 in this order.

@@ -1,19 +1,19 @@
 //! Where the outputs of a custom target go when it is installed.
 ghost use Rattle.std.specs.Prelude.{◌≡◌, IfOk};
-ghost use Rattle.targets.specs.edge.Texts.{texts};
-ghost use Rattle.project.specs.View.{install_view};
-ghost use Rattle.targets.specs.View.{custom_view, target_view};
+ghost use Rattle.build.specs.edge.Texts.{texts};
+ghost use Rattle.build.specs.project.View.{install_view};
+ghost use Rattle.build.specs.View.{custom_view, target_view};
 ghost use Rattle.world.specs.Prelude.{Does, arguments_data, world_of};
 ghost use Rattle.target_calls.specs.CustomInstalls.{add_custom, all_noted, custom_names, installed_names, output_install, way_of};
 ghost use Rattle.target_calls.specs.CustomInstallsView.{way_view};
 
 use arguments::Arguments;
-use paths::{path_below, path_in};
+use build::edge::{copies, is_some_list};
+use build::project::Install;
+use build::{CustomTarget, Target};
 use ports::{Outputs, Tree};
-use project::Install;
 use std::alloc::{AllocError, Global};
-use targets::edge::{copies, is_some_list};
-use targets::{CustomTarget, Target};
+use support::paths::{path_below, path_in};
 use world::{Caller, Stop, Store};
 
 /// Which way outputs go.
@@ -30,7 +30,7 @@ pub struct Way {
 fn way_of(alloc: Global, store: &Store, arguments: &Arguments) -> Result<Way, AllocError>
     ensures { IfOk result (λ w. way_view w ≡ way_of (world_of store.now).facts (arguments_data arguments.now)) }
 {
-    let build_root = store.settings().build_root.as_str();
+    let build_root = store.settings().build_root();
     let prefix = store.option_text("prefix");
     Ok(Way {
         build_root: String::from_str(alloc, build_root)?,

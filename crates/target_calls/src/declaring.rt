@@ -1,7 +1,7 @@
 //! Functions that declare an executable or a library.
 ghost use Rattle.std.specs.Prelude.{◌≡◌, option_map};
 ghost use Rattle.machine.specs.option_values.View.{value_in};
-ghost use Rattle.targets.specs.View.{target_view};
+ghost use Rattle.build.specs.View.{target_view};
 ghost use Rattle.world.specs.Prelude.{Does, MayFail, arguments_data, data_of};
 ghost use Rattle.target_calls.specs.Targets.{add_installed, declare, library, library_kind, required_fit};
 
@@ -10,10 +10,10 @@ use crate::fit_breaches::fit_breach;
 use crate::installs::{install_of, note};
 use crate::tree::require_all;
 use arguments::Arguments;
-use data::{Object, Value};
+use build::{Kind, Target};
 use machine::option_values::OptionValue;
 use ports::{Outputs, Tree};
-use targets::{Kind, Target};
+use values::{Object, Value};
 use world::{Caller, Stop};
 
 /// Refuses a target that the project can't have.

@@ -1,41 +1,41 @@
 //! What dependencies bring to a target.
 ghost use Rattle.std.specs.Prelude.{◌≡◌, IfOk, codes, map, option_map};
 ghost use Rattle.arguments.specs.Leaves.{leaves_named};
-ghost use Rattle.targets.specs.LinkedViews.{linked_views};
-ghost use Rattle.targets.specs.View.{lists_view};
+ghost use Rattle.build.specs.LinkedViews.{linked_views};
+ghost use Rattle.build.specs.View.{lists_view};
 ghost use Rattle.named_sources.specs.SourcesView.{named_view};
 ghost use Rattle.world.specs.Prelude.{arguments_data, data_of, here_view};
 ghost use Rattle.target_calls.specs.Dependencies.{dependencies_of, found_in, lists_of, named_of};
 
 use crate::sources::sources_in;
 use arguments::Arguments;
-use data::{Dependency, Object, Value};
+use build::{Linked, Lists};
 use named_sources::{NamedSource, strings};
 use std::alloc::{AllocError, Global};
 use std::rc::Rc;
-use targets::{Linked, Lists};
+use values::{Dependency, Object, Value};
 use world::Here;
 
-fn to_named(alloc: Global, source: &data::Source) -> Result<NamedSource, AllocError>
+fn to_named(alloc: Global, source: &values::Source) -> Result<NamedSource, AllocError>
     ensures { IfOk result (λ n. named_view n ≡ named_of source.now) }
 {
     match source {
-        data::Source::File { path, is_built } => {
+        values::Source::File { path, is_built } => {
             if *is_built {
                 Ok(NamedSource::Built(path.clone()?))
             } else {
                 Ok(NamedSource::Tree(String::from_str(alloc, path.as_str())?))
             }
         }
-        data::Source::CustomTarget { number, .. } => Ok(NamedSource::Outputs(*number)),
-        data::Source::CustomOutput { target, output } => Ok(NamedSource::Output {
+        values::Source::CustomTarget { number, .. } => Ok(NamedSource::Outputs(*number)),
+        values::Source::CustomOutput { target, output } => Ok(NamedSource::Output {
             target: *target,
             place: *output,
         }),
     }
 }
 
-fn all_named(alloc: Global, sources: &[data::Source]) -> Result<Vec<NamedSource>, AllocError>
+fn all_named(alloc: Global, sources: &[values::Source]) -> Result<Vec<NamedSource>, AllocError>
     ensures { IfOk result (λ v. map named_view v.items ≡ map named_of sources.now) }
 {
     let mut named = Vec::new(alloc);

@@ -1,24 +1,24 @@
 //! Which rule is broken by a target that the project can't have: it is looked for only where a call is refused.
 ghost use Rattle.std.specs.Prelude.{◌≡◌, ◌++◌, ◌∷◌, IfOk, map, option_map, string_bytes};
 ghost use Rattle.std.specs.Option.{option_to_list};
-ghost use Rattle.targets.specs.edge.Texts.{texts};
-ghost use Rattle.project.specs.Adding.{is_target_name};
-ghost use Rattle.targets.specs.Files.{file_name, link_names};
-ghost use Rattle.targets.specs.Sources.{is_header};
-ghost use Rattle.targets.specs.LinkedViews.{linked_views};
-ghost use Rattle.targets.specs.View.{build_view, custom_view, lists_view, source_view, target_view};
+ghost use Rattle.build.specs.edge.Texts.{texts};
+ghost use Rattle.build.specs.project.Adding.{is_target_name};
+ghost use Rattle.build.specs.Files.{file_name, link_names};
+ghost use Rattle.build.specs.Sources.{is_header};
+ghost use Rattle.build.specs.LinkedViews.{linked_views};
+ghost use Rattle.build.specs.View.{build_view, custom_view, lists_view, source_view, target_view};
 ghost use Rattle.target_calls.specs.FitBreaches.{bad_name, build_fit, custom_fit, file_breach, fit_breach, foreign_among, foreign_in};
 ghost use Rattle.target_calls.specs.FitBreaches.{foreign_of, foreign_path, source_breach};
 
 use arguments::Rule;
-use paths::{has_slash, is_file_name};
-use project::Project;
-use std::alloc::{AllocError, Global};
-use std::rc::Rc;
-use targets::{
+use build::project::Project;
+use build::{
     BuildTarget, CustomTarget, Linked, Lists, Source, Target, file_name, is_c, link_names,
     links_libraries,
 };
+use std::alloc::{AllocError, Global};
+use std::rc::Rc;
+use support::paths::{has_slash, is_file_name};
 
 // ---- names
 

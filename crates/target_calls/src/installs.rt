@@ -1,16 +1,16 @@
 //! Where targets go when they are installed.
 ghost use Rattle.std.specs.Prelude.{◌≡◌, IfOk, option_map};
-ghost use Rattle.project.specs.View.{install_view};
-ghost use Rattle.targets.specs.View.{build_view, target_view};
+ghost use Rattle.build.specs.project.View.{install_view};
+ghost use Rattle.build.specs.View.{build_view, target_view};
 ghost use Rattle.world.specs.Prelude.{Does, arguments_data, world_of};
 ghost use Rattle.target_calls.specs.Installs.{build_install, install_folder, install_of, noted, usual_folder};
 
 use arguments::Arguments;
-use paths::path_below;
+use build::project::Install;
+use build::{BuildTarget, Kind, Target, file_name, file_path};
 use ports::{Outputs, Tree};
-use project::Install;
 use std::alloc::{AllocError, Global};
-use targets::{BuildTarget, Kind, Target, file_name, file_path};
+use support::paths::path_below;
 use world::{Caller, Stop, Store};
 
 // Programs go to `bindir`, libraries to `libdir`.
@@ -46,7 +46,7 @@ fn build_install(
     let name = file_name(alloc, target)?;
     let folder = install_folder(store, arguments, target.kind);
     let below = path_below(alloc, store.option_text("prefix"), folder)?;
-    let build_root = store.settings().build_root.as_str();
+    let build_root = store.settings().build_root();
     Ok(Install {
         source: path_below(alloc, build_root, &file)?,
         destination: path_below(alloc, &below, &name)?,

@@ -1,16 +1,16 @@
 //! `add_project_arguments` and `add_project_link_arguments`.
 ghost use Rattle.std.specs.Prelude.{◌≡◌, IfOk, map, option_map};
 ghost use Rattle.std.specs.List.{list_all};
-ghost use Rattle.data.specs.Flat.{flat_all};
-ghost use Rattle.targets.specs.edge.Texts.{texts};
+ghost use Rattle.values.specs.Flat.{flat_all};
+ghost use Rattle.build.specs.edge.Texts.{texts};
 ghost use Rattle.world.specs.Prelude.{Does, arguments_data, data_of};
 ghost use Rattle.target_calls.specs.ProjectWords.{add_project_arguments, add_project_link_arguments, are_c, is_c, required_c};
 
 use arguments::{Arguments, Rule};
-use data::Value;
+use build::edge::strings;
 use ports::{Outputs, Tree};
 use std::alloc::{AllocError, Global};
-use targets::edge::strings;
+use values::Value;
 use world::{Caller, Stop};
 
 fn all_c(languages: &[String]) -> bool

@@ -1,18 +1,18 @@
 //! The sources of a target.
 ghost use Rattle.std.specs.Prelude.{◌≡◌, ◌++◌, IfOk, flat_map, map, option_map, string_bytes};
-ghost use Rattle.targets.specs.edge.Texts.{texts};
-ghost use Rattle.targets.specs.Data.{Made};
-ghost use Rattle.targets.specs.LinkedViews.{linked_views};
-ghost use Rattle.targets.specs.View.{source_view};
+ghost use Rattle.build.specs.edge.Texts.{texts};
+ghost use Rattle.build.specs.Data.{Made};
+ghost use Rattle.build.specs.LinkedViews.{linked_views};
+ghost use Rattle.build.specs.View.{source_view};
 ghost use Rattle.named_sources.specs.Outputs.{output_at, outputs_at};
 ghost use Rattle.named_sources.specs.SourcesView.{named_view};
 ghost use Rattle.target_calls.specs.Sources.{file_in, one_made, source_in, sources_in};
 
+use build::edge::push_copies;
+use build::{Linked, Source};
 use named_sources::{NamedSource, output_at, outputs_at};
 use std::alloc::{AllocError, Global};
 use std::rc::Rc;
-use targets::edge::push_copies;
-use targets::{Linked, Source};
 
 /// Outputs of one target.
 pub fn make_of(alloc: Global, paths: &[String]) -> Result<Source, AllocError>

@@ -1,17 +1,17 @@
 //! `files` and `include_directories`.
 ghost use Rattle.std.specs.Prelude.{◌≡◌, IfOk, map, option_map, string_bytes};
 ghost use Rattle.arguments.specs.Refused.{said_data};
-ghost use Rattle.data.specs.Flat.{flat_all};
-ghost use Rattle.paths.specs.Folder.{strings_of};
+ghost use Rattle.values.specs.Flat.{flat_all};
+ghost use Rattle.support.specs.paths.Folder.{strings_of};
 ghost use Rattle.world.specs.Prelude.{Does, MayFail, arguments_data, data_of, here_view};
 ghost use Rattle.target_calls.specs.Files.{all_required, files, include_directories, named_paths, path_named, paths_named, rule_of};
 
 use arguments::{Arguments, Refused, Rule};
-use data::Value;
 use named_sources::{directories_at, files_at};
-use paths::{folder_path, tree_path};
 use ports::{Outputs, Tree};
 use std::alloc::AllocError;
+use support::paths::{folder_path, tree_path};
+use values::Value;
 use world::{Caller, Here, Stop};
 
 // What a text names.

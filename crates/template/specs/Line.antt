@@ -3,7 +3,7 @@ use Rattle.std.specs.Prelude.{ℕ, zero, suc, ◌+◌, ◌-◌, ◌/◌, ◌%◌
 use Rattle.std.specs.Prelude.{◌++◌, length, take, drop, replicate, slice_index, Option, Some, None, codes, decimal, if◌then◌else◌}
 use Rattle.std.specs.List.{starts_with, prefix_len, list_all}
 use Rattle.std.specs.Str.{bytes_eq}
-use Rattle.basics.specs.Limits.{line_bytes}
+use Rattle.support.specs.Limits.{line_bytes}
 use Rattle.ports.specs.Outputs.{Step, puts, logs}
 use Rattle.template.specs.Config.{Content, Flag, Number, Bytes, Entries, value_of, printed}
 

@@ -8,9 +8,9 @@ ghost use Rattle.template.specs.Template.{template_steps};
 
 use crate::replace::replace_line;
 use crate::{ConfigData, PassStop};
-use basics::limits::LINE_BYTES;
 use memchr::memchr;
 use ports::{DeviceFault, Outputs, Tree};
+use support::limits::LINE_BYTES;
 
 /// How many bytes a line of a template may have, its end counted.
 pub const LINE_LIMIT: usize = LINE_BYTES;

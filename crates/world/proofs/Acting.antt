@@ -1,12 +1,12 @@
 -- Acts one after another, against the answers of code.
 use Rattle.std.proofs.Common.{◌≡◌, ℕ, ◌+◌, List, Result, Ok, Err, IsErrAnd, refl, sym, subst, ◌∙◌, arith}
 use Rattle.code.specs.Draft.{IsFront}
-use Rattle.targets.specs.edge.Texts.{Path, Text}
+use Rattle.build.specs.edge.Texts.{Path, Text}
 use Rattle.ports.specs.Outputs.{OutputState}
 use Rattle.ports.specs.Tree.{TreeState}
-use Rattle.project.specs.Adding.{output_answer}
-use Rattle.project.specs.Refused.{answer_data}
-use Rattle.project.specs.declared.refusal.Refused.{Refused}
+use Rattle.build.specs.project.Adding.{output_answer}
+use Rattle.build.specs.project.Refused.{answer_data}
+use Rattle.build.specs.declared.project.refusal.Refused.{Refused}
 use Rattle.world.specs.Answering.{Acts, Carries, HasRoom, State, IsAllowed, seen_at}
 use Rattle.world.specs.Deed.{Deed, Files, perform}
 use Rattle.world.specs.Gives.{Gives}

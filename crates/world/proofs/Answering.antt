@@ -4,13 +4,13 @@ use Rattle.std.proofs.Common.{Err, IsErrAnd, refl, sym, ap, subst, ◌∙◌, ar
 use Rattle.code.specs.Draft.{IsFront}
 use Rattle.ports.specs.Outputs.{OutputState, logs, Sends}
 use Rattle.ports.specs.Tree.{TreeState, Stays, file_at}
-use Rattle.data.specs.Data.{Data}
-use Rattle.data.specs.Tables.{Answers}
-use Rattle.data.specs.View.{data_of}
-use Rattle.data.specs.declared.refusal.Refusal.{Refusal as OperationRefusal}
-use Rattle.data.specs.declared.value.Value.{Value}
-use Rattle.targets.specs.Data.{FactsData}
-use Rattle.basics.specs.Faults.{FaultData}
+use Rattle.values.specs.Data.{Data}
+use Rattle.values.specs.Tables.{Answers}
+use Rattle.values.specs.View.{data_of}
+use Rattle.values.specs.declared.refusal.Refusal.{Refusal as OperationRefusal}
+use Rattle.values.specs.declared.value.Value.{Value}
+use Rattle.build.specs.Data.{FactsData}
+use Rattle.support.specs.Faults.{FaultData}
 use Rattle.world.specs.Trace.{Seen, seen}
 use Rattle.machine.specs.machine_file.Questions.{Answer, Question, answer_to}
 use Rattle.world.specs.World.{World, Facts, LeavesPaths, asking, begun as begun_facts, looking, fault_here}
@@ -27,7 +27,7 @@ use Rattle.world.proofs.Follow.{failures_after-refusal, wanted_grown}
 use Rattle.world.proofs.Holding.{holds_later, stays_here, stays_on}
 use Rattle.world.proofs.Marks.{none_added, same_front, grown_added}
 use Rattle.world.proofs.Tells.{ends_told, begins_logs}
-use Rattle.basics.specs.declared.faults.refusal.Refusal.{Refusal}
+use Rattle.support.specs.declared.faults.refusal.Refusal.{Refusal}
 use Rattle.world.specs.declared.stop.Stop.{Stop}
 use Rattle.world.specs.declared.stop.Stop.TheVariants as stops
 

@@ -4,15 +4,15 @@ use Rattle.std.proofs.Common.{◌∙◌, append-nil, append_assoc}
 use Rattle.std.specs.Prelude.{◌&&◌, bytes_eq}
 use Rattle.std.proofs.lemmas.Bool.{false≢true}
 use Rattle.std.proofs.lemmas.Slice.Eq.{bytes_eq-Decides}
-use Rattle.basics.specs.Faults.{FaultData}
-use Rattle.targets.specs.edge.Texts.{Path, holds}
-use Rattle.paths.specs.Paths.{path_in}
+use Rattle.support.specs.Faults.{FaultData}
+use Rattle.build.specs.edge.Texts.{Path, holds}
+use Rattle.support.specs.paths.Paths.{path_in}
 use Rattle.ports.specs.Outputs.{Step, Opens, Puts, Closes, Logs, Faults, closing, name_after, name_or_empty, opening, told}
-use Rattle.project.specs.Adding.{after_answer, output_answer, with_output}
-use Rattle.project.specs.Laws.{all_held}
-use Rattle.project.specs.World.{WorldData}
-use Rattle.project.specs.Refused.{RefusedData}
-use Rattle.project.proofs.EdgeOrder.{holds_append, holds_left, holds_right, or_cases, or_left, or_right}
+use Rattle.build.specs.project.Adding.{after_answer, output_answer, with_output}
+use Rattle.build.specs.project.Laws.{all_held}
+use Rattle.build.specs.project.World.{WorldData}
+use Rattle.build.specs.project.Refused.{RefusedData}
+use Rattle.build.proofs.EdgeOrder.{holds_append, holds_left, holds_right, or_cases, or_left, or_right}
 use Rattle.world.specs.Deed.{Files, Deed, give, refuse, tell, ask, consult, read, change, begin_project, make, then as follows, perform}
 use Rattle.world.specs.Made.{ClosesOutputs, closed_by}
 use Rattle.world.specs.Making.{given_up, taken_by, telling, written}

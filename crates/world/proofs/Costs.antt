@@ -4,12 +4,12 @@ use Rattle.std.proofs.Common.{ap, ◌∙◌, arith}
 use Rattle.std.specs.Prelude.{◌||◌, bytes_eq, if◌then◌else◌}
 use Rattle.std.proofs.lemmas.List.Folds.{list_any-append}
 use Rattle.std.proofs.lemmas.Slice.Eq.{bytes_eq-Decides}
-use Rattle.basics.specs.Faults.{FaultData}
-use Rattle.paths.specs.Paths.{path_in}
+use Rattle.support.specs.Faults.{FaultData}
+use Rattle.support.specs.paths.Paths.{path_in}
 use Rattle.ports.specs.Outputs.{Step, closing, opening}
 use Rattle.ports.specs.Tree.{file_at}
-use Rattle.project.specs.Adding.{output_answer}
-use Rattle.project.specs.Refused.{RefusedData}
+use Rattle.build.specs.project.Adding.{output_answer}
+use Rattle.build.specs.project.Refused.{RefusedData}
 use Rattle.world.specs.Making.{Filling, after_output, given_up, taken, taken_by, telling, written}
 use Rattle.world.specs.Store.{changing}
 use Rattle.world.specs.Trace.{Mark, Told, Ended, ends_of}

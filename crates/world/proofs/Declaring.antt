@@ -2,9 +2,9 @@
 use Rattle.std.proofs.Common.{◌≡◌, ℕ, List, Result, Ok, Err, ap, refl}
 use Rattle.ports.specs.Outputs.{OutputState}
 use Rattle.ports.specs.Tree.{TreeState}
-use Rattle.project.specs.World.{WorldData}
-use Rattle.project.specs.Refused.{RefusedData, answer_data}
-use Rattle.project.specs.declared.refusal.Refused.{Refused}
+use Rattle.build.specs.project.World.{WorldData}
+use Rattle.build.specs.project.Refused.{RefusedData, answer_data}
+use Rattle.build.specs.declared.project.refusal.Refused.{Refused}
 use Rattle.world.specs.Answering.{State, Carries, IsAllowed}
 use Rattle.world.specs.Declaring.{allowed, declared}
 use Rattle.world.specs.Store.{changing}

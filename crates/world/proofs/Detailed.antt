@@ -1,9 +1,9 @@
 -- Refusals at other places than that of the call, and what they are about.
 use Rattle.std.proofs.Common.{◌≡◌, ℕ, List, [], Err, refl}
-use Rattle.basics.specs.Faults.{FaultData}
-use Rattle.basics.specs.View.{fault_view}
-use Rattle.basics.specs.declared.faults.fault.Fault.{Fault}
-use Rattle.basics.specs.declared.faults.refusal.Refusal.{Refusal}
+use Rattle.support.specs.Faults.{FaultData}
+use Rattle.support.specs.View.{fault_view}
+use Rattle.support.specs.declared.faults.fault.Fault.{Fault}
+use Rattle.support.specs.declared.faults.refusal.Refusal.{Refusal}
 use Rattle.world.specs.Answering.{State, Carries, seen_at}
 use Rattle.world.specs.World.{with_facts, with_place}
 use Rattle.world.specs.declared.stop.Stop.TheVariants as stops

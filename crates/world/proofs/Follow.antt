@@ -1,7 +1,7 @@
 -- Runs one after another, and what calls say of them.
 use Rattle.std.proofs.Common.{◌≡◌, ℕ, ◌+◌, List, [], ◌∷◌, ◌++◌, Result, Ok, Err, IsErrAnd, refl, sym, subst, ap, ◌∙◌, append_assoc, arith}
 use Rattle.code.specs.Draft.{IsFront}
-use Rattle.basics.specs.Faults.{FaultData}
+use Rattle.support.specs.Faults.{FaultData}
 use Rattle.world.specs.Trace.{Mark, Ended, Seen, seen, Adds, Begins}
 use Rattle.world.specs.World.{Asked, World}
 use Rattle.world.specs.Run.{Outcome, Run, ran, Act, Done, Faulted, with_end, after, follow, pure, fails, marks_of, outcome_of, world_after}

@@ -1,8 +1,8 @@
 -- What there is is handed on, or the call is refused where there is none.
 use Rattle.std.proofs.Common.{◌≡◌, Option, Some, None, Result, Ok, Err, option_map, ap, subst}
 use Rattle.std.specs.Prelude.{ok_or}
-use Rattle.basics.specs.declared.faults.refusal.Refusal.{Refusal}
-use Rattle.basics.specs.declared.faults.refusal.Refusal.TheVariants.{Arguments}
+use Rattle.support.specs.declared.faults.refusal.Refusal.{Refusal}
+use Rattle.support.specs.declared.faults.refusal.Refusal.TheVariants.{Arguments}
 use Rattle.world.specs.Answering.{Carries, IsFitting, State}
 use Rattle.world.specs.Deed.{fitting}
 use Rattle.world.specs.declared.stop.Stop.{Stop}

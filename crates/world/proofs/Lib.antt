@@ -22,3 +22,4 @@ pub mod Setting
 pub mod Tells
 mod Trails
 pub mod Values
+mod MadeSettings

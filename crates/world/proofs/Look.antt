@@ -1,14 +1,14 @@
 -- An act depends only on the paths that it looks at and on the questions that it asks, where it is a deed or a plan.
 use Rattle.std.proofs.Common.{◌≡◌, ℕ, List, [], ◌∷◌, ◌++◌, Option, Some, None, Result, Ok, Err, is_some, refl, sym, ap, subst, ◌∙◌}
 use Rattle.std.proofs.Common.{append_assoc, append-nil}
-use Rattle.basics.specs.Faults.{FaultData}
+use Rattle.support.specs.Faults.{FaultData}
 use Rattle.ports.specs.Outputs.{Step, closing, opening}
 use Rattle.ports.specs.Tree.{file_at}
 use Rattle.machine.specs.machine_file.Files.{Section}
 use Rattle.machine.specs.machine_file.Questions.{Question, answer_to}
-use Rattle.project.specs.Adding.{output_answer}
-use Rattle.project.specs.Refused.{RefusedData}
-use Rattle.paths.specs.Paths.{path_in}
+use Rattle.build.specs.project.Adding.{output_answer}
+use Rattle.build.specs.project.Refused.{RefusedData}
+use Rattle.support.specs.paths.Paths.{path_in}
 use Rattle.world.specs.Making.{Filling, after_output, filled, given_up, taken, taken_by, telling, written}
 use Rattle.world.specs.Store.{changing}
 use Rattle.world.specs.Trace.{Mark}

@@ -3,13 +3,13 @@ use Rattle.std.proofs.Common.{◌≡◌, ℕ, Bool, true, false, not, List, [], 
 use Rattle.std.proofs.Common.{subst, ◌∙◌}
 use Rattle.std.specs.Prelude.{cond, filter, if◌then◌else◌, ◌&&◌}
 use Rattle.std.specs.List.{list_all}
-use Rattle.basics.specs.Faults.{FaultData}
+use Rattle.support.specs.Faults.{FaultData}
 use Rattle.ports.specs.Outputs.{Step, closing, opening}
-use Rattle.project.specs.Adding.{after_answer, output_answer, with_output}
-use Rattle.project.specs.World.{WorldData}
-use Rattle.project.specs.Refused.{RefusedData}
-use Rattle.paths.specs.Paths.{path_in}
-use Rattle.targets.specs.edge.Texts.{Path, first_kept, holds, put_all_new, put_new}
+use Rattle.build.specs.project.Adding.{after_answer, output_answer, with_output}
+use Rattle.build.specs.project.World.{WorldData}
+use Rattle.build.specs.project.Refused.{RefusedData}
+use Rattle.support.specs.paths.Paths.{path_in}
+use Rattle.build.specs.edge.Texts.{Path, first_kept, holds, put_all_new, put_new}
 use Rattle.world.specs.Deed.{Files, Deed, give, refuse, tell, ask, consult, read, change, begin_project, make, then as follows, perform}
 use Rattle.world.specs.Making.{after_output, given_up, taken, telling, written}
 use Rattle.world.specs.Noted.{NotesLooks, PresentAreFiles, is_file, is_no_file}

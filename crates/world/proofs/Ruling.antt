@@ -4,8 +4,8 @@ use Rattle.arguments.specs.Refused.{RefusedData, said_data}
 use Rattle.arguments.specs.Rules.{broken}
 use Rattle.arguments.specs.declared.refused.Refused.{Refused}
 use Rattle.arguments.specs.declared.rule.Rule.{Rule}
-use Rattle.basics.specs.Faults.{FaultData}
-use Rattle.basics.specs.declared.faults.refusal.Refusal.TheVariants as refusals
+use Rattle.support.specs.Faults.{FaultData}
+use Rattle.support.specs.declared.faults.refusal.Refusal.TheVariants as refusals
 use Rattle.world.specs.Answering.{Carries, IsPassed, Refuses, State}
 use Rattle.world.specs.Fit.{passed}
 use Rattle.world.specs.Gives.{IsRefusal}

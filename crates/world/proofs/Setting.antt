@@ -9,9 +9,9 @@ use Rattle.std.proofs.lemmas.List.Folds.{position_or_len_push}
 use Rattle.std.proofs.lemmas.Slice.Eq.{bytes_eq-Decides}
 use Rattle.code.specs.Names.{number_in, with_name}
 use Rattle.code.proofs.NameLists.{begins_with_name, name_at}
-use Rattle.data.specs.Data.{Data}
-use Rattle.data.specs.View.{data_of}
-use Rattle.data.specs.declared.value.Value.{Value}
+use Rattle.values.specs.Data.{Data}
+use Rattle.values.specs.View.{data_of}
+use Rattle.values.specs.declared.value.Value.{Value}
 use Rattle.world.specs.World.{World, variables_with, with_variable, with_variables}
 use Rattle.world.specs.Store.{Kept, slot_value, kept_variables, world_of, changing}
 use Rattle.code.specs.Draft.{IsFront}
@@ -22,7 +22,7 @@ use Rattle.std.proofs.lemmas.Grind.{common_steps}
 use Rattle.world.proofs.Numbers.{number_at}
 use Rattle.std.specs.Prelude.{codes, Result, Ok, Err, OnOk}
 use Rattle.machine.specs.machine_file.Files.{Section}
-use Rattle.project.specs.World.{WorldData, new_world}
+use Rattle.build.specs.project.World.{WorldData, new_world}
 use Rattle.world.specs.World.{declaring}
 use Rattle.world.specs.Settings.{SettingsData}
 use Rattle.world.specs.Start.{first_world, unnamed}

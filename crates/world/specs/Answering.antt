@@ -2,9 +2,9 @@
 use Rattle.std.specs.Prelude.{◌≡◌, ℕ, ◌+◌, ◌<◌, ◌≤◌, ◌^◌, List, [], Result, Ok, Err, string_bytes}
 use Rattle.ports.specs.Outputs.{OutputState}
 use Rattle.ports.specs.Tree.{TreeState, Stays}
-use Rattle.data.specs.declared.refusal.Refusal.{Refusal as OperationRefusal}
-use Rattle.basics.specs.Faults.{FaultData}
-use Rattle.project.specs.declared.refusal.Refused.{Refused}
+use Rattle.values.specs.declared.refusal.Refusal.{Refusal as OperationRefusal}
+use Rattle.support.specs.Faults.{FaultData}
+use Rattle.build.specs.declared.project.refusal.Refused.{Refused}
 use Rattle.template.specs.declared.config.SetStop.{SetStop}
 use Rattle.template.specs.declared.config.SetStop.TheVariants as set_stops
 use Rattle.world.specs.Operation.{of_operation, of_project}
@@ -16,8 +16,8 @@ use Rattle.world.specs.Deed.{Files, Deed, perform}
 use Rattle.world.specs.Ruled.{broken_by}
 use Rattle.arguments.specs.declared.refused.Refused.{Refused as RefusedArguments}
 use Rattle.arguments.specs.declared.rule.Rule.{Rule}
-use Rattle.basics.specs.declared.faults.refusal.Refusal.{Refusal}
-use Rattle.basics.specs.declared.faults.refusal.Refusal.TheVariants as refusals
+use Rattle.support.specs.declared.faults.refusal.Refusal.{Refusal}
+use Rattle.support.specs.declared.faults.refusal.Refusal.TheVariants as refusals
 use Rattle.world.specs.declared.stop.Stop.{Stop}
 use Rattle.world.specs.declared.stop.Stop.TheVariants as stops
 

@@ -1,7 +1,7 @@
 -- Deeds on configuration data. An object names data by their number, and only data that there are; a number that none have stands for data
 -- without values, which no change reaches.
 use Rattle.std.specs.Prelude.{ℕ, Bool, true, not, List, [], ◌∷◌, ◌++◌, length, slice_index_or, slice_set, refl}
-use Rattle.basics.specs.declared.faults.refusal.Refusal.TheVariants as refusals
+use Rattle.support.specs.declared.faults.refusal.Refusal.TheVariants as refusals
 use Rattle.template.specs.Config.{Configuration, Content, Bytes, merged, quoted, unfrozen, with_value}
 use Rattle.world.specs.World.{Facts, with_configurations}
 use Rattle.world.specs.Deed.{Deed, give, read, change, need, ◌>>=◌}

@@ -2,7 +2,7 @@
 use Rattle.std.specs.Prelude.{ℕ, ◌+◌, ◌≤◌, Bool, true, false, List, [], ◌∷◌, codes}
 use Rattle.std.specs.List.{list_any}
 use Rattle.std.specs.Str.{bytes_eq}
-use Rattle.paths.specs.Paths.{path_in}
+use Rattle.support.specs.paths.Paths.{path_in}
 use Rattle.world.specs.Trace.{ends_of}
 use Rattle.world.specs.World.{World}
 use Rattle.world.specs.Run.{Run, Act, marks_of, world_after}

@@ -1,11 +1,11 @@
 -- Deeds that declare what a project has.
 use Rattle.std.specs.Prelude.{◌≡◌, ℕ, List, Result, Ok, Err, refl}
-use Rattle.targets.specs.edge.Texts.{Text}
-use Rattle.project.specs.Adding.{after_answer, after_target, arguments_answer, target_answer, with_arguments, with_dependency}
-use Rattle.project.specs.Adding.{with_install, with_link_arguments, with_target, with_test}
-use Rattle.project.specs.World.{WorldData, AnswerData, InstallData, TestData}
-use Rattle.project.specs.Refused.{RefusedData}
-use Rattle.targets.specs.Data.{TargetData}
+use Rattle.build.specs.edge.Texts.{Text}
+use Rattle.build.specs.project.Adding.{after_answer, after_target, arguments_answer, target_answer, with_arguments, with_dependency}
+use Rattle.build.specs.project.Adding.{with_install, with_link_arguments, with_target, with_test}
+use Rattle.build.specs.project.World.{WorldData, AnswerData, InstallData, TestData}
+use Rattle.build.specs.project.Refused.{RefusedData}
+use Rattle.build.specs.Data.{TargetData}
 use Rattle.world.specs.Operation.{of_project}
 use Rattle.world.specs.World.{KeepsPaths, declaring, paths_in}
 use Rattle.world.specs.Deed.{Deed, give, refuse, read, change, ◌>>=◌}

@@ -1,19 +1,19 @@
 -- Deeds: what a function does with its evaluated arguments. A deed ends no rule and enters no folder. It asks the tree of files by `ask`
 -- alone, and the machine file by `consult` alone; and by `make` alone an output of `configure_file` is made.
 use Rattle.std.specs.Prelude.{ℕ, Bool, true, false, List, [], Option, Result, Ok, Err, is_some}
-use Rattle.targets.specs.edge.Texts.{Path, Text}
+use Rattle.build.specs.edge.Texts.{Path, Text}
 use Rattle.ports.specs.Outputs.{Step, logs}
 use Rattle.ports.specs.Tree.{file_at}
-use Rattle.data.specs.declared.refusal.Refusal.{Refusal as OperationRefusal}
+use Rattle.values.specs.declared.refusal.Refusal.{Refusal as OperationRefusal}
 use Rattle.machine.specs.machine_file.Questions.{Answer, Question, answer_to}
-use Rattle.targets.specs.Data.{FactsData}
-use Rattle.paths.specs.Paths.{path_in}
+use Rattle.build.specs.Data.{FactsData}
+use Rattle.support.specs.paths.Paths.{path_in}
 use Rattle.world.specs.Making.{Filling, taken, telling, written}
 use Rattle.world.specs.Operation.{of_operation}
 use Rattle.world.specs.World.{Facts, LeavesPaths, asking, begun, looking, with_facts, fault_here}
 use Rattle.world.specs.Run.{Act, ran, Done, pure, fails, follow}
-use Rattle.basics.specs.declared.faults.refusal.Refusal.{Refusal}
-use Rattle.basics.specs.declared.faults.refusal.Refusal.TheVariants as refusals
+use Rattle.support.specs.declared.faults.refusal.Refusal.{Refusal}
+use Rattle.support.specs.declared.faults.refusal.Refusal.TheVariants as refusals
 
 -- the files of the tree, by their paths
 abbrev pub Files : Type 0

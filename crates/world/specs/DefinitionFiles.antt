@@ -2,14 +2,14 @@
 use Rattle.std.specs.Prelude.{ℕ, ◌+◌, Bool, true, false, List, [], take, count_by, nat_eq, nat_le, length, Result, Ok, Err, refl}
 use Rattle.std.specs.Str.{is_utf8}
 use Rattle.std.specs.Str.Lossy.{utf8_valid_len}
-use Rattle.lexer.specs.declared.fault.SyntaxFault.{SyntaxFault}
-use Rattle.lexer.specs.declared.fault.FaultKind.{FaultKind}
-use Rattle.lexer.specs.declared.fault.FaultKind.TheVariants as kinds
-use Rattle.grammar.specs.Parsed.{parsed}
-use Rattle.grammar.specs.Tree.{FileTree, Statements, statements}
-use Rattle.basics.specs.declared.faults.refusal.Refusal.{Refusal}
-use Rattle.basics.specs.declared.faults.refusal.Refusal.TheVariants as refusals
-use Rattle.basics.specs.Limits.{text_bytes}
+use Rattle.syntax.specs.declared.lexer.fault.SyntaxFault.{SyntaxFault}
+use Rattle.syntax.specs.declared.lexer.fault.FaultKind.{FaultKind}
+use Rattle.syntax.specs.declared.lexer.fault.FaultKind.TheVariants as kinds
+use Rattle.syntax.specs.Parsed.{parsed}
+use Rattle.syntax.specs.Tree.{FileTree, Statements, statements}
+use Rattle.support.specs.declared.faults.refusal.Refusal.{Refusal}
+use Rattle.support.specs.declared.faults.refusal.Refusal.TheVariants as refusals
+use Rattle.support.specs.Limits.{text_bytes}
 use Rattle.world.specs.World.{with_line}
 use Rattle.world.specs.Deed.{Deed, give, refuse, change, ◌>>=◌, need}
 

@@ -1,6 +1,6 @@
 -- Refusals at other places than that of the call, and what they are about.
 use Rattle.std.specs.Prelude.{ℕ, List, [], refl}
-use Rattle.basics.specs.declared.faults.refusal.Refusal.{Refusal}
+use Rattle.support.specs.declared.faults.refusal.Refusal.{Refusal}
 use Rattle.world.specs.World.{with_line, with_place}
 use Rattle.world.specs.Deed.{Deed, refuse, change, ◌>>=◌}
 

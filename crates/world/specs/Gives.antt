@@ -1,8 +1,8 @@
 -- What the answer of a call says of a run.
 use Rattle.std.specs.Prelude.{◌≡◌, ℕ, ◌+◌, IsTrue, List, Result, Ok, Err}
 use Rattle.ports.specs.Tree.{TreeState}
-use Rattle.basics.specs.Faults.{FaultData}
-use Rattle.basics.specs.View.{fault_view}
+use Rattle.support.specs.Faults.{FaultData}
+use Rattle.support.specs.View.{fault_view}
 use Rattle.world.specs.Trace.{Mark, Seen, Adds, Begins}
 use Rattle.world.specs.World.{Asked, World}
 use Rattle.world.specs.Run.{Outcome, Run, ran, Done, Faulted, after, marks_of, outcome_of, world_after}

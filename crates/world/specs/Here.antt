@@ -1,7 +1,7 @@
 -- Where a call stands: below which roots, in which folder of the tree, and behind which targets.
 use Rattle.std.specs.Prelude.{ℕ, List}
-use Rattle.targets.specs.edge.Texts.{Path}
-use Rattle.targets.specs.Libraries.{LinkedData, linked_of}
+use Rattle.build.specs.edge.Texts.{Path}
+use Rattle.build.specs.Libraries.{LinkedData, linked_of}
 use Rattle.world.specs.World.{Facts}
 
 pub record HereData : Type 0 where

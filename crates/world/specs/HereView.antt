@@ -1,5 +1,5 @@
 -- Where a call stands, without where it lies in memory.
-use Rattle.targets.specs.LinkedViews.{linked_views}
+use Rattle.build.specs.LinkedViews.{linked_views}
 use Rattle.world.specs.Here.{HereData}
 use Rattle.world.specs.declared.caller.here.Here.{Here}
 

@@ -32,3 +32,4 @@ pub mod Trace
 pub mod Trail
 pub mod World
 pub mod AskedView
+pub mod MakingSettings

@@ -1,8 +1,8 @@
 -- What becomes of the outputs of `configure_file`.
 use Rattle.std.specs.Prelude.{◌≡◌, ℕ, true, List, [], ◌∷◌, Option}
-use Rattle.targets.specs.edge.Texts.{Path}
+use Rattle.build.specs.edge.Texts.{Path}
 use Rattle.ports.specs.Outputs.{Event, Open, Byte, Close, Log, Fault, Step, told}
-use Rattle.project.specs.Laws.{all_held}
+use Rattle.build.specs.project.Laws.{all_held}
 use Rattle.world.specs.Run.{Run, ran, Done, Faulted}
 use Rattle.world.specs.Trace.{steps_of}
 

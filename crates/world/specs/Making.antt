@@ -1,12 +1,12 @@
 -- How an output of `configure_file` is made: its path is taken, and later it is opened, filled and closed.
 use Rattle.std.specs.Prelude.{◌≡◌, List, map, Option, Some, None, Result, Ok, Err}
-use Rattle.targets.specs.edge.Texts.{Path, Text}
-use Rattle.basics.specs.Faults.{FaultData}
+use Rattle.build.specs.edge.Texts.{Path, Text}
+use Rattle.support.specs.Faults.{FaultData}
 use Rattle.ports.specs.Outputs.{Step, closing, name_after, opening}
-use Rattle.project.specs.Adding.{after_answer, output_answer, with_output}
-use Rattle.project.specs.World.{WorldData}
-use Rattle.project.specs.Refused.{RefusedData}
-use Rattle.paths.specs.Paths.{path_in}
+use Rattle.build.specs.project.Adding.{after_answer, output_answer, with_output}
+use Rattle.build.specs.project.World.{WorldData}
+use Rattle.build.specs.project.Refused.{RefusedData}
+use Rattle.support.specs.paths.Paths.{path_in}
 use Rattle.world.specs.Operation.{of_project}
 use Rattle.world.specs.Run.{Act, ran, Done, fails, follow, pure}
 use Rattle.world.specs.Trace.{Told}

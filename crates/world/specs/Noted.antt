@@ -1,7 +1,7 @@
 -- What the project notes of the paths that a run looks at.
 use Rattle.std.specs.Prelude.{◌≡◌, ℕ, Bool, true, not, List, filter, is_some}
 use Rattle.std.specs.List.{list_all}
-use Rattle.targets.specs.edge.Texts.{first_kept}
+use Rattle.build.specs.edge.Texts.{first_kept}
 use Rattle.ports.specs.Tree.{file_at}
 use Rattle.world.specs.Deed.{Files}
 use Rattle.world.specs.World.{World, noted_in}

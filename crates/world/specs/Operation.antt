@@ -1,10 +1,10 @@
 -- The numbers and words of refusals.
-use Rattle.data.specs.declared.refusal.Refusal.{Refusal as OperationRefusal}
-use Rattle.data.specs.declared.refusal.Refusal.TheVariants as operation
-use Rattle.project.specs.declared.refusal.Refusal.{Refusal as ProjectRefusal}
-use Rattle.project.specs.declared.refusal.Refusal.TheVariants as project
-use Rattle.basics.specs.declared.faults.refusal.Refusal.{Refusal}
-use Rattle.basics.specs.declared.faults.refusal.Refusal.TheVariants as refusals
+use Rattle.values.specs.declared.refusal.Refusal.{Refusal as OperationRefusal}
+use Rattle.values.specs.declared.refusal.Refusal.TheVariants as operation
+use Rattle.build.specs.declared.project.refusal.Refusal.{Refusal as ProjectRefusal}
+use Rattle.build.specs.declared.project.refusal.Refusal.TheVariants as project
+use Rattle.support.specs.declared.faults.refusal.Refusal.{Refusal}
+use Rattle.support.specs.declared.faults.refusal.Refusal.TheVariants as refusals
 
 -- the refusal that an operation on values is
 abbrev pub of_operation : OperationRefusal → Refusal

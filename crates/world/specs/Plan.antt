@@ -1,11 +1,11 @@
 -- Plans: what evaluation does. A plan reads and changes the world by deeds, and beside them ends rules and enters folders.
 use Rattle.std.specs.Prelude.{ℕ, List, [], Result, Ok, Err, refl}
-use Rattle.data.specs.declared.refusal.Refusal.{Refusal as OperationRefusal}
+use Rattle.values.specs.declared.refusal.Refusal.{Refusal as OperationRefusal}
 use Rattle.world.specs.Operation.{of_operation}
 use Rattle.world.specs.World.{entering, with_line}
 use Rattle.world.specs.Run.{Act, ran, Done, pure, with_end, follow}
 use Rattle.world.specs.Deed.{Files, Deed, give as give_deed, refuse as refuse_deed, change, perform}
-use Rattle.basics.specs.declared.faults.refusal.Refusal.{Refusal}
+use Rattle.support.specs.declared.faults.refusal.Refusal.{Refusal}
 
 pub data Plan : Type 0 → Type 1 where
   deed : {A : Type 0} → Deed A → Plan A

@@ -1,6 +1,6 @@
 -- What the clauses of calls speak of.
 pub use Rattle.arguments.specs.Arguments.{arguments_data}
-pub use Rattle.data.specs.Prelude.{Answers, data_of, items_of, string_in, within, within_bytes}
+pub use Rattle.values.specs.Prelude.{Answers, data_of, items_of, string_in, within, within_bytes}
 pub use Rattle.world.specs.Answering.{Refuses}
 pub use Rattle.world.specs.Caller.{Does, MayFail, state_of}
 pub use Rattle.world.specs.Deed.{Files}

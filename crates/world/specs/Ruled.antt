@@ -2,9 +2,9 @@
 use Rattle.std.specs.Prelude.{ℕ, Bool, List, [], Option, Some, None, Result, Ok, Err}
 use Rattle.arguments.specs.Rules.{broken}
 use Rattle.arguments.specs.declared.rule.Rule.{Rule}
-use Rattle.basics.specs.declared.faults.refusal.Refusal.TheVariants as refusals
-use Rattle.data.specs.declared.refusal.Refusal.{Refusal as OperationRefusal}
-use Rattle.data.specs.declared.refusal.Refusal.TheVariants as operation
+use Rattle.support.specs.declared.faults.refusal.Refusal.TheVariants as refusals
+use Rattle.values.specs.declared.refusal.Refusal.{Refusal as OperationRefusal}
+use Rattle.values.specs.declared.refusal.Refusal.TheVariants as operation
 use Rattle.world.specs.Deed.{Deed, give, need, refuse}
 use Rattle.world.specs.Operation.{of_operation}
 

@@ -1,6 +1,6 @@
 -- Runs: how they end, the world after them, and the marks that they leave.
 use Rattle.std.specs.Prelude.{List, [], ◌∷◌, ◌++◌}
-use Rattle.basics.specs.Faults.{FaultData}
+use Rattle.support.specs.Faults.{FaultData}
 use Rattle.world.specs.Trace.{Mark, Ended}
 use Rattle.world.specs.World.{World}
 

@@ -1,8 +1,8 @@
 -- The world in which a run begins.
 use Rattle.std.specs.Prelude.{List, [], None, false, codes}
 use Rattle.machine.specs.machine_file.Files.{Section}
-use Rattle.project.specs.World.{new_world}
-use Rattle.targets.specs.Data.{FactsData, FlagsData}
+use Rattle.build.specs.project.World.{new_world}
+use Rattle.build.specs.Data.{FactsData, FlagsData}
 use Rattle.world.specs.Settings.{SettingsData}
 use Rattle.world.specs.World.{World}
 

@@ -1,14 +1,14 @@
 -- What a store is seen as, and the world that it keeps.
 use Rattle.std.specs.Prelude.{ℕ, Bool, List, [], Option, Some, None, option_map, option_and_then, slice_index_or}
 use Rattle.code.specs.Names.{number_in}
-use Rattle.data.specs.Data.{Data}
-use Rattle.data.specs.View.{data_of}
-use Rattle.data.specs.declared.value.Value.{Value}
+use Rattle.values.specs.Data.{Data}
+use Rattle.values.specs.View.{data_of}
+use Rattle.values.specs.declared.value.Value.{Value}
 use Rattle.machine.specs.machine_file.Files.{Section}
 use Rattle.machine.specs.option_values.Settings.{Setting}
 use Rattle.machine.specs.option_values.SettingsView.{options_in}
 use Rattle.machine.specs.declared.option_values.settings.Options.{Options}
-use Rattle.project.specs.World.{WorldData}
+use Rattle.build.specs.project.World.{WorldData}
 use Rattle.template.specs.Config.{Configuration}
 use Rattle.world.specs.Settings.{SettingsData}
 use Rattle.world.specs.World.{Asked, World, Facts, with_facts}

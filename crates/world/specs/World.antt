@@ -1,16 +1,16 @@
 -- The world of a run: what its definition files are evaluated in.
 use Rattle.std.specs.Prelude.{◌≡◌, ℕ, Bool, true, false, List, [], ◌∷◌, ◌++◌, Option, if◌then◌else◌}
 use Rattle.std.specs.Str.{bytes_eq}
-use Rattle.data.specs.Data.{Data}
-use Rattle.targets.specs.edge.Texts.{first_kept}
-use Rattle.basics.specs.Faults.{FaultData}
-use Rattle.basics.specs.declared.faults.refusal.Refusal.{Refusal}
+use Rattle.values.specs.Data.{Data}
+use Rattle.build.specs.edge.Texts.{first_kept}
+use Rattle.support.specs.Faults.{FaultData}
+use Rattle.support.specs.declared.faults.refusal.Refusal.{Refusal}
 use Rattle.machine.specs.machine_file.Files.{Section}
 use Rattle.machine.specs.machine_file.Questions.{Question}
 use Rattle.machine.specs.option_values.Settings.{Setting}
-use Rattle.project.specs.Adding.{with_absent, with_present}
-use Rattle.project.specs.World.{WorldData, new_world}
-use Rattle.targets.specs.Data.{FactsData}
+use Rattle.build.specs.project.Adding.{with_absent, with_present}
+use Rattle.build.specs.project.World.{WorldData, new_world}
+use Rattle.build.specs.Data.{FactsData}
 use Rattle.template.specs.Config.{Configuration}
 use Rattle.world.specs.Settings.{SettingsData}
 

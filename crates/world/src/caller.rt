@@ -16,11 +16,11 @@ mod ruling;
 use crate::operation::of_operation;
 use crate::stop::Stop;
 use crate::store::Store;
-use basics::faults::Refusal;
 pub use here::Here;
 use machine::machine_file::{Question, Topic};
 use ports::{Outputs, Tree, log_all};
 use std::alloc::Global;
+use support::faults::Refusal;
 
 /// What a call works on.
 #[derive(Drop)]
@@ -43,7 +43,7 @@ impl<'a, T: Tree, O: Outputs> Caller<'a, T, O> {
     }
 
     /// What an operation on values answered, or the stop of its refusal.
-    pub fn answer<A>(&self, answer: Result<A, data::Refusal>) -> Result<A, Stop>
+    pub fn answer<A>(&self, answer: Result<A, values::Refusal>) -> Result<A, Stop>
         ensures { IsAnswered (world_of self.now.store.now) answer result }
     {
         match answer {

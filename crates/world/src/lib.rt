@@ -30,7 +30,7 @@ mod trail;
 pub use asked::Asked;
 pub use caller::{Caller, Here};
 pub use operation::of_operation;
-pub use settings::Settings;
+pub use settings::{Settings, SettingsFault};
 pub use steps::{Steps, end_rule, ends_keep_up, new_steps};
 pub use stop::Stop;
 pub use store::{Place, Store};

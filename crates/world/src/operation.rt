@@ -2,19 +2,19 @@
 ghost use Rattle.std.specs.Prelude.{◌≡◌};
 ghost use Rattle.world.specs.Operation.{of_operation};
 
-use basics::faults::Refusal;
+use support::faults::Refusal;
 
 /// The refusal that an operation on values is.
-pub fn of_operation(refusal: data::Refusal) -> Refusal
+pub fn of_operation(refusal: values::Refusal) -> Refusal
     ensures { result ≡ of_operation refusal }
 {
     match refusal {
-        data::Refusal::Type => Refusal::Type,
-        data::Refusal::Range => Refusal::Range,
-        data::Refusal::UnknownMethod => Refusal::UnknownFunction,
-        data::Refusal::Arguments => Refusal::Arguments,
-        data::Refusal::Absent => Refusal::Absent,
-        data::Refusal::Duplicate => Refusal::Duplicate,
-        data::Refusal::Limit => Refusal::Limit,
+        values::Refusal::Type => Refusal::Type,
+        values::Refusal::Range => Refusal::Range,
+        values::Refusal::UnknownMethod => Refusal::UnknownFunction,
+        values::Refusal::Arguments => Refusal::Arguments,
+        values::Refusal::Absent => Refusal::Absent,
+        values::Refusal::Duplicate => Refusal::Duplicate,
+        values::Refusal::Limit => Refusal::Limit,
     }
 }

@@ -1,24 +1,81 @@
 //! What a user sets for a run.
-ghost use Rattle.std.specs.Prelude.{◌≡◌, IfOk};
-ghost use Rattle.world.specs.SettingsView.{settings_view};
+ghost use Rattle.std.specs.Prelude.{◌≡◌, ◌≤◌, IfOk, IsTrue, map, string_bytes};
+ghost use Rattle.support.specs.paths.Below.{is_absolute};
 
+use build::edge::copies;
 use std::alloc::{AllocError, Global};
-use targets::edge::copies;
+use support::paths::{depth_of, is_absolute, path_below, tidy_folder};
+use thiserror::Error;
 
-/// What a user sets for a run.
+/// Why there are no [`Settings`] of these texts.
+#[derive(Clone, Copy, Debug, PartialEq, Eq, Drop, Error)]
+pub enum SettingsFault {
+    /// The source root doesn't begin with `/`.
+    #[error("the source root is no absolute path")]
+    Root,
+    /// The build folder is absolute, has a part `..`, or has no part or more than 64.
+    #[error("the build folder is no relative path of 1 to 64 parts, none of them `..`")]
+    Folder,
+    /// Memory ran out.
+    #[error("out of memory")]
+    Memory,
+}
+
+impl From<AllocError> for SettingsFault {
+    ghost use Rattle.world.specs.declared.settings.SettingsFault.TheVariants.{Memory};
+
+    ghost from_gives = { λ _ fault. fault ≡ Memory };
+
+    fn from(_error: AllocError) -> SettingsFault {
+        SettingsFault::Memory
+    }
+}
+
+/// What a user sets for a run: the option words, the source root and the build folder.
+///
+/// They can't be wrong: both roots are absolute, and the build folder lies 1 to 64 folders below the source root.
 #[derive(Drop)]
 pub struct Settings {
-    /// Option words, `name=value` each, in the order in which they were given.
-    pub words: Vec<String>,
-    /// How many folders the build folder lies below the source root, from 1 to 64.
-    pub depth: usize,
-    /// The source root: an absolute path.
-    pub source_root: String,
-    /// The build folder: an absolute path.
-    pub build_root: String,
+    words: Vec<String>,
+    depth: usize,
+    source_root: String,
+    build_root: String,
+    pub ghost some_depth: { 1 ≤ depth },
+    pub ghost depth_limit: { depth ≤ 64 },
+    pub ghost absolute_source_root: { IsTrue (is_absolute (string_bytes source_root)) },
+    pub ghost absolute_build_root: { IsTrue (is_absolute (string_bytes build_root)) },
 }
 
 impl Settings {
+    ghost use Rattle.world.specs.MakingSettings.{MakesSettings};
+    ghost use Rattle.world.specs.SettingsView.{settings_view};
+
+    /// The settings of a run in the folder `source_root`, an absolute path, for the build folder `build_folder`, relative to it: 1 to 64
+    /// parts divided by `/`, none of them `..`. Empty parts and `.` go. `words` are option words, `name=value` each, in the order in
+    /// which they were given.
+    pub fn new(
+        alloc: Global,
+        source_root: &str,
+        build_folder: &str,
+        words: Vec<String>,
+    ) -> Result<Settings, SettingsFault>
+        ensures { MakesSettings source_root.now build_folder.now (map string_bytes words.items) result }
+    {
+        if !is_absolute(source_root) {
+            return Err(SettingsFault::Root);
+        }
+        let Some(folder) = tidy_folder(alloc, build_folder)? else {
+            return Err(SettingsFault::Folder);
+        };
+        let build_root = path_below(alloc, source_root, folder.as_str())?;
+        Ok(Settings {
+            words,
+            depth: depth_of(folder.as_str()),
+            source_root: String::from_str(alloc, source_root)?,
+            build_root,
+        })
+    }
+
     /// The same settings.
     pub fn copy(&self, alloc: Global) -> Result<Settings, AllocError>
         ensures { IfOk result (λ s. settings_view s ≡ settings_view self.now) }
@@ -29,5 +86,37 @@ impl Settings {
             source_root: String::from_str(alloc, self.source_root.as_str())?,
             build_root: String::from_str(alloc, self.build_root.as_str())?,
         })
+    }
+
+    /// The option words, `name=value` each, in the order in which they were given.
+    pub fn words(&self) -> &[String]
+        ensures { map string_bytes result.now ≡ (settings_view self.now).words }
+    {
+        &self.words
+    }
+
+    /// How many folders the build folder lies below the source root, from 1 to 64.
+    pub fn depth(&self) -> usize
+        ensures value { result ≡ (settings_view self.now).depth }
+        ensures some { 1 ≤ result }
+        ensures limit { result ≤ 64 }
+    {
+        self.depth
+    }
+
+    /// The source root: an absolute path.
+    pub fn source_root(&self) -> &str
+        ensures value { result.now ≡ (settings_view self.now).source_root }
+        ensures absolute { IsTrue (is_absolute result.now) }
+    {
+        self.source_root.as_str()
+    }
+
+    /// The build folder: an absolute path.
+    pub fn build_root(&self) -> &str
+        ensures value { result.now ≡ (settings_view self.now).build_root }
+        ensures absolute { IsTrue (is_absolute result.now) }
+    {
+        self.build_root.as_str()
     }
 }

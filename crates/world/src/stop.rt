@@ -1,18 +1,22 @@
 //! Why a run came to no value.
 ghost use Rattle.std.specs.Prelude.{◌≡◌};
 
-use basics::faults::Fault;
 use ports::DeviceFault;
 use std::alloc::{AllocError, AllocFailed};
+use support::faults::Fault;
+use thiserror::Error;
 
 /// Why an evaluation came to no value.
-#[derive(Drop)]
+#[derive(Debug, Drop, Error)]
 pub enum Stop {
     /// The definitions are refused.
+    #[error(transparent)]
     Refused(Fault),
     /// A device failed.
+    #[error("a device failed")]
     Device,
     /// No memory was left.
+    #[error("out of memory")]
     Memory,
 }
 

@@ -4,14 +4,14 @@ ghost use Rattle.std.specs.Prelude.{max, option_map, slice_index_or, string_byte
 ghost use Rattle.std.specs.List.{list_any};
 ghost use Rattle.code.specs.Code.{code_tree};
 ghost use Rattle.code.specs.Draft.{IsFront};
-ghost use Rattle.data.specs.View.{data_of};
-ghost use Rattle.grammar.specs.Tree.{file_of};
+ghost use Rattle.values.specs.View.{data_of};
+ghost use Rattle.syntax.specs.Tree.{file_of};
 ghost use Rattle.machine.specs.machine_file.QuestionsView.{question_in};
 ghost use Rattle.machine.specs.machine_file.View.{machine_in};
 ghost use Rattle.machine.specs.option_values.View.{value_in};
 ghost use Rattle.machine.specs.option_values.Settings.{value_named};
 ghost use Rattle.machine.specs.option_values.SettingsView.{options_in};
-ghost use Rattle.targets.specs.View.{facts_view, flags_view};
+ghost use Rattle.build.specs.View.{facts_view, flags_view};
 ghost use Rattle.world.specs.Answering.{Refuses};
 ghost use Rattle.world.specs.AskedView.{all_asked_in};
 ghost use Rattle.world.specs.SettingsView.{settings_view};
@@ -27,19 +27,19 @@ use crate::asked::Asked;
 use crate::settings::Settings;
 use crate::stop::Stop;
 use crate::trail::Trail;
-use basics::faults::{Fault, Refusal};
+use build::project::Project;
+use build::{Facts, Flags};
 use code::{Code, Names, flatten};
-use data::Value;
-use grammar::tree::File;
 use machine::machine_file::{Machine, Question};
 use machine::option_values::{OptionValue, Options};
-use project::Project;
 use std::alloc::{AllocError, Global};
 use std::marker::Model;
 use std::mem;
 use std::rc::Rc;
-use targets::{Facts, Flags};
+use support::faults::{Fault, Refusal};
+use syntax::tree::File;
 use template::ConfigData;
+use values::Value;
 
 /// A place in the definition files.
 #[derive(Drop)]
@@ -96,7 +96,7 @@ impl Model for Store {
 
     ghost Value = { Kept };
 
-    ghost use Rattle.data.specs.contracts.value.Value as value_row;
+    ghost use Rattle.values.specs.contracts.value.Value as value_row;
     ghost use Rattle.std.specs.Coded.{codes};
 
     ghost coded = { Prim.hlevel (codes, value_row.the_row.coded) };
@@ -166,9 +166,9 @@ fn unnamed_facts(alloc: Global, settings: &Settings) -> Result<Facts, AllocError
         name: String::new(alloc),
         version: String::new(alloc),
         license: Vec::new(alloc),
-        depth: settings.depth,
-        source_root: String::from_str(alloc, settings.source_root.as_str())?,
-        build_root: String::from_str(alloc, settings.build_root.as_str())?,
+        depth: settings.depth(),
+        source_root: String::from_str(alloc, settings.source_root())?,
+        build_root: String::from_str(alloc, settings.build_root())?,
         compiler: Vec::new(alloc),
         archiver: Vec::new(alloc),
         flags: no_flags(alloc),

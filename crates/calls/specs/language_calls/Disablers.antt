@@ -1,6 +1,6 @@
 -- `disabler` and `is_disabler`.
 use Rattle.std.specs.Prelude.{false, Option, Some, unwrap_or, option_map}
-use Rattle.data.specs.Data.{Data, boolean, is_disabler}
+use Rattle.values.specs.Data.{Data, boolean, is_disabler}
 use Rattle.operations.specs.operators.Operations.{disabler}
 use Rattle.arguments.specs.Arguments.{ArgumentsData}
 use Rattle.arguments.specs.Given.{argument}

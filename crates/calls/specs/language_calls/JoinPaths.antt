@@ -1,10 +1,10 @@
 -- `join_paths`: one path of many.
 use Rattle.std.specs.Prelude.{ℕ, List, [], ◌∷◌, Option, Some}
-use Rattle.data.specs.Data.{Data, text}
-use Rattle.data.specs.Limits.{within}
-use Rattle.paths.specs.Below.{path_below}
+use Rattle.values.specs.Data.{Data, text}
+use Rattle.values.specs.Limits.{within}
+use Rattle.support.specs.paths.Below.{path_below}
 use Rattle.arguments.specs.Arguments.{ArgumentsData}
-use Rattle.data.specs.Flat.{flat_all}
+use Rattle.values.specs.Flat.{flat_all}
 use Rattle.world.specs.Deed.{Deed, give, ◌>>=◌, answered}
 
 -- each path below the one before it, as the operator `/` has it

@@ -1,10 +1,10 @@
 -- `message`, `warning`, `error` and `assert`: what is told to the user.
 use Rattle.std.specs.Prelude.{ℕ, true, List, [], ◌∷◌, ◌++◌, Option, None, codes}
 use Rattle.std.specs.List.{list_all}
-use Rattle.data.specs.Data.{Data}
-use Rattle.basics.specs.declared.faults.refusal.Refusal.TheVariants as refusals
-use Rattle.data.specs.printing.Pieces.{whole}
-use Rattle.data.specs.printing.Printed.{is_printable, shown}
+use Rattle.values.specs.Data.{Data}
+use Rattle.support.specs.declared.faults.refusal.Refusal.TheVariants as refusals
+use Rattle.values.specs.printing.Pieces.{whole}
+use Rattle.values.specs.printing.Printed.{is_printable, shown}
 use Rattle.arguments.specs.Arguments.{ArgumentsData}
 use Rattle.arguments.specs.Given.{flag_at, text_or}
 use Rattle.calls.specs.language_calls.Saying.{behind_spaces}

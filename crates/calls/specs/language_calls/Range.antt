@@ -1,10 +1,10 @@
 -- `range`: a list of integers.
 use Rattle.std.specs.Prelude.{ℕ, zero, suc, ◌+◌, ◌-◌, ◌/◌, nat_le, ℤ, pos, List, [], ◌∷◌}
 use Rattle.std.specs.Prelude.{Option, Some, option_and_then, unwrap_or, Result, Err, codes, if◌then◌else◌}
-use Rattle.data.specs.Data.{Data, integer, list, Items, no_items, item, integer_in}
-use Rattle.data.specs.Limits.{within}
-use Rattle.data.specs.declared.refusal.Refusal.{Refusal}
-use Rattle.data.specs.declared.refusal.Refusal.TheVariants as refusals
+use Rattle.values.specs.Data.{Data, integer, list, Items, no_items, item, integer_in}
+use Rattle.values.specs.Limits.{within}
+use Rattle.values.specs.declared.refusal.Refusal.{Refusal}
+use Rattle.values.specs.declared.refusal.Refusal.TheVariants as refusals
 use Rattle.arguments.specs.Arguments.{ArgumentsData}
 use Rattle.arguments.specs.Given.{argument}
 use Rattle.arguments.specs.declared.rule.Rule.TheVariants as rules

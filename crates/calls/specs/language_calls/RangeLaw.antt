@@ -1,6 +1,6 @@
 -- What `range` comes to: all that a start and steps from it reach below the stop, in order.
 use Rattle.std.specs.Prelude.{◌≡◌, ◌↔◌, ◌<◌, ◌≤◌, ℕ, zero, suc, ◌+◌, ◌*◌, pos, Option, Some, None}
-use Rattle.data.specs.Data.{Data, integer, Items, no_items, item}
+use Rattle.values.specs.Data.{Data, integer, Items, no_items, item}
 use Rattle.calls.specs.language_calls.Range.{how_many, integers_from}
 
 -- the item at a place

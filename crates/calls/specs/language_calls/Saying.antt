@@ -1,8 +1,8 @@
 -- Texts that are told one after another.
 use Rattle.std.specs.Prelude.{ℕ, List, [], ◌∷◌, codes}
 use Rattle.std.specs.List.{flat_map}
-use Rattle.data.specs.Data.{Data}
-use Rattle.data.specs.printing.Printed.{shown}
+use Rattle.values.specs.Data.{Data}
+use Rattle.values.specs.printing.Printed.{shown}
 use Rattle.world.specs.Deed.{Deed, give, ◌>>=◌, say}
 
 -- each of these goes to the log

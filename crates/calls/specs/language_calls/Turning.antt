@@ -2,9 +2,9 @@
 use Rattle.std.specs.Prelude.{Bool, true, false, not, ◌&&◌}
 use Rattle.arguments.specs.Arguments.{ArgumentsData}
 use Rattle.arguments.specs.Disablers.{gives_disabler}
-use Rattle.data.specs.declared.language_names.functions.Function.{Function}
-use Rattle.data.specs.declared.language_names.functions.Function.TheVariants as functions
-use Rattle.data.specs.declared.language_names.functions.ProjectFunction.TheVariants as of_project
+use Rattle.values.specs.declared.language_names.functions.Function.{Function}
+use Rattle.values.specs.declared.language_names.functions.Function.TheVariants as functions
+use Rattle.values.specs.declared.language_names.functions.ProjectFunction.TheVariants as of_project
 
 -- the functions that take a disabler as they take any value
 abbrev pub takes_disablers : Function → Bool

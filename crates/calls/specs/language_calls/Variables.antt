@@ -1,14 +1,14 @@
 -- The functions that name a variable by a text.
 use Rattle.std.specs.Prelude.{ℕ, Bool, true, false, not, ◌||◌, ◌&&◌, List, [], Option, Some, None, is_some, refl}
-use Rattle.data.specs.Data.{Data, boolean}
+use Rattle.values.specs.Data.{Data, boolean}
 use Rattle.arguments.specs.declared.rule.Rule.TheVariants as rules
-use Rattle.basics.specs.declared.faults.refusal.Refusal.TheVariants as refusals
+use Rattle.support.specs.declared.faults.refusal.Refusal.TheVariants as refusals
 use Rattle.arguments.specs.Arguments.{ArgumentsData}
 use Rattle.arguments.specs.Given.{argument, text_at}
 use Rattle.world.specs.World.{with_variable}
 use Rattle.world.specs.Deed.{Deed, give, refuse, read, change, ◌>>=◌, need}
 use Rattle.world.specs.Ruled.{obeyed}
-use Rattle.data.specs.language_names.Names.{is_name, is_predefined, predefined}
+use Rattle.values.specs.language_names.Names.{is_name, is_predefined, predefined}
 
 -- a name that definition files may set
 abbrev pub is_settable : List ℕ → Bool

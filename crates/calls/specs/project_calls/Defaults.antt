@@ -1,11 +1,11 @@
 -- The keyword `default_options` of `project`: texts `NAME=VALUE`, or a dictionary of values, which are taken as they are printed.
 use Rattle.std.specs.Prelude.{ℕ, List, [], ◌∷◌, ◌++◌, map, codes, Option, unwrap_or, option_and_then, Result, Ok, Err}
-use Rattle.data.specs.Data.{Items, no_items, item, Entries, no_entries, entry_values, entries_in, keys_in}
-use Rattle.data.specs.declared.refusal.Refusal.{Refusal as OperationRefusal}
+use Rattle.values.specs.Data.{Items, no_items, item, Entries, no_entries, entry_values, entries_in, keys_in}
+use Rattle.values.specs.declared.refusal.Refusal.{Refusal as OperationRefusal}
 use Rattle.arguments.specs.Arguments.{ArgumentsData}
 use Rattle.arguments.specs.Given.{keyword, texts}
 use Rattle.options.specs.Verdicts.{Default, Assignment, Entry}
-use Rattle.data.specs.printing.Printed.{printed}
+use Rattle.values.specs.printing.Printed.{printed}
 use Rattle.operations.specs.operators.TextLists.{and_then}
 
 -- texts, and behind them those that values are printed as

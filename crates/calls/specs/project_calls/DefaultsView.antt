@@ -2,7 +2,7 @@
 use Rattle.std.specs.Prelude.{ℕ, List, map, string_bytes, Result, Ok, Err, String}
 use Rattle.std.specs.declared.alloc.Global.{Global}
 use Rattle.std.specs.declared.vec.Vec.{Vec}
-use Rattle.data.specs.declared.refusal.Refusal.{Refusal}
+use Rattle.values.specs.declared.refusal.Refusal.{Refusal}
 
 abbrev pub strings_of : Vec (String Global) Global → List (List ℕ)
 strings_of strings = map string_bytes strings.items

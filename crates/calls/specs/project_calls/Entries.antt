@@ -4,9 +4,9 @@ use Rattle.machine.specs.option_values.Values as value
 use Rattle.machine.specs.declared.option_values.kind.FeatureState.{FeatureState}
 use Rattle.machine.specs.declared.option_values.kind.FeatureState.TheVariants as feature
 use Rattle.machine.specs.option_values.Settings.{named_value, Setting}
-use Rattle.targets.specs.Data.{OptionData, OptionEntryData, text, boolean, integer, texts}
-use Rattle.targets.specs.declared.facts.OptionType.{OptionType}
-use Rattle.targets.specs.declared.facts.OptionType.TheVariants as kind
+use Rattle.build.specs.Data.{OptionData, OptionEntryData, text, boolean, integer, texts}
+use Rattle.build.specs.declared.facts.OptionType.{OptionType}
+use Rattle.build.specs.declared.facts.OptionType.TheVariants as kind
 
 abbrev pub type_of : value.Value → OptionType
 type_of (value.Text t) = kind.String

@@ -2,7 +2,7 @@
 use Rattle.std.specs.Prelude.{ℕ, Bool, false, List, [], Option, Some, codes, bytes_eq, if◌then◌else◌}
 use Rattle.machine.specs.option_values.Values as value
 use Rattle.machine.specs.option_values.Settings.{value_named, Setting}
-use Rattle.targets.specs.Data.{FlagsData}
+use Rattle.build.specs.Data.{FlagsData}
 
 -- the text that a value is, be it any or a choice
 abbrev pub text_in : Option value.Value → List ℕ

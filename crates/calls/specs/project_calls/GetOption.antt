@@ -1,13 +1,13 @@
 -- `get_option`.
 use Rattle.std.specs.Prelude.{ℕ, List, Option, Some, None, Result, Ok}
-use Rattle.data.specs.Data.{Data, boolean, integer, text, object}
-use Rattle.data.specs.Limits.{within}
+use Rattle.values.specs.Data.{Data, boolean, integer, text, object}
+use Rattle.values.specs.Limits.{within}
 use Rattle.operations.specs.operators.TextLists.{text_list}
-use Rattle.data.specs.declared.object.Feature.{Feature}
-use Rattle.data.specs.declared.object.Feature.TheVariants as features
-use Rattle.data.specs.declared.object.Object.TheVariants as objects
-use Rattle.data.specs.declared.refusal.Refusal.{Refusal as OperationRefusal}
-use Rattle.basics.specs.declared.faults.refusal.Refusal.TheVariants as refusals
+use Rattle.values.specs.declared.object.Feature.{Feature}
+use Rattle.values.specs.declared.object.Feature.TheVariants as features
+use Rattle.values.specs.declared.object.Object.TheVariants as objects
+use Rattle.values.specs.declared.refusal.Refusal.{Refusal as OperationRefusal}
+use Rattle.support.specs.declared.faults.refusal.Refusal.TheVariants as refusals
 use Rattle.arguments.specs.Arguments.{ArgumentsData}
 use Rattle.arguments.specs.Given.{text_at}
 use Rattle.arguments.specs.Rules.{broken}

@@ -1,9 +1,9 @@
 -- The option file of a project.
 use Rattle.std.specs.Prelude.{ℕ, List, [], ◌∷◌, codes, Result, Ok, Err, refl}
 use Rattle.std.specs.Str.{is_utf8}
-use Rattle.grammar.specs.Parsed.{parsed}
-use Rattle.grammar.specs.Tree.{FileTree, Statements, NoStatement, MoreStatements}
-use Rattle.basics.specs.declared.faults.refusal.Refusal.TheVariants as refusals
+use Rattle.syntax.specs.Parsed.{parsed}
+use Rattle.syntax.specs.Tree.{FileTree, Statements, NoStatement, MoreStatements}
+use Rattle.support.specs.declared.faults.refusal.Refusal.TheVariants as refusals
 use Rattle.options.specs.option_file.Declarations.{Declaration}
 use Rattle.options.specs.option_file.Declares.{file_declares}
 use Rattle.options.specs.option_file.Fault.{DeclareFaultData}

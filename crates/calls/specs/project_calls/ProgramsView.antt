@@ -1,5 +1,5 @@
 -- What the code's own type stands for.
-use Rattle.targets.specs.edge.Texts.{texts}
+use Rattle.build.specs.edge.Texts.{texts}
 use Rattle.calls.specs.project_calls.Programs.{ProgramsData}
 use Rattle.calls.specs.declared.project_calls.programs.Programs.{Programs}
 

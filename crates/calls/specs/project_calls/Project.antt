@@ -2,9 +2,9 @@
 use Rattle.std.specs.Prelude.{ℕ, not, List, [], ◌∷◌, ◌++◌, Option, Some, None, codes, unwrap_or, option_and_then, if◌then◌else◌}
 use Rattle.std.specs.Prelude.{Result, Ok, Err, refl}
 use Rattle.std.specs.Str.{bytes_eq}
-use Rattle.data.specs.Data.{Data, entry_values, keys_in, text_in}
-use Rattle.data.specs.declared.refusal.Refusal.{Refusal as OperationRefusal}
-use Rattle.basics.specs.declared.faults.refusal.Refusal.TheVariants as refusals
+use Rattle.values.specs.Data.{Data, entry_values, keys_in, text_in}
+use Rattle.values.specs.declared.refusal.Refusal.{Refusal as OperationRefusal}
+use Rattle.support.specs.declared.faults.refusal.Refusal.TheVariants as refusals
 use Rattle.arguments.specs.Arguments.{ArgumentsData}
 use Rattle.arguments.specs.Given.{keyword, text_at, texts, texts_from}
 use Rattle.arguments.specs.Rules.{broken}
@@ -19,7 +19,7 @@ use Rattle.calls.specs.project_calls.Entries.{entries_in}
 use Rattle.calls.specs.project_calls.Flags.{flags_in}
 use Rattle.calls.specs.project_calls.Programs.{ProgramsData, programs}
 use Rattle.calls.specs.project_calls.Resolution.{resolution}
-use Rattle.targets.specs.Data.{FactsData}
+use Rattle.build.specs.Data.{FactsData}
 use Rattle.world.specs.World.{Facts, with_options}
 use Rattle.world.specs.Deed.{Deed, give, refuse, need, read, change, begin_project, ◌>>=◌, say}
 use Rattle.world.specs.Operation.{of_operation}

@@ -4,8 +4,8 @@ ghost use Rattle.world.specs.Prelude.{Does, arguments_data, data_of};
 ghost use Rattle.calls.specs.language_calls.Disablers.{give_disabler, tell_disabler};
 
 use arguments::Arguments;
-use data::{Object, Value};
 use ports::{Outputs, Tree};
+use values::{Object, Value};
 use world::{Caller, Stop};
 
 /// `disabler()`

@@ -1,21 +1,21 @@
 //! `message`, `warning`, `error` and `assert`: what is told to the user.
 ghost use Rattle.std.specs.Prelude.{◌≡◌, ◌++◌, IfOk, OnOk, map, option_map, string_bytes, codes};
 ghost use Rattle.std.specs.List.{list_all};
-ghost use Rattle.data.specs.printing.Parts.{piece_bytes};
-ghost use Rattle.data.specs.printing.Pieces.{whole};
-ghost use Rattle.data.specs.printing.Printed.{is_printable, shown};
+ghost use Rattle.values.specs.printing.Parts.{piece_bytes};
+ghost use Rattle.values.specs.printing.Pieces.{whole};
+ghost use Rattle.values.specs.printing.Printed.{is_printable, shown};
 ghost use Rattle.world.specs.Prelude.{Does, MayFail, arguments_data, data_of};
 ghost use Rattle.world.specs.Deed.{say};
 ghost use Rattle.calls.specs.language_calls.Messages.{assert, error, line_of, logged, message, need_printable, warning};
 ghost use Rattle.calls.specs.language_calls.Saying.{behind_spaces, say_each};
 
 use arguments::Arguments;
-use basics::faults::Refusal;
-use data::Value;
-use data::printing::{Piece, Printer, is_printable};
 use itoa::Buffer;
 use ports::{Outputs, Tree};
 use std::alloc::{AllocError, Global};
+use support::faults::Refusal;
+use values::Value;
+use values::printing::{Piece, Printer, is_printable};
 use world::{Caller, Stop};
 
 // Whether all of these have a printed text.

@@ -1,16 +1,16 @@
 //! `join_paths`: one path of many.
 ghost use Rattle.std.specs.Prelude.{◌≡◌, ◌++◌, ◌<◌, IfOk, [], ℕ, List, false, length, map, option_map, string_bytes};
-ghost use Rattle.data.specs.Data.{text as text_data};
-ghost use Rattle.paths.specs.Below.{is_absolute, path_below};
+ghost use Rattle.values.specs.Data.{text as text_data};
+ghost use Rattle.support.specs.paths.Below.{is_absolute, path_below};
 ghost use Rattle.world.specs.Prelude.{Answers, Does, arguments_data, data_of, string_in, within, within_bytes};
 ghost use Rattle.calls.specs.language_calls.JoinPaths.{join_paths, path_of};
 
 use arguments::Arguments;
-use basics::limits::TEXT_BYTES;
-use data::{Refusal, Value};
-use paths::{ends_with_slash, is_absolute};
 use ports::{Outputs, Tree};
 use std::alloc::{AllocError, Global};
+use support::limits::TEXT_BYTES;
+use support::paths::{ends_with_slash, is_absolute};
+use values::{Refusal, Value};
 use world::{Caller, Stop};
 
 // A path and a piece behind it, within the limit of a text.

@@ -1,14 +1,14 @@
 //! `range`: a list of integers.
 ghost use Rattle.std.specs.Prelude.{◌≡◌, ◌<◌, ◌≤◌, ◌-◌, ◌^◌, IfOk, option_map, pos};
-ghost use Rattle.data.specs.Data.{integer as integer_data};
+ghost use Rattle.values.specs.Data.{integer as integer_data};
 ghost use Rattle.world.specs.Prelude.{Answers, Does, arguments_data, data_of, items_of};
 ghost use Rattle.calls.specs.language_calls.Range.{how_many, integer_at, integers_from, range, range_answer, range_of, stepped};
 
 use arguments::{Arguments, Rule};
-use basics::limits::ITEMS;
-use data::{List, Refusal, Value};
 use ports::{Outputs, Tree};
 use std::alloc::{AllocError, Global};
+use support::limits::ITEMS;
+use values::{List, Refusal, Value};
 use world::{Caller, Stop};
 
 /// The most items of a list.

@@ -4,7 +4,7 @@ ghost use Rattle.world.specs.Prelude.{arguments_data};
 ghost use Rattle.calls.specs.language_calls.Turning.{is_turned_off, makes_file, takes_disablers};
 
 use arguments::{Arguments, gives_disabler};
-use data::language_names::{Function, ProjectFunction};
+use values::language_names::{Function, ProjectFunction};
 
 fn takes_disablers(function: Function) -> bool
     ensures { result ≡ takes_disablers function }

@@ -1,16 +1,16 @@
 //! The functions that name a variable by a text.
 ghost use Rattle.std.specs.Prelude.{◌≡◌, ◌&&◌, ◌||◌, is_some, option_map};
-ghost use Rattle.data.specs.language_names.Names.{is_predefined};
+ghost use Rattle.values.specs.language_names.Names.{is_predefined};
 ghost use Rattle.world.specs.Prelude.{Does, arguments_data, data_of};
 ghost use Rattle.calls.specs.language_calls.Variables.{get_variable, is_settable, is_variable, set_or, set_to, set_variable};
 ghost use Rattle.calls.specs.language_calls.Variables.{unset_variable};
 ghost use Rattle.calls.specs.language_calls.Variables.{thing, value_or, variable_or};
 
 use arguments::{Arguments, Rule};
-use basics::faults::Refusal;
-use data::Value;
-use data::language_names::{is_name, is_predefined, predefined_value};
 use ports::{Outputs, Tree};
+use support::faults::Refusal;
+use values::Value;
+use values::language_names::{is_name, is_predefined, predefined_value};
 use world::{Caller, Stop};
 
 // Whether it is a name that definition files may set.

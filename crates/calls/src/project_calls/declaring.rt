@@ -1,5 +1,5 @@
 //! The option file of a project.
-ghost use Rattle.grammar.specs.Tree.{file_of};
+ghost use Rattle.syntax.specs.Tree.{file_of};
 ghost use Rattle.options.specs.option_file.Declares.{file_declares};
 ghost use Rattle.options.specs.option_file.View.{options_in};
 ghost use Rattle.world.specs.FindingView.{found_in};
@@ -9,13 +9,13 @@ ghost use Rattle.calls.specs.project_calls.OptionFile.{text_declares};
 ghost use Rattle.calls.specs.project_calls.OptionFile.{bytes_declare};
 ghost use Rattle.calls.specs.project_calls.OptionFileView.{file_in};
 
-use basics::faults::Refusal;
-use grammar::fault::SyntaxError;
-use grammar::parse;
-use grammar::tree::File;
 use options::{Declared, declare};
 use ports::{Outputs, Tree};
 use std::str;
+use support::faults::Refusal;
+use syntax::fault::SyntaxError;
+use syntax::parse;
+use syntax::tree::File;
 use world::definition_files::{Found, find, line_at, refusal_of};
 use world::{Caller, Place, Stop};
 

@@ -1,6 +1,6 @@
 //! The keyword `default_options` of `project`.
 ghost use Rattle.std.specs.Prelude.{◌≡◌, ◌++◌, IfOk, map, option_map};
-ghost use Rattle.data.specs.Data.{entry_values, keys_in};
+ghost use Rattle.values.specs.Data.{entry_values, keys_in};
 ghost use Rattle.machine.specs.option_values.View.{strings_in};
 ghost use Rattle.options.specs.Verdicts.{Assignment};
 ghost use Rattle.options.specs.View.{defaults_in};
@@ -10,10 +10,10 @@ ghost use Rattle.calls.specs.project_calls.Defaults.{printed_all};
 ghost use Rattle.calls.specs.project_calls.DefaultsView.{answer_in};
 
 use arguments::Arguments;
-use data::printing::print;
-use data::{Dictionary, Refusal, Text, Value};
 use options::ProjectDefault;
 use std::alloc::{AllocError, Global};
+use values::printing::print;
+use values::{Dictionary, Refusal, Text, Value};
 
 // The dictionary that the keyword has, where it has one.
 fn dictionary_given(arguments: &Arguments) -> Option<&Dictionary>

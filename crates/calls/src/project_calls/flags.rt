@@ -1,15 +1,15 @@
 //! What edges take from the options.
 ghost use Rattle.std.specs.Prelude.{◌≡◌, IfOk};
-ghost use Rattle.targets.specs.edge.Texts.{texts};
+ghost use Rattle.build.specs.edge.Texts.{texts};
 ghost use Rattle.machine.specs.option_values.Settings.{value_named};
 ghost use Rattle.machine.specs.option_values.SettingsView.{options_in};
-ghost use Rattle.targets.specs.View.{flags_view};
+ghost use Rattle.build.specs.View.{flags_view};
 ghost use Rattle.calls.specs.project_calls.Flags.{flags_in, is_set, items_in, level_of, text_in};
 
+use build::Flags;
+use build::edge::copies;
 use options::{OptionValue, Options};
 use std::alloc::{AllocError, Global};
-use targets::Flags;
-use targets::edge::copies;
 
 fn text_of<'a>(options: &'a Options, name: &str) -> &'a str
     ensures { result.now ≡ text_in (value_named (options_in options.now) name.now) }

@@ -3,11 +3,11 @@ ghost use Rattle.std.specs.Prelude.{option_map};
 ghost use Rattle.world.specs.Prelude.{Does, arguments_data, data_of};
 ghost use Rattle.calls.specs.project_calls.GetOption.{get_option};
 
-use crate::project_calls::values::as_data;
+use crate::project_calls::option_as_value::as_data;
 use arguments::{Arguments, Rule};
-use basics::faults::Refusal;
-use data::Value;
 use ports::{Outputs, Tree};
+use support::faults::Refusal;
+use values::Value;
 use world::{Caller, Stop};
 
 /// `get_option(name)`: E15 where no option has the name, E22 where its value is too large for a value of the language.

@@ -1,6 +1,6 @@
 //! The programs of a machine.
 ghost use Rattle.std.specs.Prelude.{◌≡◌, IfOk, codes};
-ghost use Rattle.targets.specs.edge.Texts.{texts};
+ghost use Rattle.build.specs.edge.Texts.{texts};
 ghost use Rattle.machine.specs.machine_file.Questions.{Key, answer_to};
 ghost use Rattle.machine.specs.machine_file.Readers.{words_said};
 ghost use Rattle.machine.specs.machine_file.View.{machine_in, value_in};
@@ -8,10 +8,10 @@ ghost use Rattle.world.specs.Prelude.{Does};
 ghost use Rattle.calls.specs.project_calls.Programs.{program, program_by, programs};
 ghost use Rattle.calls.specs.project_calls.ProgramsView.{programs_in};
 
+use build::edge::{copies, strings};
 use machine::machine_file::{Machine, MachineValue};
 use ports::{Outputs, Tree};
 use std::alloc::{AllocError, Global};
-use targets::edge::{copies, strings};
 use world::{Caller, Stop};
 
 /// The programs that every build has, each by its words.

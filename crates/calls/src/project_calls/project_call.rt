@@ -1,10 +1,10 @@
 //! `project`.
 ghost use Rattle.std.specs.Prelude.{◌≡◌, ◌++◌, codes, map, option_map, string_bytes, unwrap_or, IfOk};
-ghost use Rattle.data.specs.Data.{text_in};
+ghost use Rattle.values.specs.Data.{text_in};
 ghost use Rattle.machine.specs.option_values.View.{strings_in};
 ghost use Rattle.options.specs.View.{outcome_in, resolved_in};
 ghost use Rattle.machine.specs.option_values.SettingsView.{options_in};
-ghost use Rattle.targets.specs.View.{facts_view};
+ghost use Rattle.build.specs.View.{facts_view};
 ghost use Rattle.world.specs.Prelude.{Does, MayFail, arguments_data, data_of, world_of};
 ghost use Rattle.calls.specs.project_calls.DefaultsView.{strings_of};
 ghost use Rattle.calls.specs.project_calls.Project.{begin, c_alone, defaults_printed, facts_of, languages_taken, other_language};
@@ -18,12 +18,12 @@ use crate::project_calls::programs::{Programs, ask_programs};
 use crate::project_calls::resolution::resolution;
 use crate::project_calls::shown_options::option_entries;
 use arguments::{Arguments, Rule};
-use basics::faults::Refusal;
-use data::Value;
+use build::Facts;
 use options::{OptionFault, Options, Resolved};
 use ports::{Outputs, Tree};
 use std::alloc::{AllocError, Global};
-use targets::Facts;
+use support::faults::Refusal;
+use values::Value;
 use world::{Caller, Stop, Store, of_operation};
 
 // The first language that is not C.
@@ -125,9 +125,9 @@ fn facts_of(
         name: String::from_str(alloc, arguments.text_at(0))?,
         version: String::from_str(alloc, version_of(arguments))?,
         license: arguments.texts(alloc, "license")?,
-        depth: settings.depth,
-        source_root: String::from_str(alloc, settings.source_root.as_str())?,
-        build_root: String::from_str(alloc, settings.build_root.as_str())?,
+        depth: settings.depth(),
+        source_root: String::from_str(alloc, settings.source_root())?,
+        build_root: String::from_str(alloc, settings.build_root())?,
         compiler,
         archiver,
         flags: flags_of(alloc, options)?,

@@ -1,6 +1,6 @@
 //! What the options of a project come to.
 ghost use Rattle.std.specs.Prelude.{◌≡◌, IfOk, map};
-ghost use Rattle.targets.specs.edge.Texts.{texts};
+ghost use Rattle.build.specs.edge.Texts.{texts};
 ghost use Rattle.machine.specs.machine_file.Questions.{answer_to, plain};
 ghost use Rattle.machine.specs.machine_file.QuestionsView.{topic_in};
 ghost use Rattle.options.specs.option_file.View.{options_in as declared_in};
@@ -85,7 +85,13 @@ fn resolve_by(
     let texts = arguments.texts(alloc, "default_options")?;
     let defaults = defaults(alloc, &texts, keys_given(arguments), printed)?;
     let settings = store.settings();
-    resolve(alloc, declared, &defaults, store.machine(), &settings.words)
+    resolve(
+        alloc,
+        declared,
+        &defaults,
+        store.machine(),
+        settings.words(),
+    )
 }
 
 /// What the options come to, of which these are declared, by the defaults of the call, the machine file, which is asked, and the words of

@@ -2,13 +2,13 @@
 ghost use Rattle.std.specs.Prelude.{◌≡◌, IfOk, map};
 ghost use Rattle.machine.specs.option_values.View.{value_in};
 ghost use Rattle.machine.specs.option_values.SettingsView.{options_in};
-ghost use Rattle.targets.specs.View.{option_entry_view, option_view};
+ghost use Rattle.build.specs.View.{option_entry_view, option_view};
 ghost use Rattle.calls.specs.project_calls.Entries.{entries_in, entry_of, shown, type_of, word_of};
 
+use build::edge::copies;
+use build::{OptionEntry, OptionType};
 use options::{FeatureState, OptionValue, Options};
 use std::alloc::{AllocError, Global};
-use targets::edge::copies;
-use targets::{OptionEntry, OptionType};
 
 fn type_of(value: &OptionValue) -> OptionType
     ensures { result ≡ type_of (value_in value.now) }
@@ -33,18 +33,18 @@ fn word_of(state: FeatureState) -> &'static str
     }
 }
 
-fn show(alloc: Global, value: &OptionValue) -> Result<targets::OptionValue, AllocError>
+fn show(alloc: Global, value: &OptionValue) -> Result<build::OptionValue, AllocError>
     ensures { IfOk result (λ v. option_view v ≡ shown (value_in value.now)) }
 {
     match value {
-        OptionValue::Text(text) => Ok(targets::OptionValue::Text(text.clone()?)),
-        OptionValue::Boolean(boolean) => Ok(targets::OptionValue::Boolean(*boolean)),
-        OptionValue::Combo(choice) => Ok(targets::OptionValue::Text(choice.clone()?)),
-        OptionValue::Integer(number) => Ok(targets::OptionValue::Integer(*number)),
-        OptionValue::Array(items) => Ok(targets::OptionValue::Texts(copies(alloc, items)?)),
+        OptionValue::Text(text) => Ok(build::OptionValue::Text(text.clone()?)),
+        OptionValue::Boolean(boolean) => Ok(build::OptionValue::Boolean(*boolean)),
+        OptionValue::Combo(choice) => Ok(build::OptionValue::Text(choice.clone()?)),
+        OptionValue::Integer(number) => Ok(build::OptionValue::Integer(*number)),
+        OptionValue::Array(items) => Ok(build::OptionValue::Texts(copies(alloc, items)?)),
         OptionValue::Feature(state) => {
             let word = String::from_str(alloc, word_of(*state))?;
-            Ok(targets::OptionValue::Text(word))
+            Ok(build::OptionValue::Text(word))
         }
     }
 }

@@ -1,8 +1,8 @@
 -- A fault of a machine file, and how a run tells it.
 use Rattle.std.specs.Prelude.{ℕ, List, codes}
-use Rattle.basics.specs.Faults.{FaultData}
-use Rattle.basics.specs.declared.faults.refusal.Refusal.{Refusal}
-use Rattle.basics.specs.declared.faults.refusal.Refusal.TheVariants as refusals
+use Rattle.support.specs.Faults.{FaultData}
+use Rattle.support.specs.declared.faults.refusal.Refusal.{Refusal}
+use Rattle.support.specs.declared.faults.refusal.Refusal.TheVariants as refusals
 
 -- what is refused, the line, and what that is about
 pub record MachineFaultData : Type 0 where

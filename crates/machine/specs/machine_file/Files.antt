@@ -4,7 +4,7 @@ use Rattle.std.specs.Prelude.{if◌then◌else◌, bytes_eq}
 use Rattle.std.specs.List.{list_any}
 use Rattle.std.specs.Option.{option_map, option_to_list}
 use Rattle.std.specs.Result.{result_map_both}
-use Rattle.lexer.specs.Bytes.{equals}
+use Rattle.syntax.specs.lexer.Bytes.{equals}
 use Rattle.machine.specs.declared.machine_file.text.Blanks.TheVariants as blanks
 use Rattle.machine.specs.machine_file.Fault.{MachineFaultData, bad_line}
 use Rattle.machine.specs.machine_file.Texts.{Parts, trimmed, cut_first, cut_last}

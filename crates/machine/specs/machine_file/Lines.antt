@@ -1,7 +1,7 @@
 -- The lines of a machine file, and what form each has.
 use Rattle.std.specs.Prelude.{ℕ, List, [], ◌∷◌, Option, Some, None, ◌==◌, if◌then◌else◌, map}
 use Rattle.std.specs.Str.Lines.{lines}
-use Rattle.lexer.specs.Bytes.{hash, open_bracket, close_bracket}
+use Rattle.syntax.specs.lexer.Bytes.{hash, open_bracket, close_bracket}
 use Rattle.machine.specs.declared.machine_file.text.Blanks.TheVariants as blanks
 use Rattle.machine.specs.machine_file.Texts.{trimmed, before_last_byte}
 

@@ -1,7 +1,7 @@
 -- What the sections of a machine file have at a section and a key.
 use Rattle.std.specs.Prelude.{ℕ, List, [], ◌∷◌, ◌++◌, Option, Some, None, codes, if◌then◌else◌, bytes_eq, unwrap_or}
 use Rattle.std.specs.List.{flat_map}
-use Rattle.lexer.specs.Bytes.{space}
+use Rattle.syntax.specs.lexer.Bytes.{space}
 use Rattle.std.specs.Option.{option_map, option_and_then}
 use Rattle.machine.specs.machine_file.Files.{Entry, Section}
 use Rattle.machine.specs.machine_file.Readers.{text_said}

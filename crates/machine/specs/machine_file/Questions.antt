@@ -1,6 +1,6 @@
 -- What a run asks a machine file, and what that answers.
 use Rattle.std.specs.Prelude.{ℕ, List, [], ◌∷◌, ◌++◌, Bool, Option, None, codes, if◌then◌else◌}
-use Rattle.basics.specs.Among.{is_among}
+use Rattle.support.specs.Among.{is_among}
 use Rattle.machine.specs.machine_file.Files.{Entry, Section}
 use Rattle.machine.specs.machine_file.Lookups.{check_key, entries_at, value_at}
 use Rattle.machine.specs.machine_file.Values.{Value}

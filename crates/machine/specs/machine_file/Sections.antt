@@ -3,8 +3,8 @@ use Rattle.std.specs.Prelude.{ℕ, Bool, true, false, ◌&&◌, List, [], ◌∷
 use Rattle.std.specs.Prelude.{bytes_eq}
 use Rattle.std.specs.Option.{option_and_then}
 use Rattle.std.specs.List.{starts_with}
-use Rattle.lexer.specs.Bytes.{space}
-use Rattle.basics.specs.Among.{is_among}
+use Rattle.syntax.specs.lexer.Bytes.{space}
+use Rattle.support.specs.Among.{is_among}
 use Rattle.machine.specs.machine_file.Texts.{cut_first}
 use Rattle.machine.specs.machine_file.Values.{Value, Text, Integer, Boolean, Texts}
 use Rattle.machine.specs.declared.machine_file.section.SectionKind.{SectionKind}

@@ -1,7 +1,7 @@
 -- Texts without blanks at their ends, without a last byte, and cut in two.
 use Rattle.std.specs.Prelude.{ℕ, Bool, ◌||◌, ◌==◌, List, [], ◌∷◌, Option, Some, None, if◌then◌else◌}
 use Rattle.std.specs.Option.{option_map}
-use Rattle.lexer.specs.Bytes.{space, tab, carriage_return}
+use Rattle.syntax.specs.lexer.Bytes.{space, tab, carriage_return}
 use Rattle.machine.specs.declared.machine_file.text.Blanks.{Blanks}
 use Rattle.machine.specs.declared.machine_file.text.Blanks.TheVariants as blanks
 

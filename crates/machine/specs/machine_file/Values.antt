@@ -1,13 +1,13 @@
 -- What the text of a value says, by its tokens.
 use Rattle.std.specs.Prelude.{ℕ, ℤ, Bool, true, false, List, [], ◌∷◌, Option, Some, None, Result, Ok, Err, if◌then◌else◌}
 use Rattle.std.specs.Option.{option_map, option_and_then}
-use Rattle.lexer.specs.declared.token.Kind.TheVariants as Kinds
-use Rattle.lexer.specs.declared.fault.SyntaxFault.{SyntaxFault}
-use Rattle.lexer.specs.Kinds.{is}
-use Rattle.lexer.specs.Lexeme.{Lexeme}
-use Rattle.lexer.specs.Lexing.{lexed}
-use Rattle.lexer.specs.Texts.{text_of}
-use Rattle.lexer.specs.Numerals.{magnitude}
+use Rattle.syntax.specs.declared.lexer.token.Kind.TheVariants as Kinds
+use Rattle.syntax.specs.declared.lexer.fault.SyntaxFault.{SyntaxFault}
+use Rattle.syntax.specs.lexer.Kinds.{is}
+use Rattle.syntax.specs.lexer.Lexeme.{Lexeme}
+use Rattle.syntax.specs.lexer.Lexing.{lexed}
+use Rattle.syntax.specs.lexer.Texts.{text_of}
+use Rattle.syntax.specs.lexer.Numerals.{magnitude}
 use Rattle.machine.specs.machine_file.Numbers.{integer_of}
 
 -- a value of a machine file

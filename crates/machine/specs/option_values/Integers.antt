@@ -3,7 +3,7 @@ use Rattle.std.specs.Prelude.{ℕ, ℤ, Bool, true, false, ◌&&◌, ◌==◌, n
 use Rattle.std.specs.Option.{option_and_then}
 use Rattle.std.specs.Str.{all_ascii_digits}
 use Rattle.std.specs.Str.Parse.{digits_value}
-use Rattle.lexer.specs.Bytes.{minus}
+use Rattle.syntax.specs.lexer.Bytes.{minus}
 use Rattle.machine.specs.machine_file.Numbers as machine
 
 abbrev pub is_negative : List ℕ → Bool

@@ -1,9 +1,9 @@
 -- Texts that give the items of a list.
 use Rattle.std.specs.Prelude.{ℕ, Bool, true, false, ◌==◌, List, [], ◌∷◌, map, Option, Some, None, if◌then◌else◌}
 use Rattle.std.specs.List.{list_all, slice_split}
-use Rattle.lexer.specs.Bytes.{comma, open_bracket}
+use Rattle.syntax.specs.lexer.Bytes.{comma, open_bracket}
 use Rattle.machine.specs.declared.machine_file.text.Blanks.TheVariants as blanks
-use Rattle.basics.specs.Among.{is_among}
+use Rattle.support.specs.Among.{is_among}
 use Rattle.machine.specs.machine_file.Texts.{trimmed}
 use Rattle.machine.specs.machine_file.Values as machine
 use Rattle.machine.specs.option_values.Words.{words_of}

@@ -3,7 +3,7 @@ use Rattle.std.specs.Prelude.{◌≡◌, ℕ, Bool, true, false, not, ◌||◌, 
 use Rattle.std.specs.Char.{encode_utf8}
 use Rattle.std.specs.Str.{encode_utf8_all}
 use Rattle.std.specs.List.{list_all}
-use Rattle.lexer.specs.Bytes.{backslash, quote}
+use Rattle.syntax.specs.lexer.Bytes.{backslash, quote}
 use Rattle.machine.specs.option_values.Words.{double_quote, parts_words, is_escapable}
 
 -- a character that stands for itself outside quotes

@@ -6,7 +6,7 @@ use Rattle.machine.specs.declared.option_values.kind.FeatureState.TheVariants as
 use Rattle.machine.specs.option_values.Kinds as kind
 use Rattle.machine.specs.option_values.Values as value
 use Rattle.machine.specs.option_values.Integers.{integer_within}
-use Rattle.basics.specs.Among.{is_among}
+use Rattle.support.specs.Among.{is_among}
 use Rattle.machine.specs.option_values.Lists.{are_among, items_of, word_items_of}
 
 abbrev pub boolean_of : List ℕ → Option Bool

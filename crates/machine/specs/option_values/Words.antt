@@ -2,7 +2,7 @@
 use Rattle.std.specs.Prelude.{ℕ, Bool, ◌||◌, ◌==◌, List, [], ◌∷◌, ◌++◌, Option, Some, None, if◌then◌else◌}
 use Rattle.std.specs.Char.{encode_utf8}
 use Rattle.std.specs.Str.{chars}
-use Rattle.lexer.specs.Bytes.{tab, newline, carriage_return, space, backslash, quote}
+use Rattle.syntax.specs.lexer.Bytes.{tab, newline, carriage_return, space, backslash, quote}
 use Rattle.machine.specs.declared.option_values.words.Place.{Place}
 use Rattle.machine.specs.declared.option_values.words.Place.TheVariants as place
 

@@ -7,10 +7,10 @@ use crate::machine_file::fault::MachineFault;
 use crate::machine_file::question::check_key;
 use crate::machine_file::reading::read_lines;
 use crate::machine_file::value::MachineValue;
-use basics::faults::Refusal;
-use basics::tables::{SipMap, new_map};
-use lexer::newlines;
 use std::alloc::{AllocError, Global};
+use support::faults::Refusal;
+use support::tables::{SipMap, new_map};
+use syntax::lexer::newlines;
 
 /// What a key has: a value, and the line, from 1, that gives it.
 #[derive(Drop)]

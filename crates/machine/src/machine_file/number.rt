@@ -1,10 +1,10 @@
 //! Integers of 64 bits.
 
 ghost use Rattle.std.specs.Prelude.{◌≡◌};
-ghost use Rattle.lexer.specs.Numerals.{magnitude};
+ghost use Rattle.syntax.specs.lexer.Numerals.{magnitude};
 ghost use Rattle.machine.specs.machine_file.Numbers.{integer_of, greatest};
 
-use lexer::magnitude;
+use syntax::lexer::magnitude;
 
 /// The integer of a magnitude, behind a minus or not, if 64 bits hold it.
 #[tactic(auto, unfolding(crate::specs::machine_file::Numbers::greatest))]

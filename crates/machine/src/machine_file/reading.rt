@@ -1,7 +1,7 @@
 //! Reads a machine file, line by line.
 
 ghost use Rattle.std.specs.Prelude.{◌≡◌, [], ◌∷◌, ◌++◌, false, is_some, string_bytes, IfOk, OnOk};
-ghost use Rattle.basics.specs.Maps.{get_by_text};
+ghost use Rattle.support.specs.Maps.{get_by_text};
 ghost use Rattle.machine.specs.machine_file.Files.{has_key, has_name, takes, with_pair, lacks_version, default_entries, closed};
 ghost use Rattle.machine.specs.machine_file.Files.{sections_said};
 ghost use Rattle.machine.specs.machine_file.Files.{with_section, in_section, after, machine_of};
@@ -19,9 +19,9 @@ use crate::machine_file::section::SectionKind;
 use crate::machine_file::state::{Heading, OpenSection, Reading};
 use crate::machine_file::text::{Blanks, trim};
 use crate::machine_file::value::{MachineValue, read_value};
-use basics::faults::Refusal;
-use basics::tables::{SipMap, new_map};
 use std::alloc::{AllocError, Global};
+use support::faults::Refusal;
+use support::tables::{SipMap, new_map};
 
 // Puts a value at a key that is new.
 fn put<V: Drop>(map: &mut SipMap<String, V>, key: String, value: V) -> Result<(), AllocError>

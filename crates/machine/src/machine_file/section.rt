@@ -8,7 +8,7 @@ ghost use Rattle.machine.specs.machine_file.View.{value_in};
 
 use crate::machine_file::text::cut_first;
 use crate::machine_file::value::MachineValue;
-use basics::text_lists::is_among;
+use support::text_lists::is_among;
 
 /// A kind of section.
 #[derive(Clone, Copy, PartialEq, Eq)]

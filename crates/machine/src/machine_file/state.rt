@@ -2,11 +2,11 @@
 
 ghost use Rattle.std.specs.Prelude.{◌≡◌, false, is_some, string_bytes};
 ghost use Rattle.std.specs.Option.{ForSome};
-ghost use Rattle.basics.specs.Maps.{get_by_text};
+ghost use Rattle.support.specs.Maps.{get_by_text};
 
 use crate::machine_file::machine::{Entry, Section};
 use crate::machine_file::section::SectionKind;
-use basics::tables::SipMap;
+use support::tables::SipMap;
 
 /// A section that further lines may add to, and the line that it begins on.
 pub struct OpenSection {

@@ -2,15 +2,15 @@
 
 ghost use Rattle.std.specs.Prelude.{◌≡◌, [], is_some, IfOk, string_bytes};
 ghost use Rattle.std.specs.Option.{option_map};
-ghost use Rattle.lexer.specs.Lexeme.{lexeme_of, lexemes};
+ghost use Rattle.syntax.specs.lexer.Lexeme.{lexeme_of, lexemes};
 ghost use Rattle.machine.specs.machine_file.Values.{plain_text, closing, items_of, of_word, negative_of, of_tokens, value_of};
 ghost use Rattle.machine.specs.machine_file.View.{value_in, strings_in};
 
 use crate::machine_file::number::integer;
-use lexer::fault::SyntaxError;
-use lexer::token::{Kind, Token};
-use lexer::{text_of, tokens};
 use std::alloc::{AllocError, Global};
+use syntax::lexer::fault::SyntaxError;
+use syntax::lexer::token::{Kind, Token};
+use syntax::lexer::{text_of, tokens};
 
 /// A value of a machine file.
 #[derive(Drop)]

@@ -7,9 +7,9 @@ ghost use Rattle.machine.specs.option_values.View.{value_in};
 
 use crate::option_values::choices::Choices;
 use crate::option_values::kind::{FeatureState, OptionKind, OptionValue};
-use basics::tables::{SipMap, new_map};
-use basics::text_lists::strings;
 use std::alloc::{AllocError, Global};
+use support::tables::{SipMap, new_map};
+use support::text_lists::strings;
 
 /// The choices of a combo.
 #[derive(Clone, Copy)]

@@ -1,11 +1,11 @@
 //! The choices of an option.
 
 ghost use Rattle.std.specs.Prelude.{◌≡◌, ℕ, List, IfOk};
-ghost use Rattle.basics.specs.Among.{is_among};
+ghost use Rattle.support.specs.Among.{is_among};
 ghost use Rattle.machine.specs.machine_file.View.{strings_in};
 
-use basics::tables::{SipSet, new_set};
 use std::alloc::{AllocError, Global};
+use support::tables::{SipSet, new_set};
 
 /// The texts that an option takes, in their order; one may stand there twice. A look-up takes the same time however many they
 /// are.

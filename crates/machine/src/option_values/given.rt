@@ -10,9 +10,9 @@ ghost use Rattle.machine.specs.option_values.View.{kind_in, strings_in, value_in
 use crate::machine_file::MachineValue;
 use crate::option_values::kind::{OptionKind, OptionValue};
 use crate::option_values::text::{array_of, value_of_text};
-use basics::text_lists::copies;
 use itoa::Buffer;
 use std::alloc::{AllocError, Global};
+use support::text_lists::copies;
 
 /// Puts texts in single quotes behind a text, with a comma and a space between each two; nothing in them is escaped.
 pub fn push_quoted(text: &mut String, items: &[String]) -> Result<(), AllocError>

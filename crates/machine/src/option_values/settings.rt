@@ -4,7 +4,7 @@ ghost use Rattle.std.specs.Prelude.{◌≡◌, ◌==◌, length, slice_get};
 ghost use Rattle.std.specs.Option.{option_map};
 
 use crate::option_values::kind::OptionValue;
-use basics::tables::SipMap;
+use support::tables::SipMap;
 
 /// The value of an option.
 #[derive(Drop)]

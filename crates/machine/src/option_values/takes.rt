@@ -8,6 +8,7 @@ ghost use Rattle.machine.specs.option_values.View.{choices_in, kind_in, strings_
 use crate::option_values::choices::Choices;
 use crate::option_values::given::push_quoted;
 use crate::option_values::kind::OptionKind;
+use itoa::Buffer;
 use std::alloc::{AllocError, Global};
 
 // Choices between single quotes.
@@ -28,7 +29,11 @@ fn least_words(alloc: Global, least: Option<i64>) -> Result<String, AllocError>
     ensures { IfOk result (λ text. string_bytes text ≡ least_words least) }
 {
     match least {
-        Some(least) => format!(in alloc; " from {least}"),
+        Some(least) => {
+            let mut buffer = Buffer::new();
+            let least = buffer.format(least);
+            format!(in alloc; " from {least}")
+        }
         None => Ok(String::new(alloc)),
     }
 }
@@ -37,7 +42,11 @@ fn greatest_words(alloc: Global, greatest: Option<i64>) -> Result<String, AllocE
     ensures { IfOk result (λ text. string_bytes text ≡ greatest_words greatest) }
 {
     match greatest {
-        Some(greatest) => format!(in alloc; " to {greatest}"),
+        Some(greatest) => {
+            let mut buffer = Buffer::new();
+            let greatest = buffer.format(greatest);
+            format!(in alloc; " to {greatest}")
+        }
         None => Ok(String::new(alloc)),
     }
 }

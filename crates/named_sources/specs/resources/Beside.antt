@@ -3,11 +3,11 @@ use Rattle.std.specs.Prelude.{ℕ, List, [], ◌∷◌, true, false, Option, Som
 use Rattle.std.specs.List.{flat_map}
 use Rattle.arguments.specs.Arguments.{ArgumentsData}
 use Rattle.arguments.specs.Given.{keyword}
-use Rattle.data.specs.Data.{Data, boolean, object, text}
-use Rattle.data.specs.Flat.{opened}
-use Rattle.data.specs.declared.object.Feature.{Feature}
-use Rattle.data.specs.declared.object.Feature.TheVariants as features
-use Rattle.data.specs.declared.object.Object.TheVariants as objects
+use Rattle.values.specs.Data.{Data, boolean, object, text}
+use Rattle.values.specs.Flat.{opened}
+use Rattle.values.specs.declared.object.Feature.{Feature}
+use Rattle.values.specs.declared.object.Feature.TheVariants as features
+use Rattle.values.specs.declared.object.Object.TheVariants as objects
 use Rattle.machine.specs.machine_file.Questions.{Aside, Question, Topic}
 
 -- the name of a feature's state

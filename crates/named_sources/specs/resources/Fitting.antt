@@ -1,14 +1,14 @@
 -- The dependency that a machine file has.
 use Rattle.std.specs.Prelude.{ℕ, Bool, true, ◌&&◌, List, [], ◌∷◌, Option, Some, None, Result}
 use Rattle.std.specs.Prelude.{unwrap_or, option_and_then, option_map, codes, if◌then◌else◌}
-use Rattle.data.specs.declared.object.Dependency.{Dependency}
-use Rattle.data.specs.declared.refusal.Refusal.{Refusal}
+use Rattle.values.specs.declared.object.Dependency.{Dependency}
+use Rattle.values.specs.declared.refusal.Refusal.{Refusal}
 use Rattle.named_sources.specs.resources.Found.{found}
 use Rattle.machine.specs.machine_file.Files.{Entry}
 use Rattle.machine.specs.machine_file.Lookups.{entry_at}
 use Rattle.machine.specs.machine_file.Questions.{Answer, entries_of_answer, value_of_answer}
 use Rattle.machine.specs.machine_file.Readers.{text_said, texts_said, words_said}
-use Rattle.data.specs.texts.Condition.{meets}
+use Rattle.values.specs.texts.Condition.{meets}
 
 -- the version that a section gives
 abbrev pub said_version : List Entry → List ℕ

@@ -1,10 +1,10 @@
 -- The objects that `dependency` and `find_program` give.
 use Rattle.std.specs.Prelude.{ℕ, Bool, true, false, ◌&&◌, nat_le, List, [], ◌∷◌, length, Result, Ok, Err, codes, if◌then◌else◌}
-use Rattle.data.specs.declared.object.Dependency.{Dependency}
-use Rattle.data.specs.declared.refusal.Refusal.{Refusal}
-use Rattle.data.specs.declared.refusal.Refusal.TheVariants as refusal
-use Rattle.data.specs.Limits.{within_bytes}
-use Rattle.basics.specs.Limits.{items, is_short}
+use Rattle.values.specs.declared.object.Dependency.{Dependency}
+use Rattle.values.specs.declared.refusal.Refusal.{Refusal}
+use Rattle.values.specs.declared.refusal.Refusal.TheVariants as refusal
+use Rattle.values.specs.Limits.{within_bytes}
+use Rattle.support.specs.Limits.{items, is_short}
 
 infixl 10 ◌>>=◌
 abbrev pub ◌>>=◌ : {A B : Type 0} → Result A Refusal → (A → Result B Refusal) → Result B Refusal

@@ -1,7 +1,7 @@
 -- Where installed files go.
 use Rattle.std.specs.Prelude.{ℕ, List, [], ◌∷◌, ◌++◌, Option, Some, None, codes, option_map, if◌then◌else◌}
 use Rattle.std.specs.Char.{is_ascii_digit}
-use Rattle.paths.specs.Below.{path_below}
+use Rattle.support.specs.paths.Below.{path_below}
 
 -- the folder below `prefix`, or that folder where it is absolute, and the file's name below it
 abbrev pub destination : (prefix folder name : List ℕ) → List ℕ

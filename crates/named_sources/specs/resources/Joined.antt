@@ -1,12 +1,12 @@
 -- `declare_dependency`: a dependency with those that it depends on.
 use Rattle.std.specs.Prelude.{Bool, ◌&&◌, nat_le, List, [], ◌∷◌, ◌++◌, length, Result, Ok, Err, if◌then◌else◌}
-use Rattle.data.specs.Data.{Data, list, object, Items, no_items, item}
-use Rattle.data.specs.declared.object.Dependency.{Dependency}
-use Rattle.data.specs.declared.object.Object.{Object}
-use Rattle.data.specs.declared.object.Object.TheVariants as objects
-use Rattle.data.specs.declared.refusal.Refusal.{Refusal}
-use Rattle.data.specs.declared.refusal.Refusal.TheVariants as refusal
-use Rattle.basics.specs.Limits.{items}
+use Rattle.values.specs.Data.{Data, list, object, Items, no_items, item}
+use Rattle.values.specs.declared.object.Dependency.{Dependency}
+use Rattle.values.specs.declared.object.Object.{Object}
+use Rattle.values.specs.declared.object.Object.TheVariants as objects
+use Rattle.values.specs.declared.refusal.Refusal.{Refusal}
+use Rattle.values.specs.declared.refusal.Refusal.TheVariants as refusal
+use Rattle.support.specs.Limits.{items}
 
 abbrev pub if_dependency : Object → List Dependency
 if_dependency (objects.Dependency d) = d ∷ []

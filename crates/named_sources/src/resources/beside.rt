@@ -3,17 +3,17 @@
 ghost use Rattle.std.specs.Prelude.{◌≡◌, ◌++◌, IfOk, OnOk, map};
 ghost use Rattle.arguments.specs.Arguments.{arguments_data};
 ghost use Rattle.arguments.specs.Given.{keyword};
-ghost use Rattle.data.specs.Data.{object};
-ghost use Rattle.data.specs.Prelude.{data_of};
+ghost use Rattle.values.specs.Data.{object};
+ghost use Rattle.values.specs.Prelude.{data_of};
 ghost use Rattle.machine.specs.machine_file.QuestionsView.{asides_in, question_in, topic_in};
 ghost use Rattle.machine.specs.machine_file.View.{strings_in};
 ghost use Rattle.named_sources.specs.resources.Beside.{aside_of, asides_named, call_question, state_word, words_in, words_of};
 
 use crate::folders::{push_string, push_strings};
 use arguments::Arguments;
-use data::{Feature, Object, Value, open_up};
 use machine::machine_file::{Aside, Question, Topic};
 use std::alloc::{AllocError, Global};
+use values::{Feature, Object, Value, open_up};
 
 // The keywords that say how a check is made, which dependency is wanted, and whether it has to be there.
 const BESIDE: [&str; 6] = [

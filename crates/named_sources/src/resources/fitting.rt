@@ -8,10 +8,10 @@ ghost use Rattle.named_sources.specs.resources.Fitting.{conditions_hold, depende
 ghost use Rattle.named_sources.specs.resources.Fitting.{said_version};
 
 use crate::resources::found::{found_dependency, within_texts};
-use data::texts::version_compare;
-use data::{Dependency, Refusal, Texts};
 use machine::machine_file::{Machine, MachineValue, Section};
 use std::alloc::{AllocError, Global};
+use values::texts::version_compare;
+use values::{Dependency, Refusal, Texts};
 
 /// The version that the section of a dependency gives, `unknown` where it gives none.
 pub fn said_version(section: &Section) -> &str

@@ -2,8 +2,8 @@
 ghost use Rattle.std.specs.Prelude.{◌≡◌, map, string_bytes, codes, IfOk};
 ghost use Rattle.named_sources.specs.resources.Found.{found, missing, short_texts, within_texts};
 
-use data::{Dependency, Numbers, Refusal, Sources, Text, Texts};
 use std::alloc::{AllocError, Global};
+use values::{Dependency, Numbers, Refusal, Sources, Text, Texts};
 
 /// Texts of their own, or `Refusal::Limit` where one is longer than 16,777,216 bytes.
 pub fn short_texts(alloc: Global, strings: &[String]) -> Result<Result<Texts, Refusal>, AllocError>
@@ -23,7 +23,7 @@ pub fn short_texts(alloc: Global, strings: &[String]) -> Result<Result<Texts, Re
 pub fn within_texts(alloc: Global, strings: &[String]) -> Result<Result<Texts, Refusal>, AllocError>
     ensures { IfOk result (λ r. r ≡ within_texts (map string_bytes strings.now)) }
 {
-    if strings.len() > basics::limits::ITEMS {
+    if strings.len() > support::limits::ITEMS {
         return Ok(Err(Refusal::Limit));
     }
     short_texts(alloc, strings)

@@ -2,8 +2,8 @@
 ghost use Rattle.std.specs.Prelude.{◌≡◌, ◌<◌, option_map, IfOk, IfSome, string_bytes};
 ghost use Rattle.named_sources.specs.resources.Installs.{destination, headers_folder, last_digit, man_folder};
 
-use paths::path_below;
 use std::alloc::{AllocError, Global};
+use support::paths::path_below;
 
 /// The absolute path at which a file of this name is installed, in a folder that is relative to `prefix` or absolute itself.
 pub fn destination(

@@ -1,10 +1,10 @@
 //! `declare_dependency`: <https://mesonbuild.com/Reference-manual_functions.html#declare_dependency>.
 ghost use Rattle.std.specs.Prelude.{◌≡◌, ◌++◌, ◌&&◌, map, IfOk, OnOk};
-ghost use Rattle.data.specs.Prelude.{data_of, items_of};
+ghost use Rattle.values.specs.Prelude.{data_of, items_of};
 ghost use Rattle.named_sources.specs.resources.Joined.{dependencies_in, dependencies_of, is_within, joined, with_lists};
 
-use data::{Dependency, Object, Refusal, Value};
 use std::alloc::{AllocError, Global};
+use values::{Dependency, Object, Refusal, Value};
 
 /// The dependencies that a value holds, in lists of any depth; anything else counts as none.
 pub fn dependencies_in(alloc: Global, value: &Value) -> Result<Vec<&Dependency>, AllocError>
@@ -46,11 +46,11 @@ fn collect_items<'v>(found: &mut Vec<&'v Dependency>, items: &'v [Value]) -> Res
 fn is_within(dependency: &Dependency) -> bool
     ensures { result ≡ is_within dependency.now }
 {
-    dependency.include_directories.as_slice().len() <= basics::limits::ITEMS
-        && dependency.compile_args.as_slice().len() <= basics::limits::ITEMS
-        && dependency.link_args.as_slice().len() <= basics::limits::ITEMS
-        && dependency.link_with.as_slice().len() <= basics::limits::ITEMS
-        && dependency.sources.as_slice().len() <= basics::limits::ITEMS
+    dependency.include_directories.as_slice().len() <= support::limits::ITEMS
+        && dependency.compile_args.as_slice().len() <= support::limits::ITEMS
+        && dependency.link_args.as_slice().len() <= support::limits::ITEMS
+        && dependency.link_with.as_slice().len() <= support::limits::ITEMS
+        && dependency.sources.as_slice().len() <= support::limits::ITEMS
 }
 
 // Puts the lists of another dependency behind its own. Texts are shared, and no byte is copied.

@@ -2,14 +2,14 @@
 ghost use Rattle.std.specs.Prelude.{◌≡◌, IfOk, [], map, string_bytes};
 ghost use Rattle.arguments.specs.Arguments.{arguments_data};
 ghost use Rattle.arguments.specs.Refused.{answer_data, said_data};
-ghost use Rattle.data.specs.Prelude.{items_of};
+ghost use Rattle.values.specs.Prelude.{items_of};
 ghost use Rattle.named_sources.specs.resources.TestingView.{strings_of};
 ghost use Rattle.named_sources.specs.resources.Testing.{are_assignments, assigned_behind, assignment, environment, is_assignment};
 ghost use Rattle.named_sources.specs.resources.Testing.{seconds_of};
 
 use arguments::{Arguments, Refused, Rule};
-use data::{Refusal, Text, Value};
 use std::alloc::{AllocError, Global};
+use values::{Refusal, Text, Value};
 
 /// The seconds that a test may run, or `Refusal::Range` where they need more than 64 bits. They may be zero or negative.
 pub fn seconds_of(timeout: i128) -> Result<i64, Refusal>

@@ -2,8 +2,8 @@
 use Rattle.std.specs.Prelude.{Option, Some}
 use Rattle.arguments.specs.Arguments.{ArgumentsData}
 use Rattle.arguments.specs.Given.{argument}
-use Rattle.data.specs.Data.{Data, object}
-use Rattle.data.specs.declared.object.Object.TheVariants as objects
+use Rattle.values.specs.Data.{Data, object}
+use Rattle.values.specs.declared.object.Object.TheVariants as objects
 use Rattle.template.specs.Config.{Configuration}
 use Rattle.world.specs.Configuring.{add_configuration}
 use Rattle.world.specs.Deed.{Deed, give, ◌>>=◌}

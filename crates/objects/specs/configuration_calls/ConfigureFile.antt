@@ -2,16 +2,16 @@
 use Rattle.std.specs.Prelude.{ℕ, Bool, true, false, [], Option, Some, None, codes, bytes_eq, option_map}
 use Rattle.arguments.specs.Arguments.{ArgumentsData}
 use Rattle.arguments.specs.Given.{keyword, text_given, text_of}
-use Rattle.data.specs.Data.{Data, object, text}
-use Rattle.data.specs.Limits.{within_bytes}
-use Rattle.data.specs.declared.object.Object.TheVariants as objects
-use Rattle.targets.specs.edge.Texts.{Path, Text}
+use Rattle.values.specs.Data.{Data, object, text}
+use Rattle.values.specs.Limits.{within_bytes}
+use Rattle.values.specs.declared.object.Object.TheVariants as objects
+use Rattle.build.specs.edge.Texts.{Path, Text}
 use Rattle.arguments.specs.declared.rule.Rule.TheVariants as rules
-use Rattle.basics.specs.declared.faults.refusal.Refusal.TheVariants as refusals
-use Rattle.paths.specs.Below.{path_below}
-use Rattle.paths.specs.Paths.{path_in}
-use Rattle.paths.specs.Names.{is_file_name}
-use Rattle.project.specs.World.{InstallData}
+use Rattle.support.specs.declared.faults.refusal.Refusal.TheVariants as refusals
+use Rattle.support.specs.paths.Below.{path_below}
+use Rattle.support.specs.paths.Paths.{path_in}
+use Rattle.support.specs.paths.Names.{is_file_name}
+use Rattle.build.specs.project.World.{InstallData}
 use Rattle.named_sources.specs.resources.Installs.{destination}
 use Rattle.world.specs.Configuring.{freeze_configured}
 use Rattle.world.specs.Declaring.{add_install}

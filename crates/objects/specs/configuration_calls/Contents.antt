@@ -2,11 +2,11 @@
 use Rattle.std.specs.Prelude.{ℕ, ◌==◌, List, [], ◌∷◌, Option, Some, None, option_map, unwrap_or, Result, Ok, Err, if◌then◌else◌}
 use Rattle.arguments.specs.Said.{Said, ◌>>=◌, found, kept}
 use Rattle.arguments.specs.declared.rule.Rule.TheVariants as rules
-use Rattle.data.specs.Data.{Data, boolean, integer, text, Entries as DictionaryEntries, Items, no_items, item}
-use Rattle.data.specs.Data.{entry_values, keys_in}
-use Rattle.data.specs.Limits.{within}
-use Rattle.data.specs.declared.refusal.Refusal.{Refusal}
-use Rattle.data.specs.declared.refusal.Refusal.TheVariants as refusal
+use Rattle.values.specs.Data.{Data, boolean, integer, text, Entries as DictionaryEntries, Items, no_items, item}
+use Rattle.values.specs.Data.{entry_values, keys_in}
+use Rattle.values.specs.Limits.{within}
+use Rattle.values.specs.declared.refusal.Refusal.{Refusal}
+use Rattle.values.specs.declared.refusal.Refusal.TheVariants as refusal
 use Rattle.template.specs.Config.{Bytes, Configuration, Content, Entries, Flag, Number, unfrozen, with_value}
 use Rattle.template.specs.Line.{is_name}
 use Rattle.objects.specs.declared.configuration_calls.contents.Quotes.{Quotes}

@@ -5,8 +5,8 @@ use Rattle.arguments.specs.Given.{keyword}
 use Rattle.arguments.specs.Refused.{breaks}
 use Rattle.arguments.specs.Said.{Said, ◌>>=◌, found}
 use Rattle.arguments.specs.declared.rule.Rule.TheVariants as rules
-use Rattle.data.specs.Data.{Data, dictionary, object}
-use Rattle.data.specs.declared.object.Object.TheVariants as objects
+use Rattle.values.specs.Data.{Data, dictionary, object}
+use Rattle.values.specs.declared.object.Object.TheVariants as objects
 use Rattle.template.specs.Config.{Configuration, Entries}
 use Rattle.world.specs.Configuring.{configuration_at, no_values}
 use Rattle.world.specs.World.{Facts}

@@ -6,11 +6,11 @@ use Rattle.arguments.specs.Leaves.{leaves_named}
 use Rattle.arguments.specs.Refused.{breaks}
 use Rattle.arguments.specs.Said.{Said, ◌>>=◌, found}
 use Rattle.arguments.specs.declared.rule.Rule.TheVariants as rules
-use Rattle.data.specs.Data.{Data, object, text}
-use Rattle.data.specs.declared.object.Object.{Object}
-use Rattle.data.specs.declared.object.Object.TheVariants as objects
-use Rattle.targets.specs.edge.Texts.{Path}
-use Rattle.paths.specs.Paths.{tree_path}
+use Rattle.values.specs.Data.{Data, object, text}
+use Rattle.values.specs.declared.object.Object.{Object}
+use Rattle.values.specs.declared.object.Object.TheVariants as objects
+use Rattle.build.specs.edge.Texts.{Path}
+use Rattle.support.specs.paths.Paths.{tree_path}
 
 -- a file of the tree; one that is built is none
 abbrev pub tree_file : Object → Option Path

@@ -3,9 +3,9 @@ use Rattle.std.specs.Prelude.{ℕ, pos, Bool, false, List, [], Option, Some, Non
 use Rattle.std.specs.Prelude.{if◌then◌else◌}
 use Rattle.arguments.specs.Arguments.{ArgumentsData}
 use Rattle.arguments.specs.Given.{argument, flag_at, text_at}
-use Rattle.data.specs.Data.{Data, boolean}
+use Rattle.values.specs.Data.{Data, boolean}
 use Rattle.arguments.specs.declared.rule.Rule.TheVariants as rules
-use Rattle.basics.specs.declared.faults.refusal.Refusal.TheVariants as refusals
+use Rattle.support.specs.declared.faults.refusal.Refusal.TheVariants as refusals
 use Rattle.template.specs.Config.{Content, Number, names, value_of}
 use Rattle.template.specs.Line.{is_name}
 use Rattle.world.specs.Configuring.{configuration_at, merge_configured, set_configured, set_quoted}
@@ -18,9 +18,9 @@ use Rattle.objects.specs.declared.configuration_calls.contents.Quotes.TheVariant
 use Rattle.operations.specs.operators.TextLists.{text_list}
 use Rattle.objects.specs.configuration_calls.Given.{entries_of, number_in}
 use Rattle.objects.specs.configuration_calls.Rows.{row_of}
-use Rattle.data.specs.declared.language_names.object_methods.ConfigurationMethod.{ConfigurationMethod}
-use Rattle.data.specs.declared.language_names.object_methods.ConfigurationMethod.TheVariants as methods
-use Rattle.data.specs.language_names.ObjectMethods.{configuration_method_named}
+use Rattle.values.specs.declared.language_names.object_methods.ConfigurationMethod.{ConfigurationMethod}
+use Rattle.values.specs.declared.language_names.object_methods.ConfigurationMethod.TheVariants as methods
+use Rattle.values.specs.language_names.ObjectMethods.{configuration_method_named}
 
 abbrev pub has_method : List ℕ → Bool
 has_method name = is_some (configuration_method_named name)

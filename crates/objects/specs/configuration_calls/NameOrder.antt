@@ -4,8 +4,8 @@ use Rattle.std.specs.Ordering.{nat_cmp}
 use Rattle.std.specs.Cmp.Lexicographic.{slice_cmp}
 use Rattle.std.specs.List.{AllByRecursion}
 use Rattle.std.specs.declared.cmp.Ordering.TheVariants.{Less}
-use Rattle.basics.specs.Among.{is_among}
-use Rattle.data.specs.Data.{Entries as DictionaryEntries, keys_in}
+use Rattle.support.specs.Among.{is_among}
+use Rattle.values.specs.Data.{Entries as DictionaryEntries, keys_in}
 use Rattle.template.specs.Config.{Entries, names}
 use Rattle.objects.specs.configuration_calls.Contents.{entries_in}
 

@@ -3,8 +3,8 @@ use Rattle.std.specs.Prelude.{List, [], ◌∷◌, codes}
 use Rattle.arguments.specs.declared.row.Kind.TheVariants as kinds
 use Rattle.arguments.specs.declared.row.Piece.TheVariants as pieces
 use Rattle.arguments.specs.Row.{KeywordData, RowData, leaving_out, needed, optional, row}
-use Rattle.data.specs.declared.language_names.object_methods.ConfigurationMethod.{ConfigurationMethod}
-use Rattle.data.specs.declared.language_names.object_methods.ConfigurationMethod.TheVariants as methods
+use Rattle.values.specs.declared.language_names.object_methods.ConfigurationMethod.{ConfigurationMethod}
+use Rattle.values.specs.declared.language_names.object_methods.ConfigurationMethod.TheVariants as methods
 
 -- `configuration_data(dictionary)`, which may be left out
 abbrev pub configuration_data_row : RowData

@@ -1,9 +1,9 @@
 -- What `configure_file` fills its output with.
 use Rattle.std.specs.Prelude.{◌≡◌, ℕ, List, [], Option, Some, None, Result, is_some, option_map, unwrap_or}
-use Rattle.targets.specs.edge.Texts.{Path}
-use Rattle.basics.specs.Faults.{FaultData, plain_fault}
-use Rattle.basics.specs.declared.faults.refusal.Refusal.{Refusal}
-use Rattle.basics.specs.declared.faults.refusal.Refusal.TheVariants as refusals
+use Rattle.build.specs.edge.Texts.{Path}
+use Rattle.support.specs.Faults.{FaultData, plain_fault}
+use Rattle.support.specs.declared.faults.refusal.Refusal.{Refusal}
+use Rattle.support.specs.declared.faults.refusal.Refusal.TheVariants as refusals
 use Rattle.ports.specs.Tree.{Stays, bytes_at}
 use Rattle.template.specs.Config.{Entries}
 use Rattle.template.specs.Header.{header_steps}

@@ -1,7 +1,7 @@
 //! A method of the compiler on its arguments.
 ghost use Rattle.std.specs.Prelude.{◌≡◌, IfOk, OnOk, Some, map, option_map};
 ghost use Rattle.arguments.specs.Given.{text_or_none};
-ghost use Rattle.data.specs.Data.{integer, items_append, list, no_items, text};
+ghost use Rattle.values.specs.Data.{integer, items_append, list, no_items, text};
 ghost use Rattle.machine.specs.machine_file.Questions.{answer_to, check_topic, plain};
 ghost use Rattle.machine.specs.machine_file.View.{machine_in};
 ghost use Rattle.world.specs.Prelude.{Answers, Does, arguments_data, data_of, items_of, within};
@@ -14,11 +14,11 @@ use crate::compiler::rows::row;
 use crate::compiler::said::{is_true, number_of};
 use crate::keys::read_key;
 use arguments::Arguments;
-use data::language_names::{CompilerMethod, MethodName};
-use data::{List, Refusal, Value};
 use machine::machine_file::{Machine, Question, Topic};
 use ports::{Outputs, Tree};
 use std::alloc::{AllocError, Global};
+use values::language_names::{CompilerMethod, MethodName};
+use values::{List, Refusal, Value};
 use world::{Caller, Stop};
 
 fn integer_value(number: i64) -> Value
@@ -180,6 +180,6 @@ pub fn compiler_method<T: Tree, O: Outputs>(
             caller.fit(&row(method), arguments)?;
             act(caller, method, name.as_str(), arguments)
         }
-        None => caller.refuse(basics::faults::Refusal::UnknownFunction, ""),
+        None => caller.refuse(support::faults::Refusal::UnknownFunction, ""),
     }
 }

@@ -1,7 +1,7 @@
 //! The checks of the compiler, and `find_library`.
 ghost use Rattle.std.specs.Prelude.{◌≡◌, IfOk, Some, map, option_and_then, option_map, string_bytes};
 ghost use Rattle.arguments.specs.Given.{argument};
-ghost use Rattle.data.specs.Data.{text_in};
+ghost use Rattle.values.specs.Data.{text_in};
 ghost use Rattle.machine.specs.machine_file.Questions.{answer_to, check_topic};
 ghost use Rattle.named_sources.specs.resources.Beside.{call_question};
 ghost use Rattle.world.specs.Prelude.{Answers, Does, arguments_data, data_of};
@@ -11,11 +11,11 @@ ghost use Rattle.objects.specs.CompilerChecks.{library_argument, library_named, 
 
 use crate::compiler::said::is_true;
 use arguments::{Arguments, Requirement};
-use data::{Dependency, Object, Refusal, Text, Value};
 use machine::machine_file::Topic;
 use named_sources::resources::{call_question, found_dependency, missing_dependency};
 use ports::{Outputs, Tree};
 use std::alloc::{AllocError, Global};
+use values::{Dependency, Object, Refusal, Text, Value};
 use world::{Caller, Stop};
 
 // Whether it is so. What is required and is not so is refused with a name, and what is not looked up is false.
@@ -29,7 +29,7 @@ fn require_as<T: Tree, O: Outputs>(
 {
     match requirement {
         Requirement::Required => {
-            caller.need(is_so, basics::faults::Refusal::NotFound, name)?;
+            caller.need(is_so, support::faults::Refusal::NotFound, name)?;
             Ok(is_so)
         }
         Requirement::Optional => Ok(is_so),

@@ -3,8 +3,8 @@ ghost use Rattle.std.specs.Prelude.{◌≡◌};
 ghost use Rattle.objects.specs.CompilerMethods.{has_method};
 ghost use Rattle.objects.specs.CompilerNames.{is_left_out};
 
-use basics::text_lists::is_among;
-use data::language_names::MethodName;
+use support::text_lists::is_among;
+use values::language_names::MethodName;
 
 /// Those that ask the machine.
 const LEFT_OUT: [&str; 6] = [

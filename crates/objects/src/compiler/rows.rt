@@ -4,7 +4,7 @@ ghost use Rattle.arguments.specs.RowView.{row_data};
 ghost use Rattle.objects.specs.CompilerRows.{row_of};
 
 use arguments::{Keyword, Kind, Row};
-use data::language_names::CompilerMethod;
+use values::language_names::CompilerMethod;
 
 // What all take that ask the compiler.
 const ASKING: &[Keyword] = &[

@@ -10,9 +10,9 @@ ghost use Rattle.objects.specs.configuration_calls.Contents.{all_set, content_at
 ghost use Rattle.objects.specs.configuration_calls.Contents.{fallback_given, found_or, given, given_text, unquoted_text};
 
 use arguments::{Refused, Rule};
-use data::{Dictionary, Refusal, Text, Value};
 use std::alloc::{AllocError, Global};
 use template::{ConfigData, ConfigValue};
+use values::{Dictionary, Refusal, Text, Value};
 
 fn is_name_byte(byte: u8) -> bool
     ensures { result ≡ is_name_byte byte }

@@ -7,10 +7,10 @@ ghost use Rattle.objects.specs.configuration_calls.Given.{data_given, data_in};
 
 use crate::configuration_calls::contents::entries_in;
 use arguments::{Arguments, Refused, Rule};
-use data::{Object, Value};
 use ports::{Outputs, Tree};
 use std::alloc::{AllocError, Global};
 use template::ConfigData;
+use values::{Object, Value};
 use world::{Caller, Stop};
 
 fn data_in(alloc: Global, value: &Value) -> Result<Result<ConfigData, Refused>, AllocError>

@@ -1,7 +1,7 @@
 //! `configure_file`: a file that is made while the definition files are read.
 ghost use Rattle.std.specs.Prelude.{◌≡◌, IfOk, Some, option_map, string_bytes};
-ghost use Rattle.paths.specs.Paths.{path_in};
-ghost use Rattle.project.specs.View.{install_view};
+ghost use Rattle.support.specs.paths.Paths.{path_in};
+ghost use Rattle.build.specs.project.View.{install_view};
 ghost use Rattle.world.specs.Prelude.{Does, MayFail, arguments_data, data_of, state_of, world_of};
 ghost use Rattle.objects.specs.configuration_calls.ConfigureFile.{configure_file, configured, frozen_by, install_at, installed, made};
 ghost use Rattle.objects.specs.configuration_calls.ConfigureFile.{output_made};
@@ -12,13 +12,13 @@ ghost use Rattle.objects.specs.configuration_calls.Written.{CarriesOf, filling_i
 use crate::configuration_calls::said::{Given, has_meson_format, input_given, values_given};
 use crate::configuration_calls::written::write_output;
 use arguments::{Arguments, Rule};
-use basics::faults::Refusal;
-use data::{Object, Text, Value};
+use build::project::Install;
 use named_sources::resources::destination;
-use paths::{is_file_name, path_below, path_in};
 use ports::{Outputs, Tree};
-use project::Install;
 use std::alloc::{AllocError, Global};
+use support::faults::Refusal;
+use support::paths::{is_file_name, path_below, path_in};
+use values::{Object, Text, Value};
 use world::{Caller, Stop, Store};
 
 // Where an output goes that is installed.
@@ -31,7 +31,7 @@ fn install_at(
 ) -> Result<Install, AllocError>
     ensures { IfOk result (λ i. install_view i ≡ install_at (world_of store.now).facts path.now name.now folder.now) }
 {
-    let build_root = store.settings().build_root.as_str();
+    let build_root = store.settings().build_root();
     Ok(Install {
         source: path_below(alloc, build_root, path)?,
         destination: destination(alloc, store.option_text("prefix"), folder, name)?,

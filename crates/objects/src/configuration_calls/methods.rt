@@ -13,13 +13,13 @@ ghost use Rattle.objects.specs.configuration_calls.Methods.{set, set10, set_text
 use crate::configuration_calls::contents::{Quotes, content_in, is_name, take_or};
 use crate::configuration_calls::rows::row_of;
 use arguments::{Arguments, Rule};
-use basics::faults::Refusal;
-use data::language_names::{ConfigurationMethod, MethodName};
-use data::{Object, Value};
 use operations::operators::text_list;
 use ports::{Outputs, Tree};
 use std::alloc::{AllocError, Global};
+use support::faults::Refusal;
 use template::ConfigValue;
+use values::language_names::{ConfigurationMethod, MethodName};
+use values::{Object, Value};
 use world::{Caller, Stop, Store};
 
 /// Whether configuration data have a method of a name. It takes no memory.

@@ -4,7 +4,7 @@ ghost use Rattle.arguments.specs.RowView.{row_data};
 ghost use Rattle.objects.specs.configuration_calls.Rows.{configuration_data_row, configure_file_row, other_format_row, row_of};
 
 use arguments::{Keyword, Kind, Piece, Row};
-use data::language_names::ConfigurationMethod;
+use values::language_names::ConfigurationMethod;
 
 const FILE: &[Keyword] = &[
     Keyword::Needed("output", Kind::Text),

@@ -3,7 +3,7 @@ ghost use Rattle.std.specs.Prelude.{◌≡◌, IfOk, codes, map, option_map, str
 ghost use Rattle.arguments.specs.Refused.{said_data};
 ghost use Rattle.arguments.specs.Said.{found};
 ghost use Rattle.arguments.specs.declared.rule.Rule.TheVariants.{TakesTreeFile};
-ghost use Rattle.data.specs.Data.{text as text_data};
+ghost use Rattle.values.specs.Data.{text as text_data};
 ghost use Rattle.world.specs.Prelude.{Does, arguments_data, data_of, here_view, world_of};
 ghost use Rattle.objects.specs.configuration_calls.ConfigureFile.{has_meson_format, input_given, values_given};
 ghost use Rattle.objects.specs.configuration_calls.Given.{configuration_given, dictionary_given, given_by};
@@ -13,11 +13,11 @@ ghost use Rattle.objects.specs.configuration_calls.Inputs.{file_named, input_nam
 use crate::configuration_calls::contents::entries_in;
 use crate::configuration_calls::methods::number_in;
 use arguments::{Arguments, Refused, Rule};
-use data::{Object, Value};
-use paths::tree_path;
 use ports::{Outputs, Tree};
 use std::alloc::{AllocError, Global};
+use support::paths::tree_path;
 use template::ConfigData;
+use values::{Object, Value};
 use world::{Caller, Here, Stop, Store};
 
 /// Values that a call is given, and the number of the configuration data that have them, where they are no dictionary's.

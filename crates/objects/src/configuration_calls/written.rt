@@ -1,6 +1,6 @@
 //! What `configure_file` writes into its output.
 ghost use Rattle.std.specs.Prelude.{◌≡◌, IfOk, OnOk, length, option_map};
-ghost use Rattle.basics.specs.Faults.{plain_fault};
+ghost use Rattle.support.specs.Faults.{plain_fault};
 ghost use Rattle.ports.specs.Outputs.{IsOpen, closing, opening};
 ghost use Rattle.ports.specs.Tree.{bytes_at};
 ghost use Rattle.world.specs.Answering.{Acts};
@@ -9,9 +9,9 @@ ghost use Rattle.world.specs.Gives.{IsRefusal};
 ghost use Rattle.world.specs.Making.{filled, telling, written};
 ghost use Rattle.objects.specs.configuration_calls.Written.{StopsSo, filling_in, header_filling, template_filling};
 
-use basics::faults::{Fault, Refusal};
 use ports::{Outputs, Tree};
 use std::alloc::{AllocError, Global};
+use support::faults::{Fault, Refusal};
 use template::{ConfigData, LINE_LIMIT, PassStop, header, pass};
 use world::{Caller, Stop};
 

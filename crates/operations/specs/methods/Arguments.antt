@@ -1,8 +1,8 @@
 -- What the arguments of a call are, where they have the count and the types that it asks for.
 use Rattle.std.specs.Prelude.{ℕ, ℤ, List, [], ◌∷◌, Option, Some, None, Result, Ok, Err}
-use Rattle.data.specs.declared.refusal.Refusal.{Refusal}
-use Rattle.data.specs.declared.refusal.Refusal.TheVariants as refusal
-use Rattle.data.specs.Data.{Data, integer, text}
+use Rattle.values.specs.declared.refusal.Refusal.{Refusal}
+use Rattle.values.specs.declared.refusal.Refusal.TheVariants as refusal
+use Rattle.values.specs.Data.{Data, integer, text}
 use Rattle.operations.specs.methods.Steps.{◌>>=◌}
 
 abbrev pub no_arguments : List Data → Result (Unit {0}) Refusal

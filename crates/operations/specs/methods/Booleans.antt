@@ -1,14 +1,14 @@
 -- The methods of booleans: the type `bool` of the page "Reference manual".
 use Rattle.std.specs.Prelude.{ℕ, pos, Bool, List, [], ◌∷◌, codes, Result, Ok, Err}
 use Rattle.std.specs.Prelude.{if◌then◌else◌}
-use Rattle.data.specs.declared.refusal.Refusal.{Refusal}
-use Rattle.data.specs.declared.refusal.Refusal.TheVariants as refusal
-use Rattle.data.specs.Data.{Data, integer, text}
-use Rattle.data.specs.declared.language_names.value_methods.BooleanMethod.{BooleanMethod}
-use Rattle.data.specs.declared.language_names.value_methods.BooleanMethod.TheVariants.{ToInt, ToString}
+use Rattle.values.specs.declared.refusal.Refusal.{Refusal}
+use Rattle.values.specs.declared.refusal.Refusal.TheVariants as refusal
+use Rattle.values.specs.Data.{Data, integer, text}
+use Rattle.values.specs.declared.language_names.value_methods.BooleanMethod.{BooleanMethod}
+use Rattle.values.specs.declared.language_names.value_methods.BooleanMethod.TheVariants.{ToInt, ToString}
 use Rattle.operations.specs.methods.Steps.{◌>>=◌, called}
 use Rattle.operations.specs.methods.Arguments.{no_arguments}
-use Rattle.data.specs.language_names.ValueMethods.{boolean_method_named}
+use Rattle.values.specs.language_names.ValueMethods.{boolean_method_named}
 
 -- 1 or 0
 abbrev pub to_int : Bool → List Data → Result Data Refusal

@@ -3,16 +3,16 @@ use Rattle.std.specs.Prelude.{ℕ, List, [], ◌∷◌, is_some, Result, Ok}
 use Rattle.std.specs.Ordering.{nat_cmp}
 use Rattle.std.specs.Cmp.Lexicographic.{slice_cmp}
 use Rattle.std.specs.BTreeSet.{insert_key}
-use Rattle.data.specs.declared.refusal.Refusal.{Refusal}
-use Rattle.data.specs.Data.{Data, boolean, list, Entries, find, keys_in}
-use Rattle.data.specs.Limits.{within}
-use Rattle.data.specs.declared.language_names.value_methods.DictionaryMethod.{DictionaryMethod}
-use Rattle.data.specs.declared.language_names.value_methods.DictionaryMethod.TheVariants.{Get, HasKey, Keys}
+use Rattle.values.specs.declared.refusal.Refusal.{Refusal}
+use Rattle.values.specs.Data.{Data, boolean, list, Entries, find, keys_in}
+use Rattle.values.specs.Limits.{within}
+use Rattle.values.specs.declared.language_names.value_methods.DictionaryMethod.{DictionaryMethod}
+use Rattle.values.specs.declared.language_names.value_methods.DictionaryMethod.TheVariants.{Get, HasKey, Keys}
 use Rattle.operations.specs.methods.Steps.{◌>>=◌, called}
 use Rattle.operations.specs.methods.Arguments.{no_arguments, one_argument, key_and_fallback, text_argument}
 use Rattle.operations.specs.methods.Lists.{found_or}
 use Rattle.operations.specs.methods.TextLists.{texts}
-use Rattle.data.specs.language_names.ValueMethods.{dictionary_method_named}
+use Rattle.values.specs.language_names.ValueMethods.{dictionary_method_named}
 
 -- the value at a key
 abbrev pub get : Entries → List Data → Result Data Refusal

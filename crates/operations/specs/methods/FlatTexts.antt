@@ -1,9 +1,9 @@
 -- Texts in lists of any depth.
 use Rattle.std.specs.Prelude.{ℕ, List, Result, Ok, Err, if◌then◌else◌}
-use Rattle.data.specs.declared.refusal.Refusal.{Refusal}
-use Rattle.data.specs.declared.refusal.Refusal.TheVariants as refusal
-use Rattle.data.specs.Data.{Data}
-use Rattle.data.specs.Flat.{are_texts, flat_all}
+use Rattle.values.specs.declared.refusal.Refusal.{Refusal}
+use Rattle.values.specs.declared.refusal.Refusal.TheVariants as refusal
+use Rattle.values.specs.Data.{Data}
+use Rattle.values.specs.Flat.{are_texts, flat_all}
 
 -- the texts in the arguments, with all lists opened; nothing else may stand in them
 abbrev pub flat_texts : List Data → Result (List (List ℕ)) Refusal

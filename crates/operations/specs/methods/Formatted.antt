@@ -1,13 +1,13 @@
 -- Texts with places for values.
 use Rattle.std.specs.Prelude.{ℕ, Bool, true, List, [], Option, Some, None, option_and_then, is_some, slice_get, Result, Err, if◌then◌else◌}
 use Rattle.std.specs.List.{list_all, flat_map}
-use Rattle.data.specs.declared.refusal.Refusal.{Refusal}
-use Rattle.data.specs.declared.refusal.Refusal.TheVariants as refusal
-use Rattle.data.specs.Data.{Data}
-use Rattle.data.specs.Limits.{within_bytes}
-use Rattle.data.specs.printing.Printed.{is_printable, shown}
-use Rattle.data.specs.declared.texts.placed.Places.TheVariants as places
-use Rattle.data.specs.texts.Segments.{Segment, text, place, segments, number_of}
+use Rattle.values.specs.declared.refusal.Refusal.{Refusal}
+use Rattle.values.specs.declared.refusal.Refusal.TheVariants as refusal
+use Rattle.values.specs.Data.{Data}
+use Rattle.values.specs.Limits.{within_bytes}
+use Rattle.values.specs.printing.Printed.{is_printable, shown}
+use Rattle.values.specs.declared.texts.placed.Places.TheVariants as places
+use Rattle.values.specs.texts.Segments.{Segment, text, place, segments, number_of}
 
 -- the value whose number stands between the two `@` of a place, counted from 0
 abbrev pub value_at : List Data → List ℕ → Option Data

@@ -1,14 +1,14 @@
 -- The methods of integers: the type `int` of the page "Reference manual".
 use Rattle.std.specs.Prelude.{ℕ, ℤ, ◌%◌, ◌==◌, not, unsigned_abs, List, Result, Ok}
 use Rattle.std.specs.Fmt.{signed_decimal}
-use Rattle.data.specs.declared.refusal.Refusal.{Refusal}
-use Rattle.data.specs.Data.{Data, boolean, text}
-use Rattle.data.specs.Limits.{within}
-use Rattle.data.specs.declared.language_names.value_methods.IntegerMethod.{IntegerMethod}
-use Rattle.data.specs.declared.language_names.value_methods.IntegerMethod.TheVariants.{IsEven, IsOdd, ToString}
+use Rattle.values.specs.declared.refusal.Refusal.{Refusal}
+use Rattle.values.specs.Data.{Data, boolean, text}
+use Rattle.values.specs.Limits.{within}
+use Rattle.values.specs.declared.language_names.value_methods.IntegerMethod.{IntegerMethod}
+use Rattle.values.specs.declared.language_names.value_methods.IntegerMethod.TheVariants.{IsEven, IsOdd, ToString}
 use Rattle.operations.specs.methods.Steps.{◌>>=◌, called}
 use Rattle.operations.specs.methods.Arguments.{no_arguments}
-use Rattle.data.specs.language_names.ValueMethods.{integer_method_named}
+use Rattle.values.specs.language_names.ValueMethods.{integer_method_named}
 
 -- an integer is even where its distance from zero is
 abbrev pub is_even : ℤ → List Data → Result Data Refusal

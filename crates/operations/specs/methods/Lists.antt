@@ -1,15 +1,15 @@
 -- The methods of lists: the type `list` of the page "Reference manual".
 use Rattle.std.specs.Prelude.{ℕ, pos, Bool, false, ◌||◌, List, Option, Some, None, Result, Ok, Err}
-use Rattle.data.specs.declared.refusal.Refusal.{Refusal}
-use Rattle.data.specs.declared.refusal.Refusal.TheVariants as refusal
-use Rattle.data.specs.Data.{Data, boolean, integer, text, list, dictionary, object, Items, no_items, item, count}
-use Rattle.data.specs.Same.{same}
+use Rattle.values.specs.declared.refusal.Refusal.{Refusal}
+use Rattle.values.specs.declared.refusal.Refusal.TheVariants as refusal
+use Rattle.values.specs.Data.{Data, boolean, integer, text, list, dictionary, object, Items, no_items, item, count}
+use Rattle.values.specs.Same.{same}
 use Rattle.operations.specs.operators.Index.{indexed_item}
-use Rattle.data.specs.declared.language_names.value_methods.ListMethod.{ListMethod}
-use Rattle.data.specs.declared.language_names.value_methods.ListMethod.TheVariants.{Contains, Get, Length}
+use Rattle.values.specs.declared.language_names.value_methods.ListMethod.{ListMethod}
+use Rattle.values.specs.declared.language_names.value_methods.ListMethod.TheVariants.{Contains, Get, Length}
 use Rattle.operations.specs.methods.Steps.{◌>>=◌, called}
 use Rattle.operations.specs.methods.Arguments.{no_arguments, one_argument, key_and_fallback, integer_argument}
-use Rattle.data.specs.language_names.ValueMethods.{list_method_named}
+use Rattle.values.specs.language_names.ValueMethods.{list_method_named}
 
 -- whether a value is an item, or stands in an item that is a list, at any depth
 abbrev mutual

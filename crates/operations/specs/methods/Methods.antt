@@ -1,10 +1,10 @@
 -- The methods of values that are no objects, by the type of the receiver.
 use Rattle.std.specs.Prelude.{ℕ, Bool, false, List, is_some, Result, Err}
-use Rattle.data.specs.declared.refusal.Refusal.{Refusal}
-use Rattle.data.specs.declared.refusal.Refusal.TheVariants as refusal
-use Rattle.data.specs.Data.{Data, boolean, integer, text, list, dictionary, object}
-use Rattle.data.specs.language_names.ValueMethods.{boolean_method_named, dictionary_method_named, integer_method_named, list_method_named}
-use Rattle.data.specs.language_names.ValueMethods.{text_method_named}
+use Rattle.values.specs.declared.refusal.Refusal.{Refusal}
+use Rattle.values.specs.declared.refusal.Refusal.TheVariants as refusal
+use Rattle.values.specs.Data.{Data, boolean, integer, text, list, dictionary, object}
+use Rattle.values.specs.language_names.ValueMethods.{boolean_method_named, dictionary_method_named, integer_method_named, list_method_named}
+use Rattle.values.specs.language_names.ValueMethods.{text_method_named}
 use Rattle.operations.specs.methods.Integers as integers
 use Rattle.operations.specs.methods.Booleans as booleans
 use Rattle.operations.specs.methods.TextMethods as texts

@@ -1,8 +1,8 @@
 -- What the numbers of places come to.
 use Rattle.std.specs.Prelude.{◌≡◌, ◌≤◌, ◌^◌, ℕ, List, length, slice_get, None, if◌then◌else◌}
 use Rattle.std.specs.Str.Parse.{digits_value}
-use Rattle.data.specs.Data.{Data}
-use Rattle.data.specs.texts.Segments.{is_number}
+use Rattle.values.specs.Data.{Data}
+use Rattle.values.specs.texts.Segments.{is_number}
 use Rattle.operations.specs.methods.Formatted.{value_at}
 
 -- A place has the value at the number that its digits write, however large that is: where no `usize` holds it there is none, since no list

@@ -1,10 +1,10 @@
 -- Steps of a call, each of which may be refused, and what a call answers.
 use Rattle.std.specs.Prelude.{◌≡◌, Option, ok_or, Result, Ok, Err}
-use Rattle.data.specs.declared.refusal.Refusal.{Refusal}
-use Rattle.data.specs.declared.refusal.Refusal.TheVariants as refusal
-use Rattle.data.specs.declared.value.Value.{Value}
-use Rattle.data.specs.Data.{Data}
-use Rattle.data.specs.View.{data_of}
+use Rattle.values.specs.declared.refusal.Refusal.{Refusal}
+use Rattle.values.specs.declared.refusal.Refusal.TheVariants as refusal
+use Rattle.values.specs.declared.value.Value.{Value}
+use Rattle.values.specs.Data.{Data}
+use Rattle.values.specs.View.{data_of}
 use Rattle.operations.specs.declared.methods.stop.Stop.{Stop}
 use Rattle.operations.specs.declared.methods.stop.Stop.TheVariants as stop
 

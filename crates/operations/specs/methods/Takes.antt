@@ -1,18 +1,18 @@
 -- What each method takes, in words, and of which values.
 use Rattle.std.specs.Prelude.{ℕ, List, [], Option, Some, None, codes}
-use Rattle.data.specs.Data.{Data, boolean, integer, text, list, dictionary, object}
-use Rattle.data.specs.language_names.ValueMethods.{boolean_method_named, dictionary_method_named, integer_method_named, list_method_named}
-use Rattle.data.specs.language_names.ValueMethods.{text_method_named}
-use Rattle.data.specs.declared.language_names.value_methods.BooleanMethod.{BooleanMethod}
-use Rattle.data.specs.declared.language_names.value_methods.BooleanMethod.TheVariants as of_boolean
-use Rattle.data.specs.declared.language_names.value_methods.IntegerMethod.{IntegerMethod}
-use Rattle.data.specs.declared.language_names.value_methods.IntegerMethod.TheVariants as of_integer
-use Rattle.data.specs.declared.language_names.value_methods.ListMethod.{ListMethod}
-use Rattle.data.specs.declared.language_names.value_methods.ListMethod.TheVariants as of_list
-use Rattle.data.specs.declared.language_names.value_methods.DictionaryMethod.{DictionaryMethod}
-use Rattle.data.specs.declared.language_names.value_methods.DictionaryMethod.TheVariants as of_dictionary
-use Rattle.data.specs.declared.language_names.value_methods.TextMethod.{TextMethod}
-use Rattle.data.specs.declared.language_names.value_methods.TextMethod.TheVariants as of_text
+use Rattle.values.specs.Data.{Data, boolean, integer, text, list, dictionary, object}
+use Rattle.values.specs.language_names.ValueMethods.{boolean_method_named, dictionary_method_named, integer_method_named, list_method_named}
+use Rattle.values.specs.language_names.ValueMethods.{text_method_named}
+use Rattle.values.specs.declared.language_names.value_methods.BooleanMethod.{BooleanMethod}
+use Rattle.values.specs.declared.language_names.value_methods.BooleanMethod.TheVariants as of_boolean
+use Rattle.values.specs.declared.language_names.value_methods.IntegerMethod.{IntegerMethod}
+use Rattle.values.specs.declared.language_names.value_methods.IntegerMethod.TheVariants as of_integer
+use Rattle.values.specs.declared.language_names.value_methods.ListMethod.{ListMethod}
+use Rattle.values.specs.declared.language_names.value_methods.ListMethod.TheVariants as of_list
+use Rattle.values.specs.declared.language_names.value_methods.DictionaryMethod.{DictionaryMethod}
+use Rattle.values.specs.declared.language_names.value_methods.DictionaryMethod.TheVariants as of_dictionary
+use Rattle.values.specs.declared.language_names.value_methods.TextMethod.{TextMethod}
+use Rattle.values.specs.declared.language_names.value_methods.TextMethod.TheVariants as of_text
 
 -- what many methods take
 abbrev pub nothing : List ℕ

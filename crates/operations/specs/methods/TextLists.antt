@@ -1,6 +1,6 @@
 -- Texts as items.
 use Rattle.std.specs.Prelude.{ℕ, List, [], ◌∷◌}
-use Rattle.data.specs.Data.{text, Items, no_items, item}
+use Rattle.values.specs.Data.{text, Items, no_items, item}
 
 abbrev pub texts : List (List ℕ) → Items
 texts [] = no_items

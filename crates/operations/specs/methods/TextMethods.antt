@@ -2,25 +2,25 @@
 use Rattle.std.specs.Prelude.{ℕ, List, [], map, nat_eq, Result, Ok}
 use Rattle.std.specs.Char.{to_ascii_lowercase, to_ascii_uppercase}
 use Rattle.std.specs.List as lists
-use Rattle.data.specs.declared.refusal.Refusal.{Refusal}
-use Rattle.data.specs.Data.{Data, boolean, integer, text}
-use Rattle.data.specs.Limits.{within}
-use Rattle.data.specs.texts.Search as search
-use Rattle.data.specs.texts.Joined.{joined, replaced}
-use Rattle.data.specs.texts.Letters.{underscorified}
-use Rattle.data.specs.texts.Number.{integer_of}
-use Rattle.data.specs.texts.Part.{part}
-use Rattle.data.specs.texts.Pieces as pieces
-use Rattle.data.specs.texts.Strip.{stripped, is_blank, is_among}
-use Rattle.data.specs.texts.Condition.{meets}
-use Rattle.data.specs.declared.language_names.value_methods.TextMethod.{TextMethod}
-use Rattle.data.specs.declared.language_names.value_methods.TextMethod.TheVariants as method
+use Rattle.values.specs.declared.refusal.Refusal.{Refusal}
+use Rattle.values.specs.Data.{Data, boolean, integer, text}
+use Rattle.values.specs.Limits.{within}
+use Rattle.values.specs.texts.Search as search
+use Rattle.values.specs.texts.Joined.{joined, replaced}
+use Rattle.values.specs.texts.Letters.{underscorified}
+use Rattle.values.specs.texts.Number.{integer_of}
+use Rattle.values.specs.texts.Part.{part}
+use Rattle.values.specs.texts.Pieces as pieces
+use Rattle.values.specs.texts.Strip.{stripped, is_blank, is_among}
+use Rattle.values.specs.texts.Condition.{meets}
+use Rattle.values.specs.declared.language_names.value_methods.TextMethod.{TextMethod}
+use Rattle.values.specs.declared.language_names.value_methods.TextMethod.TheVariants as method
 use Rattle.operations.specs.methods.Steps.{◌>>=◌, called}
 use Rattle.operations.specs.methods.Arguments.{no_arguments, one_text, two_texts, bounds}
 use Rattle.operations.specs.methods.FlatTexts.{flat_texts}
 use Rattle.operations.specs.methods.Formatted.{formatted_text}
 use Rattle.operations.specs.operators.TextLists.{text_list}
-use Rattle.data.specs.language_names.ValueMethods.{text_method_named}
+use Rattle.values.specs.language_names.ValueMethods.{text_method_named}
 
 -- `contains`
 abbrev pub contains : List ℕ → List Data → Result Data Refusal

@@ -3,11 +3,11 @@ use Rattle.std.specs.Prelude.{ℕ, zero, suc, ℤ, pos, negsuc, ◌-◌, nat_lt,
 use Rattle.std.specs.Prelude.{option_and_then, ok_or, slice_get, Result, Ok, Err, if◌then◌else◌}
 use Rattle.std.specs.Str.{chars}
 use Rattle.std.specs.Char.{encode_utf8}
-use Rattle.data.specs.declared.object.Object.{Object}
-use Rattle.data.specs.declared.object.Object.TheVariants as TheObject
-use Rattle.data.specs.declared.refusal.Refusal.{Refusal}
-use Rattle.data.specs.declared.refusal.Refusal.TheVariants as refusal
-use Rattle.data.specs.Data.{Data, integer, text, list, dictionary, object, Items, no_items, item, count, find, is_disabler}
+use Rattle.values.specs.declared.object.Object.{Object}
+use Rattle.values.specs.declared.object.Object.TheVariants as TheObject
+use Rattle.values.specs.declared.refusal.Refusal.{Refusal}
+use Rattle.values.specs.declared.refusal.Refusal.TheVariants as refusal
+use Rattle.values.specs.Data.{Data, integer, text, list, dictionary, object, Items, no_items, item, count, find, is_disabler}
 use Rattle.operations.specs.operators.Operations.{disabler}
 
 -- The place that an index means among so many parts. `negsuc i` is -(i + 1): negative ones count from the end, and -1 is the last.

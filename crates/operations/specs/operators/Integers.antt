@@ -1,7 +1,7 @@
 -- Integers of 128 bits: from -2^127 to 2^127 - 1. Here `pos n` is n, and `negsuc n` is -(n + 1).
 use Rattle.std.specs.Prelude.{zero, suc, ℤ, pos, negsuc, ◌+ℤ◌, ◌-ℤ◌, ◌*ℤ◌, neg_ℤ, ◌≤ℤ◌, ◌<ℤ◌, ◌/◌, Bool, true, false, Option, Some, None}
 use Rattle.std.specs.Prelude.{if◌then◌else◌}
-use Rattle.basics.specs.Limits.{is_in_range}
+use Rattle.support.specs.Limits.{is_in_range}
 
 -- an integer, where it is in range
 abbrev pub in_range : ℤ → Option ℤ

@@ -1,11 +1,11 @@
 -- A dictionary literal: what comes of its keys and values, in order.
 use Rattle.std.specs.Prelude.{◌≡◌, List, [], ◌∷◌, is_some, Result, Ok, Err, if◌then◌else◌}
-use Rattle.data.specs.declared.refusal.Refusal.{Refusal}
-use Rattle.data.specs.declared.refusal.Refusal.TheVariants as refusal
-use Rattle.data.specs.Data.{Data, text, dictionary, Entries, no_entries, put, find}
-use Rattle.data.specs.Limits.{within}
-use Rattle.data.specs.View.{data_of}
-use Rattle.data.specs.declared.value.Value.{Value}
+use Rattle.values.specs.declared.refusal.Refusal.{Refusal}
+use Rattle.values.specs.declared.refusal.Refusal.TheVariants as refusal
+use Rattle.values.specs.Data.{Data, text, dictionary, Entries, no_entries, put, find}
+use Rattle.values.specs.Limits.{within}
+use Rattle.values.specs.View.{data_of}
+use Rattle.values.specs.declared.value.Value.{Value}
 use Rattle.operations.specs.declared.operators.literal.LiteralRefusal.{LiteralRefusal}
 use Rattle.operations.specs.declared.operators.literal.LiteralRefusal.TheVariants as literals
 

@@ -1,10 +1,10 @@
 -- `and` and `or`: the left side decides, or the right side does.
 use Rattle.std.specs.Prelude.{◌≡◌, true, false, Option, Some, None, Result, Ok, Err}
-use Rattle.data.specs.declared.object.Object.TheVariants as TheObject
-use Rattle.data.specs.declared.refusal.Refusal.{Refusal}
-use Rattle.data.specs.declared.refusal.Refusal.TheVariants as refusal
-use Rattle.data.specs.Data.{Data, boolean, object}
-use Rattle.data.specs.View.{data_of}
+use Rattle.values.specs.declared.object.Object.TheVariants as TheObject
+use Rattle.values.specs.declared.refusal.Refusal.{Refusal}
+use Rattle.values.specs.declared.refusal.Refusal.TheVariants as refusal
+use Rattle.values.specs.Data.{Data, boolean, object}
+use Rattle.values.specs.View.{data_of}
 use Rattle.operations.specs.declared.operators.operator.Connective.{Connective}
 use Rattle.operations.specs.declared.operators.operator.Connective.TheVariants.{And, Or}
 use Rattle.operations.specs.declared.operators.logic.Left.{Left}

@@ -1,11 +1,11 @@
 -- The operators. A first table says what an operator gives, a second one why it gives nothing.
 use Rattle.std.specs.Prelude.{Bool, true, false, not, ◌||◌, Option, Some, None, option_map, Result, Ok, Err, if◌then◌else◌}
 use Rattle.std.specs.Ordering.{is_lt, is_le, is_gt, is_ge}
-use Rattle.data.specs.declared.object.Object.TheVariants as TheObject
-use Rattle.data.specs.declared.refusal.Refusal.{Refusal}
-use Rattle.data.specs.declared.refusal.Refusal.TheVariants as refusal
-use Rattle.data.specs.Data.{Data, boolean, integer, object, is_disabler}
-use Rattle.data.specs.Limits.{within}
+use Rattle.values.specs.declared.object.Object.TheVariants as TheObject
+use Rattle.values.specs.declared.refusal.Refusal.{Refusal}
+use Rattle.values.specs.declared.refusal.Refusal.TheVariants as refusal
+use Rattle.values.specs.Data.{Data, boolean, integer, object, is_disabler}
+use Rattle.values.specs.Limits.{within}
 use Rattle.operations.specs.declared.operators.operator.Unary.{Unary}
 use Rattle.operations.specs.declared.operators.operator.Unary.TheVariants.{Not, Negate}
 use Rattle.operations.specs.declared.operators.operator.Binary.{Binary}

@@ -3,11 +3,11 @@ use Rattle.std.specs.Prelude.{Bool, false, not, ◌||◌, ◌++◌, Option, Some
 use Rattle.std.specs.Ordering.{int_cmp, nat_cmp}
 use Rattle.std.specs.Cmp.Lexicographic.{slice_cmp}
 use Rattle.std.specs.declared.cmp.Ordering.{Ordering}
-use Rattle.data.specs.Data.{Data, boolean, integer, text, list, dictionary, Items, no_items, item, items_append, find, merged}
-use Rattle.data.specs.Same.{same}
+use Rattle.values.specs.Data.{Data, boolean, integer, text, list, dictionary, Items, no_items, item, items_append, find, merged}
+use Rattle.values.specs.Same.{same}
 use Rattle.operations.specs.operators.Integers as integers
-use Rattle.data.specs.texts.Search.{contains}
-use Rattle.paths.specs.Below.{path_below}
+use Rattle.values.specs.texts.Search.{contains}
+use Rattle.support.specs.paths.Below.{path_below}
 use Rattle.operations.specs.operators.Types.{is_one_type}
 
 -- `+`: a dictionary's keys keep their places, values of the right win, new keys go last

@@ -2,11 +2,11 @@
 use Rattle.std.specs.Prelude.{◌≡◌, ℕ, List, [], ◌∷◌, ◌++◌, Result, Ok, Err}
 use Rattle.std.specs.declared.alloc.Global.{Global}
 use Rattle.std.specs.declared.vec.Vec.{Vec}
-use Rattle.data.specs.Data.{Data, text, list, Items, no_items, item, items_append}
-use Rattle.data.specs.Limits.{within}
-use Rattle.data.specs.View.{data_of, items_of}
-use Rattle.data.specs.declared.refusal.Refusal.{Refusal}
-use Rattle.data.specs.declared.value.Value.{Value}
+use Rattle.values.specs.Data.{Data, text, list, Items, no_items, item, items_append}
+use Rattle.values.specs.Limits.{within}
+use Rattle.values.specs.View.{data_of, items_of}
+use Rattle.values.specs.declared.refusal.Refusal.{Refusal}
+use Rattle.values.specs.declared.value.Value.{Value}
 
 -- the values of an answer as items
 abbrev pub items_in : Result (Vec Value Global) Refusal → Result Items Refusal

@@ -1,8 +1,8 @@
 -- Which values are of one type.
 use Rattle.std.specs.Prelude.{Bool, true, false}
-use Rattle.data.specs.declared.object.Object.{Object}
-use Rattle.data.specs.declared.object.Object.TheVariants as TheObject
-use Rattle.data.specs.Data.{Data, boolean, integer, text, list, dictionary, object}
+use Rattle.values.specs.declared.object.Object.{Object}
+use Rattle.values.specs.declared.object.Object.TheVariants as TheObject
+use Rattle.values.specs.Data.{Data, boolean, integer, text, list, dictionary, object}
 
 -- Objects are of one kind where they are of one type of the manual. All targets are of one kind, outputs of custom targets of another.
 abbrev pub is_one_kind : Object → Object → Bool

@@ -1,15 +1,15 @@
 //! The methods of booleans: the type `bool` of the page "Reference manual".
 
 ghost use Rattle.std.specs.Prelude.{[], map};
-ghost use Rattle.data.specs.Prelude.{data_of};
+ghost use Rattle.values.specs.Prelude.{data_of};
 ghost use Rattle.operations.specs.methods.Steps.{Gives};
 ghost use Rattle.operations.specs.methods.Booleans.{to_int, to_string, answer};
 
 use crate::methods::readers::none;
 use crate::methods::stop::Stop;
-use data::language_names::{BooleanMethod, MethodName};
-use data::{Refusal, Value};
 use std::alloc::Global;
+use values::language_names::{BooleanMethod, MethodName};
+use values::{Refusal, Value};
 
 /// What the method with a name gives for a boolean.
 pub fn boolean_method(

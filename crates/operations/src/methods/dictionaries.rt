@@ -1,8 +1,8 @@
 //! The methods of dictionaries: the type `dict` of the page "Reference manual".
 
 ghost use Rattle.std.specs.Prelude.{◌≡◌, [], map, IfOk};
-ghost use Rattle.data.specs.Data.{keys_in};
-ghost use Rattle.data.specs.Prelude.{data_of, items_of};
+ghost use Rattle.values.specs.Data.{keys_in};
+ghost use Rattle.values.specs.Prelude.{data_of, items_of};
 ghost use Rattle.operations.specs.methods.Steps.{Gives};
 ghost use Rattle.operations.specs.methods.TextLists.{texts};
 ghost use Rattle.operations.specs.methods.Dictionaries.{get, has_key, keys, sorted_with, answer};
@@ -11,10 +11,10 @@ use crate::methods::lists::take_or;
 use crate::methods::readers::{key_and_fallback, none, one, text};
 use crate::methods::stop::Stop;
 use crate::operators::list;
-use data::language_names::{DictionaryMethod, MethodName};
-use data::{Dictionary, Refusal, Text, Value};
 use std::alloc::{AllocError, Global};
 use std::collections::BTreeSet;
+use values::language_names::{DictionaryMethod, MethodName};
+use values::{Dictionary, Refusal, Text, Value};
 
 /// What the method with a name gives for a dictionary.
 pub fn dictionary_method(

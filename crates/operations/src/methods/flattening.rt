@@ -1,12 +1,12 @@
 //! Texts in lists of any depth, as arguments.
 
 ghost use Rattle.std.specs.Prelude.{◌≡◌, map, IfOk};
-ghost use Rattle.data.specs.Prelude.{data_of};
+ghost use Rattle.values.specs.Prelude.{data_of};
 ghost use Rattle.operations.specs.methods.FlatTexts.{flat_texts};
-ghost use Rattle.data.specs.texts.Answers.{pieces_in};
+ghost use Rattle.values.specs.texts.Answers.{pieces_in};
 
-use data::{Refusal, Value, are_texts, flat_all};
 use std::alloc::{AllocError, Global};
+use values::{Refusal, Value, are_texts, flat_all};
 
 /// The texts in the arguments, with all lists opened. `Refusal::Arguments` where anything else stands in them.
 pub fn flat_texts(

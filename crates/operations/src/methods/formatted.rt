@@ -2,15 +2,15 @@
 
 ghost use Rattle.std.specs.Prelude.{◌≡◌, map, option_map, IfOk};
 ghost use Rattle.std.specs.List.{list_all, flat_map};
-ghost use Rattle.data.specs.Prelude.{Appends, data_of};
-ghost use Rattle.data.specs.printing.Printed.{is_printable};
-ghost use Rattle.data.specs.texts.Segments.{segment_data};
+ghost use Rattle.values.specs.Prelude.{Appends, data_of};
+ghost use Rattle.values.specs.printing.Printed.{is_printable};
+ghost use Rattle.values.specs.texts.Segments.{segment_data};
 ghost use Rattle.operations.specs.methods.Formatted.{formatted_text, has_value, value_at, filled};
 
-use data::printing::{is_printable, write};
-use data::texts::{Places, Segment, number_of, segments};
-use data::{Refusal, Text, Value};
 use std::alloc::{AllocError, Global};
+use values::printing::{is_printable, write};
+use values::texts::{Places, Segment, number_of, segments};
+use values::{Refusal, Text, Value};
 
 /// The text with the printed value of number N, counted from 0, at each place `@N@`: the method `format` of the type
 /// `str` of the page "Reference manual".

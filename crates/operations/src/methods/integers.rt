@@ -1,16 +1,16 @@
 //! The methods of integers: the type `int` of the page "Reference manual".
 
 ghost use Rattle.std.specs.Prelude.{map};
-ghost use Rattle.data.specs.Prelude.{data_of};
+ghost use Rattle.values.specs.Prelude.{data_of};
 ghost use Rattle.operations.specs.methods.Steps.{Gives};
 ghost use Rattle.operations.specs.methods.Integers.{is_even, is_odd, to_string, answer};
 
 use crate::methods::readers::none;
 use crate::methods::stop::Stop;
-use data::language_names::{IntegerMethod, MethodName};
-use data::printing::print;
-use data::{Refusal, Value};
 use std::alloc::Global;
+use values::language_names::{IntegerMethod, MethodName};
+use values::printing::print;
+use values::{Refusal, Value};
 
 /// What the method with a name gives for an integer.
 pub fn integer_method(

@@ -1,15 +1,15 @@
 //! The methods of lists: the type `list` of the page "Reference manual".
 
 ghost use Rattle.std.specs.Prelude.{◌≡◌, map, option_map};
-ghost use Rattle.data.specs.Prelude.{data_of, items_of};
+ghost use Rattle.values.specs.Prelude.{data_of, items_of};
 ghost use Rattle.operations.specs.methods.Steps.{Gives};
 ghost use Rattle.operations.specs.methods.Lists.{stands_in, stands_inside, contains, get, found_or, len, answer};
 
 use crate::methods::readers::{integer, key_and_fallback, none, one};
 use crate::methods::stop::Stop;
 use crate::operators::indexed_item;
-use data::language_names::{ListMethod, MethodName};
-use data::{List, Refusal, Value, is_equal};
+use values::language_names::{ListMethod, MethodName};
+use values::{List, Refusal, Value, is_equal};
 
 /// What the method with a name gives for a list.
 pub fn list_method(list: &List, name: &MethodName, arguments: &[Value]) -> Result<Value, Stop>

@@ -1,7 +1,7 @@
 //! The methods, by the type of the receiver.
 
 ghost use Rattle.std.specs.Prelude.{◌≡◌, IfOk, map};
-ghost use Rattle.data.specs.Prelude.{Answers, data_of};
+ghost use Rattle.values.specs.Prelude.{Answers, data_of};
 ghost use Rattle.operations.specs.methods.Methods.{answer, has_name};
 
 use crate::methods::booleans::boolean_method;
@@ -10,9 +10,9 @@ use crate::methods::integers::integer_method;
 use crate::methods::lists::list_method;
 use crate::methods::stop::Stop;
 use crate::methods::text_methods::text_method;
-use data::language_names::MethodName;
-use data::{Refusal, Value};
 use std::alloc::{AllocError, Global};
+use values::language_names::MethodName;
+use values::{Refusal, Value};
 
 /// What the method with a name gives for a receiver and arguments.
 ///

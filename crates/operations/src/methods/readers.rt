@@ -1,11 +1,11 @@
 //! What the arguments of a call are, where they have the count and the types that it asks for; else `Refusal::Arguments`.
 
 ghost use Rattle.std.specs.Prelude.{◌≡◌, MatchResult, Ok, Err, Some, None, option_map, map};
-ghost use Rattle.data.specs.Prelude.{data_of};
+ghost use Rattle.values.specs.Prelude.{data_of};
 ghost use Rattle.operations.specs.methods.Arguments.{no_arguments, one_argument, key_and_fallback, text_argument, integer_argument};
 ghost use Rattle.operations.specs.methods.Arguments.{one_text, two_texts, bounds};
 
-use data::{Refusal, Text, Value};
+use values::{Refusal, Text, Value};
 
 /// That there are none.
 pub fn none(arguments: &[Value]) -> Result<(), Refusal>

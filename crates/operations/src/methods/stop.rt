@@ -2,13 +2,16 @@
 
 ghost use Rattle.std.specs.Prelude.{◌≡◌, alloc_error};
 
-use data::Refusal;
 use std::alloc::{AllocError, AllocFailed};
+use thiserror::Error;
+use values::Refusal;
 
 /// Why a call gives no value.
-#[derive(Drop)]
+#[derive(Debug, Drop, Error)]
 pub enum Stop {
+    #[error(transparent)]
     Refused(Refusal),
+    #[error("out of memory")]
     Memory(AllocError),
 }
 

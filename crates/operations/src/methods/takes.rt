@@ -1,10 +1,10 @@
 //! What each method takes, in words, and of which values.
 ghost use Rattle.std.specs.Prelude.{◌≡◌};
-ghost use Rattle.data.specs.Prelude.{data_of};
+ghost use Rattle.values.specs.Prelude.{data_of};
 ghost use Rattle.operations.specs.methods.Takes.{boolean_takes, dictionary_takes, integer_takes, list_takes, takes_words, text_takes};
 
-use data::Value;
-use data::language_names::{
+use values::Value;
+use values::language_names::{
     BooleanMethod, DictionaryMethod, IntegerMethod, ListMethod, MethodName, TextMethod,
 };
 

@@ -1,8 +1,8 @@
 //! The methods of texts: the type `str` of the page "Reference manual".
 
 ghost use Rattle.std.specs.Prelude.{[], ◌∷◌, map, string_bytes};
-ghost use Rattle.data.specs.Data.{text as text_data};
-ghost use Rattle.data.specs.Prelude.{data_of, within};
+ghost use Rattle.values.specs.Data.{text as text_data};
+ghost use Rattle.values.specs.Prelude.{data_of, within};
 ghost use Rattle.operations.specs.methods.Steps.{Gives};
 ghost use Rattle.operations.specs.operators.TextLists.{text_list};
 ghost use Rattle.operations.specs.methods.TextMethods.{answer, contains, starts_with, ends_with, format, join, replace, split};
@@ -14,9 +14,9 @@ use crate::methods::formatted::format_text;
 use crate::methods::readers::{bounds, none, one_text, two_texts};
 use crate::methods::stop::Stop;
 use crate::operators::text_list;
-use data::language_names::{MethodName, TextMethod};
-use data::{Refusal, Text, Value};
 use std::alloc::Global;
+use values::language_names::{MethodName, TextMethod};
+use values::{Refusal, Text, Value};
 
 /// What the method with a name gives for a text.
 pub fn text_method(
@@ -51,21 +51,21 @@ fn contains(text: &str, arguments: &[Value]) -> Result<Value, Stop>
     ensures { Gives (contains text.now (map data_of arguments.now)) result }
 {
     let part = one_text(arguments)?;
-    Ok(Value::Boolean(data::texts::contains(text, part.as_str())))
+    Ok(Value::Boolean(values::texts::contains(text, part.as_str())))
 }
 
 fn starts_with(text: &str, arguments: &[Value]) -> Result<Value, Stop>
     ensures { Gives (starts_with text.now (map data_of arguments.now)) result }
 {
     let part = one_text(arguments)?;
-    Ok(Value::Boolean(data::texts::starts_with(text, part.as_str())))
+    Ok(Value::Boolean(values::texts::starts_with(text, part.as_str())))
 }
 
 fn ends_with(text: &str, arguments: &[Value]) -> Result<Value, Stop>
     ensures { Gives (ends_with text.now (map data_of arguments.now)) result }
 {
     let part = one_text(arguments)?;
-    Ok(Value::Boolean(data::texts::ends_with(text, part.as_str())))
+    Ok(Value::Boolean(values::texts::ends_with(text, part.as_str())))
 }
 
 fn format(alloc: Global, text: &str, arguments: &[Value]) -> Result<Value, Stop>
@@ -79,7 +79,7 @@ fn join(alloc: Global, text: &str, arguments: &[Value]) -> Result<Value, Stop>
     ensures { Gives (join text.now (map data_of arguments.now)) result }
 {
     let pieces = flat_texts(alloc, arguments)??;
-    let joined = data::texts::join(alloc, text, &pieces)??;
+    let joined = values::texts::join(alloc, text, &pieces)??;
     value_of_text(joined)
 }
 
@@ -87,7 +87,7 @@ fn replace(alloc: Global, text: &str, arguments: &[Value]) -> Result<Value, Stop
     ensures { Gives (replace text.now (map data_of arguments.now)) result }
 {
     let (old, new) = two_texts(arguments)?;
-    let replaced = data::texts::replace(alloc, text, old.as_str(), new.as_str())??;
+    let replaced = values::texts::replace(alloc, text, old.as_str(), new.as_str())??;
     value_of_text(replaced)
 }
 
@@ -103,14 +103,14 @@ fn split(alloc: Global, text: &str, arguments: &[Value]) -> Result<Value, Stop>
 fn split_blank(alloc: Global, text: &str) -> Result<Value, Stop>
     ensures { Gives (split text.now []) result }
 {
-    let words = data::texts::split_blank(alloc, text)??;
+    let words = values::texts::split_blank(alloc, text)??;
     value_of_list(alloc, &words)
 }
 
 fn split_at(alloc: Global, text: &str, separator: &Text) -> Result<Value, Stop>
     ensures { Gives (split text.now (text_data separator.now ∷ [])) result }
 {
-    let parts = data::texts::split_at(alloc, text, separator.as_str())??;
+    let parts = values::texts::split_at(alloc, text, separator.as_str())??;
     value_of_list(alloc, &parts)
 }
 
@@ -118,7 +118,7 @@ fn split_lines(alloc: Global, text: &str, arguments: &[Value]) -> Result<Value, 
     ensures { Gives (split_lines text.now (map data_of arguments.now)) result }
 {
     none(arguments)?;
-    let lines = data::texts::split_lines(alloc, text)??;
+    let lines = values::texts::split_lines(alloc, text)??;
     value_of_list(alloc, &lines)
 }
 
@@ -126,24 +126,24 @@ fn strip(alloc: Global, text: &str, arguments: &[Value]) -> Result<Value, Stop>
     ensures { Gives (strip text.now (map data_of arguments.now)) result }
 {
     if arguments.is_empty() {
-        return value_of_slice(alloc, data::texts::strip(text));
+        return value_of_slice(alloc, values::texts::strip(text));
     }
     let set = one_text(arguments)?;
-    value_of_slice(alloc, data::texts::strip_of(alloc, text, set.as_str())?)
+    value_of_slice(alloc, values::texts::strip_of(alloc, text, set.as_str())?)
 }
 
 fn substring(alloc: Global, text: &str, arguments: &[Value]) -> Result<Value, Stop>
     ensures { Gives (substring text.now (map data_of arguments.now)) result }
 {
     let (from, to) = bounds(arguments)?;
-    value_of_slice(alloc, data::texts::substring(text, from, to))
+    value_of_slice(alloc, values::texts::substring(text, from, to))
 }
 
 fn to_int(text: &str, arguments: &[Value]) -> Result<Value, Stop>
     ensures { Gives (to_int text.now (map data_of arguments.now)) result }
 {
     none(arguments)?;
-    let integer = data::texts::to_int(text)?;
+    let integer = values::texts::to_int(text)?;
     Ok(Value::Integer(integer))
 }
 
@@ -151,28 +151,28 @@ fn to_lower(alloc: Global, text: &str, arguments: &[Value]) -> Result<Value, Sto
     ensures { Gives (to_lower text.now (map data_of arguments.now)) result }
 {
     none(arguments)?;
-    value_of(alloc, data::texts::to_lower(alloc, text)?)
+    value_of(alloc, values::texts::to_lower(alloc, text)?)
 }
 
 fn to_upper(alloc: Global, text: &str, arguments: &[Value]) -> Result<Value, Stop>
     ensures { Gives (to_upper text.now (map data_of arguments.now)) result }
 {
     none(arguments)?;
-    value_of(alloc, data::texts::to_upper(alloc, text)?)
+    value_of(alloc, values::texts::to_upper(alloc, text)?)
 }
 
 fn underscorify(alloc: Global, text: &str, arguments: &[Value]) -> Result<Value, Stop>
     ensures { Gives (underscorify text.now (map data_of arguments.now)) result }
 {
     none(arguments)?;
-    value_of(alloc, data::texts::underscorify(alloc, text)?)
+    value_of(alloc, values::texts::underscorify(alloc, text)?)
 }
 
 fn version_compare(text: &str, arguments: &[Value]) -> Result<Value, Stop>
     ensures { Gives (version_compare text.now (map data_of arguments.now)) result }
 {
     let condition = one_text(arguments)?;
-    Ok(Value::Boolean(data::texts::version_compare(text, condition.as_str())))
+    Ok(Value::Boolean(values::texts::version_compare(text, condition.as_str())))
 }
 
 fn value_of_text(text: Text) -> Result<Value, Stop>

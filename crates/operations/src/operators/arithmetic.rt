@@ -1,15 +1,15 @@
 //! Operators of integers.
 
 ghost use Rattle.std.specs.Prelude.{◌≡◌, ◌-ℤ◌, ◌*ℤ◌, IfSome, option_map};
-ghost use Rattle.data.specs.Data.{integer as integer_data};
-ghost use Rattle.data.specs.Prelude.{Answers, data_of};
-ghost use Rattle.data.specs.declared.refusal.Refusal.TheVariants as refusal;
+ghost use Rattle.values.specs.Data.{integer as integer_data};
+ghost use Rattle.values.specs.Prelude.{Answers, data_of};
+ghost use Rattle.values.specs.declared.refusal.Refusal.TheVariants as refusal;
 ghost use Rattle.operations.specs.operators.Integers.{IsRest, quotient, remainder};
 ghost use Rattle.operations.specs.operators.Operations.{answer, binary_outcome, unary_outcome};
 ghost use Rattle.operations.specs.declared.operators.operator.Unary.TheVariants.{Negate};
 
 use crate::operators::operator::Binary;
-use data::{Refusal, Value};
+use values::{Refusal, Value};
 
 // The value of a result that is in range.
 fn integer(result_in_range: Option<i128>) -> Result<Value, Refusal>

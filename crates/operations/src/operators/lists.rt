@@ -1,12 +1,12 @@
 //! Sums of lists and of dictionaries. What nobody else holds is changed in place.
 
 ghost use Rattle.std.specs.Prelude.{IfOk};
-ghost use Rattle.data.specs.Data.{list as list_data, dictionary as dictionary_data, items_append, item, no_items, merged};
-ghost use Rattle.data.specs.Prelude.{Answers, data_of, within};
+ghost use Rattle.values.specs.Data.{list as list_data, dictionary as dictionary_data, items_append, item, no_items, merged};
+ghost use Rattle.values.specs.Prelude.{Answers, data_of, within};
 
-use data::{Dictionary, DictionaryBuilder, List, Refusal, Value};
 use std::alloc::{AllocError, Global};
 use std::rc::Rc;
+use values::{Dictionary, DictionaryBuilder, List, Refusal, Value};
 
 /// The items of one list and then those of another.
 pub fn append_all(

@@ -1,21 +1,24 @@
 //! Literals of lists and dictionaries, and lists of texts.
 
 ghost use Rattle.std.specs.Prelude.{◌≡◌, ◌+◌, ◌<◌, ◌≤◌, ◌^◌, IfOk, MatchResult, Ok, Err, map};
-ghost use Rattle.data.specs.Data.{no_entries, no_items, list as list_data};
-ghost use Rattle.data.specs.Prelude.{Answers, data_of, items_of, within};
-ghost use Rattle.data.specs.Weight.{entries_weight};
+ghost use Rattle.values.specs.Data.{no_entries, no_items, list as list_data};
+ghost use Rattle.values.specs.Prelude.{Answers, data_of, items_of, within};
+ghost use Rattle.values.specs.Weight.{entries_weight};
 ghost use Rattle.operations.specs.operators.TextLists.{PutsText, items_in, text_list, texts_behind};
 ghost use Rattle.operations.specs.operators.Literal.{with_entry, with_entries, literal_answer, pairs_of, Makes};
 
-use data::{Content, DictionaryBuilder, List, Refusal, Text, Value};
 use std::alloc::{AllocError, Global};
+use thiserror::Error;
+use values::{Content, DictionaryBuilder, List, Refusal, Text, Value};
 
 /// Why keys and values make no dictionary.
-#[derive(Drop)]
+#[derive(Debug, Drop, Error)]
 pub enum LiteralRefusal {
-    /// This key stands before it already.
+    /// E11: an earlier entry has this key.
+    #[error("{}: key '{}'", Refusal::Duplicate, .0.as_str())]
     Twice(Text),
     /// A key is no text, or the dictionary is past a limit.
+    #[error(transparent)]
     Refused(Refusal),
 }
 

@@ -1,12 +1,12 @@
 //! `and`, `or` and `not`.
 
-ghost use Rattle.data.specs.Prelude.{Answers, data_of};
+ghost use Rattle.values.specs.Prelude.{Answers, data_of};
 ghost use Rattle.operations.specs.operators.Operations.{unary_outcome};
 ghost use Rattle.operations.specs.operators.Logic.{LeftAnswers, right_answer};
 ghost use Rattle.operations.specs.declared.operators.operator.Unary.TheVariants.{Not};
 
 use crate::operators::operator::Connective;
-use data::{Refusal, Value};
+use values::{Refusal, Value};
 
 /// What the left side of `and` or `or` says.
 #[derive(Drop)]

@@ -1,11 +1,11 @@
 //! What is in a list, a dictionary or a text.
 
 ghost use Rattle.std.specs.Prelude.{◌≡◌, not, option_map};
-ghost use Rattle.data.specs.Prelude.{data_of};
+ghost use Rattle.values.specs.Prelude.{data_of};
 ghost use Rattle.operations.specs.operators.Rows.{is_item, membership as membership_row};
 
-use data::texts::contains;
-use data::{List, Value, is_equal};
+use values::texts::contains;
+use values::{List, Value, is_equal};
 
 /// Whether a value is an item of a list, a text a key of a dictionary, a text in another.
 pub fn membership(value: &Value, whole: &Value) -> Option<bool>

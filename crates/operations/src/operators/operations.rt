@@ -1,9 +1,9 @@
 //! The operators, by the types of their operands.
 
 ghost use Rattle.std.specs.Prelude.{◌≡◌, ◌≢◌, IfOk, false, option_map};
-ghost use Rattle.data.specs.Data.{boolean as boolean_data};
-ghost use Rattle.data.specs.declared.refusal.Refusal.TheVariants as refusal;
-ghost use Rattle.data.specs.Prelude.{Answers, data_of};
+ghost use Rattle.values.specs.Data.{boolean as boolean_data};
+ghost use Rattle.values.specs.declared.refusal.Refusal.TheVariants as refusal;
+ghost use Rattle.values.specs.Prelude.{Answers, data_of};
 ghost use Rattle.operations.specs.operators.Operations.{answer, are_integers, binary_outcome, unary_answer, binary_answer};
 ghost use Rattle.operations.specs.declared.operators.operator.Binary.TheVariants.{Add, Divide};
 
@@ -14,9 +14,9 @@ use crate::operators::membership::{absence, membership};
 use crate::operators::operator::{Binary, Unary};
 use crate::operators::relations::{equality, inequality, order};
 use crate::operators::text_sums::{concatenate, path_text};
-use data::{Content, Refusal, Value};
 use std::alloc::{AllocError, Global};
 use std::cmp::Ordering;
+use values::{Content, Refusal, Value};
 
 /// What an operator gives for one operand, or E6 for a wrong type and E7 for an integer out of range.
 pub fn unary(operator: Unary, operand: Value) -> Result<Value, Refusal>

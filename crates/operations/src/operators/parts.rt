@@ -2,12 +2,12 @@
 
 ghost use Rattle.std.specs.Prelude.{◌≡◌, IfOk, length, option_map, ok_or, slice_get};
 ghost use Rattle.std.specs.Str.{chars};
-ghost use Rattle.data.specs.declared.refusal.Refusal.TheVariants as refusal;
-ghost use Rattle.data.specs.Prelude.{Answers, data_of};
+ghost use Rattle.values.specs.declared.refusal.Refusal.TheVariants as refusal;
+ghost use Rattle.values.specs.Prelude.{Answers, data_of};
 ghost use Rattle.operations.specs.operators.Index.{place, indexed_item, indexed_char, index_answer, char_text, output_outcome};
 
-use data::{List, Object, Refusal, Value};
 use std::alloc::{AllocError, Global};
+use values::{List, Object, Refusal, Value};
 
 /// `whole[index]`: an item of a list, a character of a text as a text, the value at a key of a dictionary, or an
 /// output of a custom target. Negative integers count from the end.

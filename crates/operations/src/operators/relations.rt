@@ -1,13 +1,13 @@
 //! Equality and order.
 
 ghost use Rattle.std.specs.Prelude.{◌≡◌, false, not, option_map};
-ghost use Rattle.data.specs.Prelude.{data_of};
+ghost use Rattle.values.specs.Prelude.{data_of};
 ghost use Rattle.operations.specs.operators.Operations.{are_integers};
 ghost use Rattle.operations.specs.operators.Types.{is_one_kind, is_one_type};
 ghost use Rattle.operations.specs.operators.Rows.{equality as equality_row, order as order_row};
 
-use data::{Object, Value, is_equal};
 use std::cmp::Ordering;
+use values::{Object, Value, is_equal};
 
 /// Whether two values of one type are equal by structure.
 pub fn equality(left: &Value, right: &Value) -> Option<bool>

@@ -1,14 +1,14 @@
 //! Sums of texts, and paths.
 
 ghost use Rattle.std.specs.Prelude.{◌≡◌, ◌++◌, IfOk};
-ghost use Rattle.data.specs.Data.{text as text_data};
-ghost use Rattle.data.specs.Prelude.{Answers, within, within_bytes};
-ghost use Rattle.paths.specs.Below.{path_below};
+ghost use Rattle.values.specs.Data.{text as text_data};
+ghost use Rattle.values.specs.Prelude.{Answers, within, within_bytes};
+ghost use Rattle.support.specs.paths.Below.{path_below};
 
-use data::texts::join;
-use data::{Refusal, Text, Value};
-use paths::before_path;
 use std::alloc::{AllocError, Global};
+use support::paths::before_path;
+use values::texts::join;
+use values::{Refusal, Text, Value};
 
 /// One text and then another. It grows in place where nobody else holds it.
 pub fn concatenate(

@@ -1,8 +1,8 @@
 -- What a call of `option` declares.
 use Rattle.std.specs.Prelude.{ℕ, Bool, false, not, ◌||◌, ◌&&◌, List, [], ◌∷◌, ◌++◌, Option, Some, None, Result, Ok, Err, if◌then◌else◌}
 use Rattle.std.specs.Option.{option_map, option_and_then}
-use Rattle.grammar.specs.ExpressionTree.{ArgumentTree, ArgumentTrees, NoArgument, MoreArguments, arguments}
-use Rattle.basics.specs.Among.{is_among}
+use Rattle.syntax.specs.ExpressionTree.{ArgumentTree, ArgumentTrees, NoArgument, MoreArguments, arguments}
+use Rattle.support.specs.Among.{is_among}
 use Rattle.machine.specs.option_values.BuiltIns.{is_built_in}
 use Rattle.options.specs.declared.option_file.keyword.Keyword.{Keyword}
 use Rattle.options.specs.option_file.Declarations.{Declaration}

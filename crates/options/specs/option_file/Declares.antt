@@ -1,7 +1,7 @@
 -- What an option file declares, statement by statement.
 use Rattle.std.specs.Prelude.{ℕ, List, [], ◌∷◌, ◌++◌, Result, Ok, Err, codes, bytes_eq, if◌then◌else◌}
-use Rattle.grammar.specs.ExpressionTree.{ExpressionTree, FunctionTree, ArgumentTrees}
-use Rattle.grammar.specs.Tree.{StatementTree, AssignTree, AppendTree, ValueTree, BreakTree, ContinueTree, IfTree, ForeachTree, FileTree}
+use Rattle.syntax.specs.ExpressionTree.{ExpressionTree, FunctionTree, ArgumentTrees}
+use Rattle.syntax.specs.Tree.{StatementTree, AssignTree, AppendTree, ValueTree, BreakTree, ContinueTree, IfTree, ForeachTree, FileTree}
 use Rattle.options.specs.option_file.Fault.{DeclareFaultData}
 use Rattle.options.specs.option_file.Misfits.{RefusedData, Again, NoCall, refused_as}
 use Rattle.options.specs.option_file.Calls.{call_declares}

@@ -1,7 +1,7 @@
 -- A fault of an option file, as a run tells it.
 use Rattle.std.specs.Prelude.{ℕ, List}
-use Rattle.basics.specs.Faults.{FaultData}
-use Rattle.basics.specs.declared.faults.refusal.Refusal.{Refusal}
+use Rattle.support.specs.Faults.{FaultData}
+use Rattle.support.specs.declared.faults.refusal.Refusal.{Refusal}
 
 -- what is refused in a line, and what that is about
 pub record DeclareFaultData : Type 0 where

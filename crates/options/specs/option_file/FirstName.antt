@@ -1,6 +1,6 @@
 -- The name that an option is given.
 use Rattle.std.specs.Prelude.{ℕ, List, Option, Some, None}
-use Rattle.grammar.specs.ExpressionTree.{ArgumentTree}
+use Rattle.syntax.specs.ExpressionTree.{ArgumentTree}
 use Rattle.options.specs.option_file.Calls.{name_in}
 use Rattle.options.specs.option_file.Given.{given}
 use Rattle.options.specs.option_file.Misfits.{RefusedData, Nameless, refused_as}

@@ -1,13 +1,13 @@
 -- What an argument of a call of `option` gives, as it is written.
 use Rattle.std.specs.Prelude.{ℕ, ℤ, Bool, true, false, List, [], ◌∷◌, Option, Some, None}
 use Rattle.std.specs.Option.{option_map, option_and_then}
-use Rattle.lexer.specs.declared.token.Kind.TheVariants as Kinds
-use Rattle.lexer.specs.Texts.{text_of}
-use Rattle.grammar.specs.declared.tree.Literal.{Literal}
-use Rattle.grammar.specs.declared.tree.Literal.TheVariants as literals
-use Rattle.grammar.specs.declared.tree.Prefix.{Prefix}
-use Rattle.grammar.specs.declared.tree.Prefix.TheVariants as prefixes
-use Rattle.grammar.specs.ExpressionTree.{ExpressionTree, LiteralTree, ListTree, PrefixTree, ExpressionTrees, NoExpression, MoreExpressions}
+use Rattle.syntax.specs.declared.lexer.token.Kind.TheVariants as Kinds
+use Rattle.syntax.specs.lexer.Texts.{text_of}
+use Rattle.syntax.specs.declared.tree.Literal.{Literal}
+use Rattle.syntax.specs.declared.tree.Literal.TheVariants as literals
+use Rattle.syntax.specs.declared.tree.Prefix.{Prefix}
+use Rattle.syntax.specs.declared.tree.Prefix.TheVariants as prefixes
+use Rattle.syntax.specs.ExpressionTree.{ExpressionTree, LiteralTree, ListTree, PrefixTree, ExpressionTrees, NoExpression, MoreExpressions}
 use Rattle.options.specs.option_file.Numbers.{number_of}
 
 -- Texts are bytes. `Other` is what no option takes: a number that 64 bits do not hold, or a list of other things than texts.

@@ -9,7 +9,7 @@ use Rattle.machine.specs.declared.option_values.kind.OptionType.{OptionType}
 use Rattle.machine.specs.declared.option_values.kind.OptionType.TheVariants as types
 use Rattle.machine.specs.option_values.Types.{type_named}
 use Rattle.options.specs.option_file.Given.{Given, Text, Integer, Texts}
-use Rattle.basics.specs.Among.{is_among}
+use Rattle.support.specs.Among.{is_among}
 
 -- what the keywords up to some place give; a type, choices and bounds are what they have to be
 pub record Keywords : Type 0 where

@@ -1,7 +1,7 @@
 -- The names of options.
 use Rattle.std.specs.Prelude.{ℕ, Bool, ◌||◌, ◌&&◌, List, length, nat_lt, ◌==◌}
 use Rattle.std.specs.List.{list_all}
-use Rattle.lexer.specs.Bytes.{continues_word, minus}
+use Rattle.syntax.specs.lexer.Bytes.{continues_word, minus}
 
 -- a letter, a digit, an underscore or a minus
 abbrev pub in_name : ℕ → Bool

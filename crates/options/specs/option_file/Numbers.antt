@@ -1,6 +1,6 @@
 -- Which numbers an option file may hold.
 use Rattle.std.specs.Prelude.{ℕ, ℤ, ◌^◌, Bool, List, Option, Some, None, nat_lt, if◌then◌else◌}
-use Rattle.lexer.specs.Numerals.{magnitude}
+use Rattle.syntax.specs.lexer.Numerals.{magnitude}
 use Rattle.machine.specs.machine_file.Numbers.{integer_of}
 
 -- the least number that is out of the range of the language's integers

@@ -1,6 +1,6 @@
 -- Why a call of `option` declares none: the first thing that is wrong with its arguments, in their order.
 use Rattle.std.specs.Prelude.{ℕ, Bool, not, List, [], ◌∷◌, Option, Some, None, codes, is_some, if◌then◌else◌}
-use Rattle.grammar.specs.ExpressionTree.{ArgumentTree, ArgumentTrees, MoreArguments, NoArgument}
+use Rattle.syntax.specs.ExpressionTree.{ArgumentTree, ArgumentTrees, MoreArguments, NoArgument}
 use Rattle.machine.specs.option_values.BuiltIns.{is_built_in}
 use Rattle.machine.specs.declared.option_values.kind.OptionType.{OptionType}
 use Rattle.machine.specs.declared.option_values.kind.OptionType.TheVariants as types

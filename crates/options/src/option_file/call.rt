@@ -3,8 +3,8 @@
 ghost use Rattle.std.specs.Prelude.{◌≡◌, ◌++◌, [], ◌∷◌, IfOk, IsTrue, false, map, not, string_bytes};
 ghost use Rattle.std.specs.List.{list_any};
 ghost use Rattle.std.specs.Option.{option_and_then, option_map};
-ghost use Rattle.grammar.specs.ExpressionTree.{argument_of, argument_trees};
-ghost use Rattle.basics.specs.Among.{is_among};
+ghost use Rattle.syntax.specs.ExpressionTree.{argument_of, argument_trees};
+ghost use Rattle.support.specs.Among.{is_among};
 ghost use Rattle.machine.specs.option_values.View.{strings_in};
 ghost use Rattle.options.specs.option_file.Calls.{stands_key, with_key, gives_twice, is_left_out_key, is_free_name, name_in, with_argument};
 ghost use Rattle.options.specs.option_file.Calls.{first_left_out, first_twice, key_said, keywords_from, option_of, call_declares};
@@ -21,10 +21,10 @@ use crate::option_file::keyword::{Keyword, Keywords, is_left_out};
 use crate::option_file::misfit::{Misfit, Refused};
 use crate::option_file::names::is_name;
 use crate::option_file::unfit::unfit;
-use basics::tables::{SipSet, new_set};
-use grammar::tree::Argument;
 use machine::option_values::{OptionKind, is_built_in};
 use std::alloc::{AllocError, Global};
+use support::tables::{SipSet, new_set};
+use syntax::tree::Argument;
 
 // Puts a key behind the others; false where it stands among them.
 fn put_new(keys: &mut SipSet<String>, key: String) -> Result<bool, AllocError>

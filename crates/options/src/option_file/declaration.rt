@@ -5,9 +5,9 @@ ghost use Rattle.std.specs.Option.{option_map};
 ghost use Rattle.options.specs.option_file.Entries.{entries_in};
 ghost use Rattle.options.specs.option_file.Lookups.{are_new};
 
-use basics::tables::{SipMap, new_map};
 use machine::option_values::OptionKind;
 use std::alloc::{AllocError, Global};
+use support::tables::{SipMap, new_map};
 
 /// What an argument gives, as it is written. Of `value:` only its form is known: whether it is a value of the option is found
 /// when the options are resolved.

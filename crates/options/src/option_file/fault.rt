@@ -1,16 +1,18 @@
 //! Why a file is no option file.
 
 ghost use Rattle.std.specs.Prelude.{◌≡◌, IfOk};
-ghost use Rattle.basics.specs.View.{fault_view};
+ghost use Rattle.support.specs.View.{fault_view};
 ghost use Rattle.options.specs.option_file.Fault.{told_in};
 ghost use Rattle.options.specs.option_file.FaultView.{fault_in};
 
-use basics::faults::{Fault, Refusal};
 use std::alloc::{AllocError, Global};
+use support::faults::{Fault, Refusal};
+use thiserror::Error;
 
 /// What is wrong with an option file, and the line, from 1, of the statement: E15, where it declares no option, or E23, where it
 /// has a keyword that is left out.
-#[derive(Drop)]
+#[derive(Debug, Drop, Error)]
+#[error("line {line}: {refusal}{}{detail}", if .detail.is_empty() {""} else {": "})]
 pub struct DeclareFault {
     pub refusal: Refusal,
     pub line: usize,

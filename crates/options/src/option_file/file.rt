@@ -1,8 +1,8 @@
 //! Reads an option file, statement by statement.
 
 ghost use Rattle.std.specs.Prelude.{◌≡◌, IfOk};
-ghost use Rattle.grammar.specs.ExpressionTree.{argument_trees, expression_of};
-ghost use Rattle.grammar.specs.Tree.{file_of, statement_of};
+ghost use Rattle.syntax.specs.ExpressionTree.{argument_trees, expression_of};
+ghost use Rattle.syntax.specs.Tree.{file_of, statement_of};
 ghost use Rattle.options.specs.option_file.Declares.{line_of, function_declares, expression_declares, statement_declares, after};
 ghost use Rattle.options.specs.option_file.Declares.{file_declares};
 ghost use Rattle.options.specs.option_file.View.{call_in, after_in, options_in, declared_in};
@@ -11,8 +11,8 @@ use crate::option_file::call::call_declares;
 use crate::option_file::declaration::{Declaration, Declared};
 use crate::option_file::fault::DeclareFault;
 use crate::option_file::misfit::{Misfit, Refused};
-use grammar::tree::{Argument, Expression, File, Statement};
 use std::alloc::{AllocError, Global};
+use syntax::tree::{Argument, Expression, File, Statement};
 
 fn line_of(statement: &Statement<'_>) -> usize
     ensures { result ≡ line_of (statement_of statement.now) }

@@ -2,8 +2,8 @@
 
 ghost use Rattle.std.specs.Prelude.{◌≡◌, IfOk, map};
 ghost use Rattle.std.specs.Option.{option_map};
-ghost use Rattle.grammar.specs.ExpressionTree.{expression_of, expressions};
-ghost use Rattle.lexer.specs.Texts.{text_of};
+ghost use Rattle.syntax.specs.ExpressionTree.{expression_of, expressions};
+ghost use Rattle.syntax.specs.lexer.Texts.{text_of};
 ghost use Rattle.options.specs.option_file.Given.{Text as TextSaid, literal_given, negative_literal, negative_given, prefix_given};
 ghost use Rattle.options.specs.option_file.Given.{item_given};
 ghost use Rattle.options.specs.option_file.Given.{items_given, list_given, given};
@@ -11,10 +11,10 @@ ghost use Rattle.options.specs.option_file.View.{given_in};
 
 use crate::option_file::declaration::Given;
 use crate::option_file::number::numeral;
-use grammar::tree::{Expression, Literal, Prefix};
-use lexer::text_of_slice;
-use lexer::token::Kind;
 use std::alloc::{AllocError, Global};
+use syntax::lexer::text_of_slice;
+use syntax::lexer::token::Kind;
+use syntax::tree::{Expression, Literal, Prefix};
 
 // The text of a string of this kind.
 fn text(alloc: Global, kind: Kind, slice: &str) -> Result<Option<Given>, AllocError>

@@ -10,9 +10,9 @@ ghost use Rattle.options.specs.option_file.View.{given_in};
 ghost use Rattle.machine.specs.option_values.View.{kind_in, texts_of};
 
 use crate::option_file::declaration::Given;
-use basics::text_lists::is_among;
 use machine::option_values::{Choices, OptionKind, OptionType};
 use std::alloc::{AllocError, Global};
+use support::text_lists::is_among;
 
 /// A keyword of `option`, by what it gives.
 #[derive(Clone, Copy)]

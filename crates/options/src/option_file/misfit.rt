@@ -4,8 +4,8 @@ ghost use Rattle.std.specs.Prelude.{◌≡◌, IfOk, string_bytes};
 ghost use Rattle.options.specs.option_file.MisfitView.{misfit_in, refused_in};
 ghost use Rattle.options.specs.option_file.Misfits.{Again, keyword_is, refusal_of, refused_as, text_is, words_of};
 
-use basics::faults::Refusal;
 use std::alloc::{AllocError, Global};
+use support::faults::Refusal;
 
 /// What a statement has that declares no option.
 #[derive(Clone, Copy)]

@@ -7,8 +7,8 @@ ghost use Rattle.options.specs.option_file.Given.{integer, numeral};
 ghost use Rattle.options.specs.option_file.View.{given_in};
 
 use crate::option_file::declaration::Given;
-use lexer::magnitude;
 use machine::machine_file::integer_of;
+use syntax::lexer::magnitude;
 
 /// The least number that is out of the range of the language's integers.
 const PAST_INTEGERS: u128 = 1 << 127;

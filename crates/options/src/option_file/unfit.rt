@@ -2,7 +2,7 @@
 
 ghost use Rattle.std.specs.Prelude.{◌≡◌, IfOk, map};
 ghost use Rattle.std.specs.Option.{option_map};
-ghost use Rattle.grammar.specs.ExpressionTree.{argument_of};
+ghost use Rattle.syntax.specs.ExpressionTree.{argument_of};
 ghost use Rattle.options.specs.option_file.Calls.{keywords_from, others_unfit, unfit};
 ghost use Rattle.options.specs.option_file.MisfitView.{misfit_in, refused_in};
 ghost use Rattle.options.specs.option_file.FirstName.{first_argument_refused};
@@ -17,9 +17,9 @@ use crate::option_file::given::read_given;
 use crate::option_file::keyword::{Keyword, Keywords, read_bound, type_in};
 use crate::option_file::misfit::{Misfit, Refused};
 use crate::option_file::names::is_name;
-use grammar::tree::Argument;
 use machine::option_values::{OptionType, is_built_in};
 use std::alloc::{AllocError, Global};
+use syntax::tree::Argument;
 
 fn unless(alloc: Global, is_so: bool, misfit: Misfit<'_>) -> Result<Option<Refused>, AllocError>
     ensures { IfOk result (λ r. option_map refused_in r ≡ unless is_so (misfit_in misfit.entry)) }

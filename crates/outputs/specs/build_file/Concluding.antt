@@ -2,8 +2,8 @@
 use Rattle.std.specs.Prelude.{◌≡◌, ℕ, Bool, true, false, IsTrue, List, ◌++◌, Result, Ok, Err}
 use Rattle.ports.specs.Outputs.{OutputState, Step, Sends, faults}
 use Rattle.ports.specs.declared.fault.DeviceFault.{DeviceFault}
-use Rattle.basics.specs.Faults.{FaultData, fault_line}
-use Rattle.project.specs.World.{WorldData}
+use Rattle.support.specs.Faults.{FaultData, fault_line}
+use Rattle.build.specs.project.World.{WorldData}
 use Rattle.outputs.specs.build_file.BuildFile.{build_steps}
 use Rattle.outputs.specs.declared.build_file.stop.WriteStop.{WriteStop}
 use Rattle.outputs.specs.declared.build_file.stop.WriteStop.TheVariants as stops

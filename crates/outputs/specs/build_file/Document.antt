@@ -1,8 +1,8 @@
 -- The output in which the introspection document stands.
 use Rattle.std.specs.Prelude.{List, ◌++◌, codes}
 use Rattle.ports.specs.Outputs.{Step, opening, closing, puts}
-use Rattle.project.specs.World.{WorldData}
-use Rattle.outputs.specs.introspection.Document.{document_text}
+use Rattle.build.specs.project.World.{WorldData}
+use Rattle.introspection.specs.Document.{document_text}
 
 -- whole
 abbrev pub document_steps : WorldData → List Step

@@ -1,7 +1,7 @@
 -- The line of a fault, piece by piece.
 use Rattle.std.specs.Prelude.{ℕ, List, [], ◌++◌, Option, Some, None, codes, decimal}
 use Rattle.ports.specs.Outputs.{Step, faults}
-use Rattle.basics.specs.Faults.{FaultData, detail_sign, number_of, words_of}
+use Rattle.support.specs.Faults.{FaultData, detail_sign, number_of, words_of}
 
 abbrev pub behind_steps : Option (List ℕ) → List ℕ → List Step
 behind_steps None detail = []

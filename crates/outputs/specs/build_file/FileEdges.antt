@@ -1,8 +1,8 @@
 -- What holds of the edges of a Ninja file as they are read: what is made once, what is made before it is needed, what leads back to itself.
 use Rattle.std.specs.Prelude.{◌≡◌, ℕ, Bool, true, ◌&&◌, List, [], ◌∷◌, ◌++◌, slice_get, Option, Some, None}
-use Rattle.targets.specs.edge.Texts.{Path, holds}
-use Rattle.project.specs.Laws.{all_held}
-use Rattle.outputs.specs.ninja.Reading.{BuildEdge}
+use Rattle.build.specs.edge.Texts.{Path, holds}
+use Rattle.build.specs.project.Laws.{all_held}
+use Rattle.ninja.specs.Reading.{BuildEdge}
 
 -- ---- once
 

@@ -1,11 +1,12 @@
 -- What `build.ninja` of a project means.
 use Rattle.std.specs.Prelude.{◌≡◌, ℕ, true, List, ◌∷◌, ◌++◌, Some, codes}
-use Rattle.targets.specs.edge.Texts.{Path}
-use Rattle.outputs.specs.ninja.Reading.{BuildEdge, manifest_of}
-use Rattle.outputs.specs.ninja.Meaning.{file_seen, EachRunsWords}
-use Rattle.project.specs.Laws.{outputs_of, AtMostOnce, all_held}
-use Rattle.project.specs.World.{WorldData, edges_in, known_in}
-use Rattle.outputs.specs.build_file.BuildFile.{build_file, default_outputs}
+use Rattle.build.specs.edge.Texts.{Path}
+use Rattle.ninja.specs.Reading.{BuildEdge, manifest_of}
+use Rattle.ninja.specs.Meaning.{file_seen, EachRunsWords}
+use Rattle.build.specs.project.Laws.{outputs_of, AtMostOnce, all_held}
+use Rattle.build.specs.project.World.{WorldData, edges_in, known_in}
+use Rattle.outputs.specs.build_file.BuildFile.{build_file}
+use Rattle.ninja.specs.Defaults.{default_outputs}
 use Rattle.outputs.specs.build_file.FileEdges.{made_by_all, are_made, Reaches}
 
 -- the edges of the file as it is read, `all` the last of them

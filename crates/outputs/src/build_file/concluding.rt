@@ -2,7 +2,7 @@
 ghost use Rattle.std.specs.Prelude.{◌≡◌, ◌+◌};
 ghost use Rattle.ports.specs.Endings.{HasRoom};
 ghost use Rattle.ports.specs.Outputs.{Makes};
-ghost use Rattle.basics.specs.View.{fault_view};
+ghost use Rattle.support.specs.View.{fault_view};
 ghost use Rattle.outputs.specs.build_file.BuildFile.{ending_of};
 ghost use Rattle.outputs.specs.build_file.Means.{Means};
 ghost use Rattle.outputs.specs.build_file.Concluding.{Agrees, done_with, failed_devices, faulted_with, outputs_steps, status_of_fault};
@@ -13,10 +13,10 @@ use crate::build_file::fault::write_fault;
 use crate::build_file::law::meaning;
 use crate::build_file::stop::WriteStop;
 use crate::build_file::writing::write_build_file;
-use basics::faults::Fault;
+use build::project::Project;
 use ports::{DeviceFault, Outputs};
-use project::Project;
 use std::alloc::Global;
+use support::faults::Fault;
 
 /// How a run ended.
 #[derive(Clone, Copy, Debug, PartialEq, Eq)]

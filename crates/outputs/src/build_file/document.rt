@@ -5,9 +5,9 @@ ghost use Rattle.outputs.specs.build_file.BuildFile.{ending_of};
 ghost use Rattle.outputs.specs.build_file.Document.{document_steps};
 
 use crate::build_file::stop::WriteStop;
-use crate::introspection::document_text;
+use build::project::Project;
+use introspection::document_text;
 use ports::{Outputs, put_all};
-use project::Project;
 use std::alloc::Global;
 
 /// Writes `meson-info/introspect.json`: the introspection document of the project.

@@ -1,13 +1,13 @@
 //! The line that tells a fault.
 ghost use Rattle.ports.specs.Endings.{HasRoom, ended};
 ghost use Rattle.ports.specs.Outputs.{Writes, faults};
-ghost use Rattle.basics.specs.Faults.{fault_line};
-ghost use Rattle.basics.specs.View.{fault_view};
+ghost use Rattle.support.specs.Faults.{fault_line};
+ghost use Rattle.support.specs.View.{fault_view};
 ghost use Rattle.outputs.specs.build_file.FaultSteps.{detail_steps, line_steps, text_steps};
 
-use basics::faults::Fault;
 use itoa::Buffer;
 use ports::{DeviceFault, Outputs, fault_all};
+use support::faults::Fault;
 
 #[tactic(auto, using(ports::proofs::Sending::sending))]
 fn write_detail<O: Outputs>(fault: &Fault, out: &mut O) -> Result<(), DeviceFault>

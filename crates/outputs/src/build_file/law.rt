@@ -1,8 +1,8 @@
 //! What `build.ninja` means.
 ghost use Rattle.outputs.specs.build_file.Means.{Means};
 
-use crate::ninja::file_law;
-use project::{Project, edges_are_writable, needs_are_made, no_circle, outputs_differ};
+use build::project::{Project, edges_are_writable, needs_are_made, no_circle, outputs_differ};
+use ninja::file_law;
 
 /// The Ninja manual reads `build.ninja` as just the six rules, the project's edges, the edge `all` and the default `all`, and a shell
 /// reads each command as its edge's words and redirection. Of all these edges, `all` among them: no path is made twice, nor is

@@ -2,13 +2,16 @@ ghost use Rattle.std.specs.Prelude.{◌≡◌};
 
 use ports::DeviceFault;
 use std::alloc::AllocError;
+use thiserror::Error;
 
 /// Why a file was not written whole.
-#[derive(Clone, Copy)]
+#[derive(Clone, Copy, Debug, Error)]
 pub enum WriteStop {
     /// A device failed.
+    #[error("a device failed")]
     Device,
     /// No memory was left.
+    #[error("out of memory")]
     Memory,
 }
 

@@ -5,8 +5,8 @@ ghost use Rattle.world.specs.Configuring.{set_configured, set_quoted};
 
 use crate::caller::Caller;
 use crate::stop::Stop;
-use basics::faults::Refusal;
 use ports::{Outputs, Tree};
+use support::faults::Refusal;
 use template::{ConfigData, ConfigValue, SetStop};
 
 impl<'a, T: Tree, O: Outputs> Caller<'a, T, O> {

@@ -1,8 +1,8 @@
 //! What a function declares of the project.
 ghost use Rattle.std.specs.Prelude.{◌≡◌, Result};
-ghost use Rattle.targets.specs.edge.Texts.{texts};
-ghost use Rattle.project.specs.View.{answer_view, install_view, test_view};
-ghost use Rattle.targets.specs.View.{facts_view, target_view};
+ghost use Rattle.build.specs.edge.Texts.{texts};
+ghost use Rattle.build.specs.project.View.{answer_view, install_view, test_view};
+ghost use Rattle.build.specs.View.{facts_view, target_view};
 ghost use Rattle.world.specs.Answering.{Acts, IsAllowed};
 ghost use Rattle.world.specs.Declaring.{add_arguments, add_dependency, add_install, add_link_arguments, add_target, add_test};
 ghost use Rattle.world.specs.Deed.{begin_project};
@@ -12,22 +12,22 @@ ghost use Rattle.world.specs.Store.{world_of};
 
 use crate::caller::Caller;
 use crate::stop::Stop;
-use basics::faults::Refusal;
+use build::project::{Answer, Install, Refused, Test};
+use build::{Facts, Target};
 use ports::{Outputs, Tree};
-use project::{Answer, Install, Refused, Test};
-use targets::{Facts, Target};
+use support::faults::Refusal;
 
 /// The refusal that one of the project is.
-pub fn of_project(refusal: project::Refusal) -> Refusal
+pub fn of_project(refusal: build::project::Refusal) -> Refusal
     ensures { result ≡ of_project refusal }
 {
     match refusal {
-        project::Refusal::Arguments => Refusal::Arguments,
-        project::Refusal::Missing => Refusal::FileMissing,
-        project::Refusal::Unholdable => Refusal::NinjaName,
-        project::Refusal::Duplicate => Refusal::Duplicate,
-        project::Refusal::Limit => Refusal::Limit,
-        project::Refusal::Late => Refusal::LateArguments,
+        build::project::Refusal::Arguments => Refusal::Arguments,
+        build::project::Refusal::Missing => Refusal::FileMissing,
+        build::project::Refusal::Unholdable => Refusal::NinjaName,
+        build::project::Refusal::Duplicate => Refusal::Duplicate,
+        build::project::Refusal::Limit => Refusal::Limit,
+        build::project::Refusal::Late => Refusal::LateArguments,
     }
 }
 

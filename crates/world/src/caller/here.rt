@@ -4,9 +4,9 @@ ghost use Rattle.world.specs.Here.{here_of};
 ghost use Rattle.world.specs.HereView.{here_view};
 
 use crate::caller::Caller;
+use build::Linked;
 use ports::{Outputs, Tree};
 use std::alloc::Global;
-use targets::Linked;
 
 /// The roots, the present folder and the targets so far.
 #[derive(Clone, Copy)]
@@ -32,9 +32,9 @@ impl<'a, T: Tree, O: Outputs> Caller<'a, T, O> {
     {
         Here {
             alloc: self.alloc,
-            source_root: self.store.settings().source_root.as_str(),
-            build_root: self.store.settings().build_root.as_str(),
-            depth: self.store.settings().depth,
+            source_root: self.store.settings().source_root(),
+            build_root: self.store.settings().build_root(),
+            depth: self.store.settings().depth(),
             folder: self.store.folder(),
             earlier: self.store.project().targets(),
         }

@@ -1,6 +1,6 @@
 //! Refuses a call that breaks a rule.
 ghost use Rattle.arguments.specs.Rules.{broken};
-ghost use Rattle.basics.specs.declared.faults.refusal.Refusal.TheVariants.{Arguments as ArgumentsRefused};
+ghost use Rattle.support.specs.declared.faults.refusal.Refusal.TheVariants.{Arguments as ArgumentsRefused};
 ghost use Rattle.world.specs.Answering.{IsAnsweredBy, Refuses};
 ghost use Rattle.world.specs.Ruled.{obeyed};
 ghost use Rattle.world.specs.Store.{world_of};
@@ -10,8 +10,8 @@ use crate::caller::Caller;
 use crate::operation::of_operation;
 use crate::stop::Stop;
 use arguments::Rule;
-use basics::faults::Refusal;
 use ports::{Outputs, Tree};
+use support::faults::Refusal;
 
 impl<'a, T: Tree, O: Outputs> Caller<'a, T, O> {
     ghost use Rattle.world.specs.Caller.{Does};
@@ -36,13 +36,13 @@ impl<'a, T: Tree, O: Outputs> Caller<'a, T, O> {
         &self,
         rule: Rule,
         text: &str,
-        answer: Result<A, data::Refusal>,
+        answer: Result<A, values::Refusal>,
     ) -> Result<A, Stop>
         ensures { IsAnsweredBy (world_of self.now.store.now) rule text.now answer result }
     {
         match answer {
             Ok(value) => Ok(value),
-            Err(data::Refusal::Arguments) => self.refuse_by(rule, text),
+            Err(values::Refusal::Arguments) => self.refuse_by(rule, text),
             Err(refusal) => self.refuse(of_operation(refusal), ""),
         }
     }

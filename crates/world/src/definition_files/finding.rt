@@ -16,7 +16,7 @@ use ports::{Outputs, Tree};
 use std::alloc::Global;
 
 /// The most bytes of a definition file.
-pub const MOST_BYTES: u64 = basics::limits::TEXT_BYTES as u64;
+pub const MOST_BYTES: u64 = support::limits::TEXT_BYTES as u64;
 
 /// What stands at the path of a definition file.
 #[derive(Drop)]

@@ -8,10 +8,10 @@ ghost use Rattle.world.specs.FileReading.{IsNoFault};
 ghost use Rattle.world.specs.Gives.{Holds, failures_after};
 
 use crate::stop::Stop;
-use basics::faults::Refusal;
-use grammar::fault::FaultKind;
 use ports::{DeviceFault, Tree};
 use std::alloc::Global;
+use support::faults::Refusal;
+use syntax::fault::FaultKind;
 
 // Reads until the buffer is full or the file ends, and says how many bytes it read.
 fn fill<T: Tree>(tree: &mut T, path: &str, buffer: &mut [u8]) -> Result<usize, DeviceFault>

@@ -1,20 +1,20 @@
 //! The project of a run.
 ghost use Rattle.std.specs.Prelude.{◌≡◌, IfOk, OnOk, string_bytes};
-ghost use Rattle.targets.specs.edge.Texts.{put_all_new, texts};
-ghost use Rattle.project.specs.Adding.{after_target, arguments_answer, output_answer, target_answer, with_dependency, with_install};
-ghost use Rattle.project.specs.Adding.{with_test};
-ghost use Rattle.project.specs.Refused.{answer_data};
-ghost use Rattle.project.specs.View.{answer_view, install_view, test_view};
-ghost use Rattle.targets.specs.View.{facts_view, target_view};
+ghost use Rattle.build.specs.edge.Texts.{put_all_new, texts};
+ghost use Rattle.build.specs.project.Adding.{after_target, arguments_answer, output_answer, target_answer, with_dependency, with_install};
+ghost use Rattle.build.specs.project.Adding.{with_test};
+ghost use Rattle.build.specs.project.Refused.{answer_data};
+ghost use Rattle.build.specs.project.View.{answer_view, install_view, test_view};
+ghost use Rattle.build.specs.View.{facts_view, target_view};
 ghost use Rattle.world.specs.Declaring.{after_arguments, after_link_arguments};
 ghost use Rattle.world.specs.Making.{after_output};
 ghost use Rattle.world.specs.Store.{changing, world_of};
 ghost use Rattle.world.specs.World.{begun, begun_project, declaring, looking};
 
 use crate::store::Store;
-use project::{Answer, Install, Project, Refused, Test};
+use build::project::{Answer, Install, Project, Refused, Test};
+use build::{Facts, Target};
 use std::alloc::{AllocError, Global};
-use targets::{Facts, Target};
 
 // Notes again which paths were there.
 fn note_present(project: &mut Project, paths: &[String]) -> Result<(), AllocError>

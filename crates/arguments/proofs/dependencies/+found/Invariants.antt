@@ -1,6 +1,6 @@
 use Rattle.std.proofs.Common.{◌≡◌, ◌+◌, ◌*◌, drop}
-use Rattle.data.specs.View.{data_of, items_of}
-use Rattle.data.specs.Weight.{weight, items_weight}
+use Rattle.values.specs.View.{data_of, items_of}
+use Rattle.values.specs.Weight.{weight, items_weight}
 use Rattle.arguments.specs.Dependencies.{all_found}
 use Rattle.arguments.proofs.dependencies.+found.Given as goal
 

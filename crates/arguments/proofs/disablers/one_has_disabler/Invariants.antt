@@ -1,5 +1,5 @@
 use Rattle.std.proofs.Common.{◌≡◌, map, drop}
-use Rattle.data.specs.View.{data_of}
+use Rattle.values.specs.View.{data_of}
 use Rattle.arguments.specs.Disablers.{one_has_disabler}
 use Rattle.arguments.proofs.disablers.one_has_disabler.Given as goal
 

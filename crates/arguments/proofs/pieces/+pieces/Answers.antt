@@ -1,8 +1,8 @@
 use Rattle.std.proofs.Common.{ap, arith}
 use Rattle.std.proofs.lemmas.Grind.{common_steps}
-use Rattle.data.specs.Weight.{weight}
-use Rattle.data.specs.View.{data_of}
-use Rattle.data.proofs.ItemsLemmas.{weight-le-items_weight}
+use Rattle.values.specs.Weight.{weight}
+use Rattle.values.specs.View.{data_of}
+use Rattle.values.proofs.ItemsLemmas.{weight-le-items_weight}
 use Rattle.arguments.proofs.pieces.+pieces.Goals as goal
 
 pub all_pieces-are_pieces-requires : goal.all_pieces-are_pieces-requires

@@ -1,6 +1,6 @@
 use Rattle.std.proofs.Common.{◌≡◌, ◌+◌, ◌*◌, drop}
-use Rattle.data.specs.View.{data_of, items_of}
-use Rattle.data.specs.Weight.{weight, items_weight}
+use Rattle.values.specs.View.{data_of, items_of}
+use Rattle.values.specs.Weight.{weight, items_weight}
 use Rattle.arguments.specs.Pieces.{all_pieces}
 use Rattle.arguments.proofs.pieces.+pieces.Given as goal
 

@@ -1,5 +1,5 @@
 use Rattle.std.proofs.Common.{◌≡◌, map, drop}
-use Rattle.data.specs.View.{data_of}
+use Rattle.values.specs.View.{data_of}
 use Rattle.arguments.specs.Misfits.{misplaced}
 use Rattle.arguments.specs.RowView.{row_data}
 use Rattle.arguments.proofs.reader.find_misplaced.Given as goal

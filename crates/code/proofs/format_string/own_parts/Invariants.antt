@@ -1,5 +1,5 @@
 use Rattle.std.proofs.Common.{◌≡◌, map, take}
-use Rattle.data.specs.texts.Segments.{segment_data}
+use Rattle.values.specs.texts.Segments.{segment_data}
 use Rattle.code.specs.FormatStrings.{part_data}
 use Rattle.code.proofs.format_string.own_parts.Given as goal
 

@@ -1,5 +1,5 @@
 use Rattle.std.proofs.Common.{sym}
-use Rattle.data.specs.View.{data_of}
+use Rattle.values.specs.View.{data_of}
 use Rattle.expressions.proofs.Walking.{loops_dictionary}
 use Rattle.expressions.proofs.loops.check_entries.Goals as goal
 

@@ -1,5 +1,5 @@
 use Rattle.std.proofs.Common.{sym}
-use Rattle.data.specs.View.{data_of}
+use Rattle.values.specs.View.{data_of}
 use Rattle.expressions.proofs.Walking.{loops_list}
 use Rattle.expressions.proofs.loops.check_items.Goals as goal
 

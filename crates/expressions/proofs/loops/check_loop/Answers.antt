@@ -1,5 +1,5 @@
 use Rattle.std.proofs.Common.{sym, subst}
-use Rattle.data.specs.View.{data_of}
+use Rattle.values.specs.View.{data_of}
 use Rattle.expressions.specs.Rounds.{Loops}
 use Rattle.expressions.proofs.Walking.{rounds_few}
 use Rattle.expressions.proofs.loops.check_loop.Goals as goal

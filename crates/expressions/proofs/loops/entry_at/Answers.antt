@@ -1,6 +1,6 @@
 use Rattle.std.proofs.Common.{◌+◌, Some, ◌∷◌, drop, ap, sym, ◌∙◌, arith}
-use Rattle.data.specs.Data.{text}
-use Rattle.data.specs.View.{data_of}
+use Rattle.values.specs.Data.{text}
+use Rattle.values.specs.View.{data_of}
 use Rattle.expressions.specs.Rounds.{entry_rounds}
 use Rattle.expressions.proofs.Walking.{entry_behind, entry_there, values_within}
 use Rattle.expressions.proofs.loops.entry_at.Goals as goal

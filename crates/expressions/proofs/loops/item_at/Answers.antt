@@ -1,5 +1,5 @@
 use Rattle.std.proofs.Common.{◌+◌, None, ◌∷◌, drop, ap, sym, ◌∙◌}
-use Rattle.data.specs.View.{data_of, items_of}
+use Rattle.values.specs.View.{data_of, items_of}
 use Rattle.expressions.specs.Rounds.{item_rounds}
 use Rattle.expressions.proofs.Walking.{items_behind, item_there}
 use Rattle.expressions.proofs.loops.item_at.Goals as goal

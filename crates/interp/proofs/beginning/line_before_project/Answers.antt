@@ -1,7 +1,7 @@
 use Rattle.std.proofs.Common.{List, ℕ, ap, sym, ◌∙◌, map}
 use Rattle.std.specs.Prelude.{slice_get}
 use Rattle.code.specs.Statements.{statement_at}
-use Rattle.grammar.specs.Tree.{statements}
+use Rattle.syntax.specs.Tree.{statements}
 use Rattle.interp.specs.Beginnings.{line_before}
 use Rattle.expressions.specs.Codes.{statements_by}
 use Rattle.interp.proofs.Starting.{first_is}

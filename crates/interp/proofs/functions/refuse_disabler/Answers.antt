@@ -1,6 +1,6 @@
 use Rattle.std.proofs.Common.{ap, codes}
 use Rattle.std.specs.Prelude.{not}
-use Rattle.basics.specs.declared.faults.refusal.Refusal.TheVariants as refusals
+use Rattle.support.specs.declared.faults.refusal.Refusal.TheVariants as refusals
 use Rattle.world.specs.Deed.{need}
 use Rattle.world.proofs.Answering.{carries_as}
 use Rattle.interp.specs.Functions.{without_disabler}

@@ -1,4 +1,4 @@
-use Rattle.data.specs.View.{data_of}
+use Rattle.values.specs.View.{data_of}
 use Rattle.expressions.proofs.Walking.{rounds_few}
 use Rattle.interp.proofs.law.loops_are_few.Goals as goal
 

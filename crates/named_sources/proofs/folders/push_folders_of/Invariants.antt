@@ -1,7 +1,7 @@
 use Rattle.std.proofs.Common.{◌≡◌, map, drop}
 use Rattle.arguments.specs.declared.rule.Rule.TheVariants as rules
-use Rattle.data.specs.View.{data_of}
-use Rattle.paths.specs.Folder.{strings_of}
+use Rattle.values.specs.View.{data_of}
+use Rattle.support.specs.paths.Folder.{strings_of}
 use Rattle.arguments.specs.Each.{all_said}
 use Rattle.named_sources.specs.Folders.{folders_in}
 use Rattle.named_sources.specs.Unnamed.{named_by}

@@ -1,5 +1,5 @@
 use Rattle.std.proofs.Common.{◌≡◌, [], map, drop}
-use Rattle.data.specs.View.{data_of}
+use Rattle.values.specs.View.{data_of}
 use Rattle.arguments.specs.Each.{each_behind}
 use Rattle.named_sources.specs.Libraries.{build_target_in}
 use Rattle.named_sources.proofs.libraries.numbers_of.Given as goal

@@ -1,7 +1,7 @@
 use Rattle.std.proofs.Common.{ap, ◌∙◌}
 use Rattle.std.specs.Prelude.{Some}
-use Rattle.targets.specs.edge.Texts.{texts}
-use Rattle.targets.proofs.LinkedLists.{paths_got, paths_missed}
+use Rattle.build.specs.edge.Texts.{texts}
+use Rattle.build.proofs.LinkedLists.{paths_got, paths_missed}
 use Rattle.named_sources.proofs.outputs.outputs_at.Goals as goal
 
 pub returns-in-Some : goal.returns-in-Some

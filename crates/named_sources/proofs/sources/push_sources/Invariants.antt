@@ -1,6 +1,6 @@
 use Rattle.std.proofs.Common.{◌≡◌, map, drop}
 use Rattle.arguments.specs.declared.rule.Rule.TheVariants as rules
-use Rattle.data.specs.View.{data_of}
+use Rattle.values.specs.View.{data_of}
 use Rattle.arguments.specs.Each.{each_said}
 use Rattle.named_sources.specs.Sources.{source_of}
 use Rattle.named_sources.specs.SourcesView.{named_views}

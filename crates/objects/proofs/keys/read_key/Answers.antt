@@ -1,6 +1,6 @@
 use Rattle.std.proofs.Common.{ap, refl, ◌∙◌}
-use Rattle.data.specs.Data.{text}
-use Rattle.data.specs.Limits.{within}
+use Rattle.values.specs.Data.{text}
+use Rattle.values.specs.Limits.{within}
 use Rattle.machine.specs.machine_file.Questions.{Key, answer_to}
 use Rattle.world.specs.Deed.{answered}
 use Rattle.world.proofs.Answering.{carries_as, carries_give, carries_none, carries_stop, carries_then, carries_value}

@@ -1,7 +1,7 @@
 use Rattle.std.proofs.Common.{ap}
 use Rattle.objects.proofs.Values.{answers_as}
-use Rattle.data.specs.Data.{text}
-use Rattle.data.specs.Limits.{within}
+use Rattle.values.specs.Data.{text}
+use Rattle.values.specs.Limits.{within}
 use Rattle.objects.proofs.meson_object.project_name_value.Goals as goal
 
 pub returns : goal.returns

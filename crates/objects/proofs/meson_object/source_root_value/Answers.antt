@@ -1,6 +1,6 @@
 use Rattle.std.proofs.Common.{ap}
-use Rattle.data.specs.Data.{text}
-use Rattle.data.specs.Limits.{within}
+use Rattle.values.specs.Data.{text}
+use Rattle.values.specs.Limits.{within}
 use Rattle.objects.proofs.Values.{answers_as}
 use Rattle.objects.proofs.meson_object.source_root_value.Goals as goal
 

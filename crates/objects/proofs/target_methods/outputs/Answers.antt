@@ -1,8 +1,8 @@
 use Rattle.std.proofs.Common.{◌+◌, ◌-◌, refl, sym, ap, ◌∙◌}
-use Rattle.data.specs.Data.{item, items_append, no_items, object}
-use Rattle.data.specs.View.{items_of}
-use Rattle.data.specs.declared.object.Object.TheVariants as objects
-use Rattle.data.proofs.ItemsLemmas.{items_append_assoc, items_append_none, items_of-push}
+use Rattle.values.specs.Data.{item, items_append, no_items, object}
+use Rattle.values.specs.View.{items_of}
+use Rattle.values.specs.declared.object.Object.TheVariants as objects
+use Rattle.values.proofs.ItemsLemmas.{items_append_assoc, items_append_none, items_of-push}
 use Rattle.objects.specs.Targets.{outputs_from}
 use Rattle.objects.proofs.Outputs.{first_of, none_of}
 use Rattle.objects.proofs.target_methods.outputs.Goals as goal

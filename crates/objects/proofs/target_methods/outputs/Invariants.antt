@@ -1,6 +1,6 @@
 use Rattle.std.proofs.Common.{◌≡◌, ◌-◌}
-use Rattle.data.specs.Data.{items_append}
-use Rattle.data.specs.View.{items_of}
+use Rattle.values.specs.Data.{items_append}
+use Rattle.values.specs.View.{items_of}
 use Rattle.objects.specs.Targets.{outputs_from}
 use Rattle.objects.proofs.target_methods.outputs.Given as goal
 

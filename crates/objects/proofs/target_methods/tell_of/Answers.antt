@@ -1,6 +1,6 @@
 use Rattle.std.proofs.Common.{option_map, string_bytes, sym, ap, ◌∙◌}
 use Rattle.objects.proofs.Values.{answers_as}
-use Rattle.targets.specs.Libraries.{linked_of}
+use Rattle.build.specs.Libraries.{linked_of}
 use Rattle.world.specs.Store.{world_of}
 use Rattle.objects.specs.Targets.{at, path_of, path_value, told_of}
 use Rattle.objects.proofs.target_methods.tell_of.Goals as goal

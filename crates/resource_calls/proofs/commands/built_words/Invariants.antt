@@ -1,6 +1,6 @@
 use Rattle.std.proofs.Common.{◌≡◌, ◌++◌, map, drop}
-use Rattle.targets.specs.edge.Texts.{texts}
-use Rattle.paths.specs.Below.{path_below}
+use Rattle.build.specs.edge.Texts.{texts}
+use Rattle.support.specs.paths.Below.{path_below}
 use Rattle.world.specs.HereView.{here_view}
 use Rattle.resource_calls.proofs.commands.built_words.Given as goal
 

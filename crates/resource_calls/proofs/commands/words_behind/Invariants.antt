@@ -1,6 +1,6 @@
 use Rattle.std.proofs.Common.{◌≡◌, map, drop}
-use Rattle.data.specs.View.{data_of}
-use Rattle.targets.specs.edge.Texts.{texts}
+use Rattle.values.specs.View.{data_of}
+use Rattle.build.specs.edge.Texts.{texts}
 use Rattle.arguments.specs.Each.{all_behind}
 use Rattle.world.specs.HereView.{here_view}
 use Rattle.resource_calls.specs.TestCommands.{argument_words}

@@ -1,7 +1,7 @@
 use Rattle.std.proofs.Common.{ap, ◌∙◌}
 use Rattle.arguments.specs.Arguments.{arguments_data}
-use Rattle.project.specs.World.{WorldData}
-use Rattle.targets.specs.Data.{FactsData}
+use Rattle.build.specs.project.World.{WorldData}
+use Rattle.build.specs.Data.{FactsData}
 use Rattle.world.proofs.Values.{two}
 use Rattle.world.proofs.Answering.{carries_none, carries_read}
 use Rattle.resource_calls.specs.DeclareDependency.{joined_given}

@@ -1,5 +1,5 @@
 use Rattle.std.proofs.Common.{Some, ap, refl}
-use Rattle.data.specs.Data.{object}
+use Rattle.values.specs.Data.{object}
 use Rattle.world.specs.Declaring.{add_dependency}
 use Rattle.world.specs.Deed.{give}
 use Rattle.world.proofs.Answering.{carries_as, carries_none, carries_stop, carries_then}

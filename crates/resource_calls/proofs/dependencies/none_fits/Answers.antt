@@ -1,6 +1,6 @@
 use Rattle.std.proofs.Common.{ap, refl, sym, ◌∙◌}
 use Rattle.arguments.specs.Arguments.{arguments_data}
-use Rattle.basics.specs.declared.faults.refusal.Refusal.TheVariants as refusals
+use Rattle.support.specs.declared.faults.refusal.Refusal.TheVariants as refusals
 use Rattle.named_sources.specs.resources.Found.{missing}
 use Rattle.world.specs.Deed.{refuse}
 use Rattle.world.proofs.Answering.{carries_as, carries_none, carries_refuse}

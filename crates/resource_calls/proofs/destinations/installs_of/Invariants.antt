@@ -1,7 +1,7 @@
 use Rattle.std.proofs.Common.{◌≡◌, [], map, drop}
 use Rattle.arguments.specs.Arguments.{arguments_data}
 use Rattle.arguments.specs.Each.{each_said}
-use Rattle.project.specs.View.{install_view}
+use Rattle.build.specs.project.View.{install_view}
 use Rattle.named_sources.specs.SourcesView.{named_view}
 use Rattle.resource_calls.specs.Destinations.{installed}
 use Rattle.resource_calls.specs.DestinationsView.{folders_view}

@@ -1,6 +1,6 @@
 use Rattle.std.proofs.Common.{map, ap, refl, sym, arith}
 use Rattle.std.proofs.lemmas.List.{nil_from_length}
-use Rattle.project.specs.View.{install_view}
+use Rattle.build.specs.project.View.{install_view}
 use Rattle.world.proofs.Answering.{carries_give}
 use Rattle.world.proofs.Leading.{leads_start, leads_on, leads_end, leads_stop, leads_as}
 use Rattle.resource_calls.specs.Installs.{all_installed}

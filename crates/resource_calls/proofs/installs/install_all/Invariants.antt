@@ -1,6 +1,6 @@
 use Rattle.std.proofs.Common.{map}
 use Rattle.std.specs.Vec.Iter.{into_iter_items}
-use Rattle.project.specs.View.{install_view}
+use Rattle.build.specs.project.View.{install_view}
 use Rattle.world.specs.Answering.{Leads}
 use Rattle.world.specs.Caller.{state_of}
 use Rattle.resource_calls.specs.Installs.{all_installed}

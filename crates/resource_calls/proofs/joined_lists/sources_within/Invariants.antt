@@ -1,6 +1,6 @@
 use Rattle.std.proofs.Common.{◌≡◌, [], map, drop}
 use Rattle.named_sources.specs.SourcesView.{named_view}
-use Rattle.targets.specs.LinkedViews.{linked_views}
+use Rattle.build.specs.LinkedViews.{linked_views}
 use Rattle.resource_calls.specs.JoinedLists.{sources_behind}
 use Rattle.resource_calls.proofs.joined_lists.sources_within.Given as goal
 

@@ -1,9 +1,9 @@
 use Rattle.std.proofs.Common.{Some, ap, refl, sym, ◌∙◌}
 use Rattle.arguments.specs.Arguments.{arguments_data}
-use Rattle.basics.specs.declared.faults.refusal.Refusal.TheVariants as refusals
-use Rattle.data.specs.Data.{object}
-use Rattle.data.specs.declared.object.Object.TheVariants as objects
-use Rattle.data.specs.declared.object.Program.TheVariants as programs
+use Rattle.support.specs.declared.faults.refusal.Refusal.TheVariants as refusals
+use Rattle.values.specs.Data.{object}
+use Rattle.values.specs.declared.object.Object.TheVariants as objects
+use Rattle.values.specs.declared.object.Program.TheVariants as programs
 use Rattle.world.specs.Deed.{give, refuse}
 use Rattle.world.proofs.Answering.{carries_as, carries_refuse}
 use Rattle.resource_calls.specs.Programs.{missing_program, no_program}

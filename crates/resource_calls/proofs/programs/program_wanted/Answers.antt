@@ -1,6 +1,6 @@
 use Rattle.std.proofs.Common.{map, ap, refl, sym, ◌∙◌}
 use Rattle.arguments.specs.Arguments.{arguments_data}
-use Rattle.data.specs.Flat.{flat_all}
+use Rattle.values.specs.Flat.{flat_all}
 use Rattle.world.proofs.Answering.{carries_as, carries_give, carries_none}
 use Rattle.resource_calls.specs.Programs.{first_program, program_wanted}
 use Rattle.resource_calls.proofs.Either.{either_way}

@@ -1,6 +1,6 @@
 use Rattle.std.proofs.Common.{refl}
 use Rattle.arguments.specs.Arguments.{arguments_data}
-use Rattle.project.specs.View.{test_view}
+use Rattle.build.specs.project.View.{test_view}
 use Rattle.world.proofs.Answering.{carries_answered, carries_give, carries_none, carries_stop, carries_then}
 use Rattle.resource_calls.specs.RunsView.{run_view}
 use Rattle.world.specs.Here.{here_of}

@@ -2,8 +2,8 @@ use Rattle.std.proofs.Common.{◌≡◌, List, [], ◌∷◌, true, length, Opti
 use Rattle.std.specs.Prelude.{◌==◌, option_map}
 use Rattle.std.proofs.lemmas.Iterator.Adapters.{option_map_id}
 use Rattle.std.proofs.lemmas.List.{map-id}
-use Rattle.targets.specs.edge.Texts.{Path, Text}
-use Rattle.paths.specs.Paths.{path_in}
+use Rattle.build.specs.edge.Texts.{Path, Text}
+use Rattle.support.specs.paths.Paths.{path_in}
 use Rattle.target_calls.specs.CustomNames.{NamesData}
 use Rattle.target_calls.specs.CustomTargetsView.{names_view}
 use Rattle.target_calls.proofs.custom.files_below.Goals as goal

@@ -1,7 +1,7 @@
 use Rattle.std.proofs.Common.{◌≡◌, map, take}
 use Rattle.std.specs.Prelude.{flat_map}
 use Rattle.arguments.specs.Arguments.{named_data}
-use Rattle.data.specs.View.{data_of}
+use Rattle.values.specs.View.{data_of}
 use Rattle.target_calls.specs.CustomTargets.{written_in}
 use Rattle.target_calls.proofs.custom.list_written.Given as goal
 

@@ -2,7 +2,7 @@ use Rattle.std.proofs.Common.{◌≡◌, List, sym, ap, ◌∙◌}
 use Rattle.std.specs.Prelude.{count_by, is_some}
 use Rattle.std.proofs.lemmas.Bool.{OnTrue_from}
 use Rattle.arguments.specs.declared.arguments.Named.{Named}
-use Rattle.data.specs.View.{data_of}
+use Rattle.values.specs.View.{data_of}
 use Rattle.target_calls.proofs.InputAlone.{input_alone, is_some-option_map, says}
 use Rattle.target_calls.proofs.custom.says_input_alone.Goals as goal
 

@@ -1,6 +1,6 @@
 use Rattle.std.proofs.Common.{Some, ap, ◌∙◌}
-use Rattle.data.specs.Data.{object}
-use Rattle.data.specs.declared.object.Object.TheVariants as objects
+use Rattle.values.specs.Data.{object}
+use Rattle.values.specs.declared.object.Object.TheVariants as objects
 use Rattle.world.proofs.Answering.{carries_give, carries_none, carries_stop, carries_then}
 use Rattle.arguments.specs.Arguments.{arguments_data}
 use Rattle.world.specs.Here.{here_of}

@@ -1,7 +1,7 @@
 use Rattle.std.proofs.Common.{◌≡◌, ℕ, Bool, false, List, [], ◌∷◌, map, string_bytes, ap, sym, refl, ◌∙◌}
 use Rattle.arguments.specs.Arguments.{arguments_data}
-use Rattle.targets.specs.edge.Holding.{is_some_list}
-use Rattle.targets.specs.View.{target_view}
+use Rattle.build.specs.edge.Holding.{is_some_list}
+use Rattle.build.specs.View.{target_view}
 use Rattle.world.specs.Store.{world_of}
 use Rattle.world.proofs.Answering.{carries_as, carries_give, carries_none, carries_read, carries_stop, carries_then}
 use Rattle.target_calls.specs.CustomInstalls.{WayData, add_custom, all_noted, installed_names, way_of}

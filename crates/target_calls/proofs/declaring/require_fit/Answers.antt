@@ -1,7 +1,7 @@
 use Rattle.std.proofs.Common.{List, ℕ, sym, ap, ◌∙◌}
-use Rattle.project.specs.Adding.{is_fit}
-use Rattle.project.specs.World.{WorldData}
-use Rattle.targets.specs.View.{target_view}
+use Rattle.build.specs.project.Adding.{is_fit}
+use Rattle.build.specs.project.World.{WorldData}
+use Rattle.build.specs.View.{target_view}
 use Rattle.world.specs.Ruled.{obeyed}
 use Rattle.world.specs.Store.{world_of}
 use Rattle.world.proofs.Answering.{carries_as, carries_none, carries_read, need_no, need_yes}

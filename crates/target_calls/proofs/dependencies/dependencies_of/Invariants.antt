@@ -1,7 +1,7 @@
 use Rattle.std.proofs.Common.{◌≡◌, [], map, drop}
-use Rattle.data.specs.View.{data_of}
-use Rattle.targets.specs.LinkedViews.{linked_views}
-use Rattle.targets.specs.View.{lists_view}
+use Rattle.values.specs.View.{data_of}
+use Rattle.build.specs.LinkedViews.{linked_views}
+use Rattle.build.specs.View.{lists_view}
 use Rattle.target_calls.specs.Dependencies.{lists_behind}
 use Rattle.target_calls.proofs.dependencies.dependencies_of.Given as goal
 

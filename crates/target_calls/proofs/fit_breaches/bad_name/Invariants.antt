@@ -1,5 +1,5 @@
 use Rattle.std.proofs.Common.{◌≡◌, drop}
-use Rattle.targets.specs.edge.Texts.{texts}
+use Rattle.build.specs.edge.Texts.{texts}
 use Rattle.target_calls.specs.FitBreaches.{bad_name}
 use Rattle.target_calls.proofs.fit_breaches.bad_name.Given as goal
 

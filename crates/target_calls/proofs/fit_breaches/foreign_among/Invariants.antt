@@ -1,5 +1,5 @@
 use Rattle.std.proofs.Common.{◌≡◌, map, drop}
-use Rattle.targets.specs.View.{lists_view}
+use Rattle.build.specs.View.{lists_view}
 use Rattle.target_calls.specs.FitBreaches.{foreign_among}
 use Rattle.target_calls.proofs.fit_breaches.foreign_among.Given as goal
 

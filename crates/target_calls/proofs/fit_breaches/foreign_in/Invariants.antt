@@ -1,5 +1,5 @@
 use Rattle.std.proofs.Common.{◌≡◌, map, drop}
-use Rattle.targets.specs.View.{source_view}
+use Rattle.build.specs.View.{source_view}
 use Rattle.target_calls.specs.FitBreaches.{foreign_in}
 use Rattle.target_calls.proofs.fit_breaches.foreign_in.Given as goal
 

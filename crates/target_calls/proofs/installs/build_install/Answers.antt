@@ -5,5 +5,5 @@ use Rattle.target_calls.proofs.installs.build_install.Goals as goal
 
 pub returns : goal.returns
 returns c =
-    let root = c.as_str-build_root.ensures.value ∙ ap (λ (s : SettingsData). s.build_root) c.settings.ensures in
+    let root = c.build_root-build_root.ensures.value ∙ ap (λ (s : SettingsData). s.build_root) c.settings.ensures in
     grind (arith, common_steps, root)

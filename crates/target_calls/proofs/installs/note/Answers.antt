@@ -1,5 +1,5 @@
 use Rattle.std.proofs.Common.{refl, ap, option_map, sym}
-use Rattle.project.specs.View.{install_view}
+use Rattle.build.specs.project.View.{install_view}
 use Rattle.world.proofs.Answering.{carries_as, carries_give}
 use Rattle.target_calls.specs.Installs.{noted}
 use Rattle.target_calls.proofs.installs.note.Goals as goal

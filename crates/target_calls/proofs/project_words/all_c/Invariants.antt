@@ -1,6 +1,6 @@
 use Rattle.std.proofs.Common.{◌≡◌, drop}
 use Rattle.std.specs.List.{list_all}
-use Rattle.targets.specs.edge.Texts.{texts}
+use Rattle.build.specs.edge.Texts.{texts}
 use Rattle.target_calls.specs.ProjectWords.{is_c}
 use Rattle.target_calls.proofs.project_words.all_c.Given as goal
 

@@ -1,6 +1,6 @@
 use Rattle.std.proofs.Common.{◌≡◌, map, take}
 use Rattle.std.specs.Prelude.{flat_map}
-use Rattle.targets.specs.edge.Texts.{texts}
+use Rattle.build.specs.edge.Texts.{texts}
 use Rattle.named_sources.specs.SourcesView.{named_view}
 use Rattle.target_calls.specs.Sources.{file_in}
 use Rattle.target_calls.proofs.sources.files_among.Given as goal

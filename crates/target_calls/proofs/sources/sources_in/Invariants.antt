@@ -1,7 +1,7 @@
 use Rattle.std.proofs.Common.{◌≡◌, [], map}
 use Rattle.std.specs.Vec.Iter.{into_iter_items}
-use Rattle.targets.specs.LinkedViews.{linked_views}
-use Rattle.targets.specs.View.{source_view}
+use Rattle.build.specs.LinkedViews.{linked_views}
+use Rattle.build.specs.View.{source_view}
 use Rattle.named_sources.specs.SourcesView.{named_view}
 use Rattle.arguments.specs.Each.{each_behind}
 use Rattle.target_calls.specs.Sources.{source_in}

@@ -1,5 +1,5 @@
 use Rattle.std.proofs.Common.{map, ap, ◌∙◌}
-use Rattle.paths.specs.Folder.{strings_of}
+use Rattle.support.specs.paths.Folder.{strings_of}
 use Rattle.world.specs.Here.{HereData}
 use Rattle.world.proofs.Answering.{carries_as, carries_none, carries_read}
 use Rattle.world.proofs.Ruling.{carries_passed}

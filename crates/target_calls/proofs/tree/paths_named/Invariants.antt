@@ -1,6 +1,6 @@
 use Rattle.std.proofs.Common.{◌≡◌, [], map, drop}
 use Rattle.arguments.specs.Each.{each_said}
-use Rattle.paths.specs.Folder.{strings_of}
+use Rattle.support.specs.paths.Folder.{strings_of}
 use Rattle.world.specs.HereView.{here_view}
 use Rattle.target_calls.specs.Files.{named_by}
 use Rattle.target_calls.proofs.tree.paths_named.Given as goal

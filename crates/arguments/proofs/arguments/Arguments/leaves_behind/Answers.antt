@@ -1,8 +1,8 @@
 use Rattle.std.proofs.Common.{◌≡◌, drop, ap, sym, ◌∙◌, map}
 use Rattle.std.proofs.lemmas.List.{drop-map}
 use Rattle.std.proofs.lemmas.Result.{IfOk-weaker}
-use Rattle.data.specs.View.{data_of}
-use Rattle.data.specs.Flat.{opened_all}
+use Rattle.values.specs.View.{data_of}
+use Rattle.values.specs.Flat.{opened_all}
 use Rattle.arguments.proofs.arguments.Arguments.leaves_behind.Goals as goal
 
 pub returns : goal.returns

@@ -1,8 +1,8 @@
 use Rattle.std.proofs.Common.{Bor, Some, option_map, false, ap, sym, ◌∙◌}
 use Rattle.std.specs.Prelude.{unwrap_or}
-use Rattle.data.specs.Data.{boolean, is_disabler}
-use Rattle.data.specs.View.{data_of}
-use Rattle.data.specs.declared.value.Value.{Value}
+use Rattle.values.specs.Data.{boolean, is_disabler}
+use Rattle.values.specs.View.{data_of}
+use Rattle.values.specs.declared.value.Value.{Value}
 use Rattle.calls.specs.language_calls.Disablers.{tell_disabler}
 use Rattle.world.proofs.Answering.{carries_give}
 use Rattle.calls.proofs.language_calls.disablers.is_disabler.Goals as goal

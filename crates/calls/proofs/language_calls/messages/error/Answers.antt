@@ -1,6 +1,6 @@
 use Rattle.std.proofs.Common.{map, ap, ◌∙◌}
-use Rattle.data.specs.View.{data_of}
-use Rattle.basics.specs.declared.faults.refusal.Refusal.TheVariants as refusals
+use Rattle.values.specs.View.{data_of}
+use Rattle.support.specs.declared.faults.refusal.Refusal.TheVariants as refusals
 use Rattle.world.specs.Deed.{refuse}
 use Rattle.calls.specs.language_calls.Messages.{error, line_of, need_printable}
 use Rattle.world.proofs.Answering.{carries_as, carries_then, carries_stop, carries_none, carries_refuse}

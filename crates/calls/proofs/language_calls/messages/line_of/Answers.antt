@@ -1,7 +1,7 @@
 use Rattle.std.proofs.Common.{◌++◌, map, ap, sym, ◌∙◌}
-use Rattle.data.specs.View.{data_of}
-use Rattle.data.specs.printing.Pieces.{whole}
-use Rattle.data.specs.printing.Printed.{shown}
+use Rattle.values.specs.View.{data_of}
+use Rattle.values.specs.printing.Pieces.{whole}
+use Rattle.values.specs.printing.Printed.{shown}
 use Rattle.calls.specs.language_calls.Messages.{line_of}
 use Rattle.calls.specs.language_calls.Saying.{behind_spaces}
 use Rattle.calls.proofs.language_calls.messages.line_of.Goals as goal

@@ -1,5 +1,5 @@
 use Rattle.std.proofs.Common.{◌++◌, map, codes, ap, refl}
-use Rattle.data.specs.View.{data_of}
+use Rattle.values.specs.View.{data_of}
 use Rattle.world.specs.Deed.{say}
 use Rattle.calls.specs.language_calls.Messages.{line_of, logged, need_printable}
 use Rattle.world.proofs.Answering.{carries_as, carries_then, carries_stop, carries_give}

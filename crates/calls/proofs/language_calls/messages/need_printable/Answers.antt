@@ -1,6 +1,6 @@
 use Rattle.std.proofs.Common.{ap, ◌∙◌, codes}
-use Rattle.basics.specs.declared.faults.refusal.Refusal.TheVariants as refusals
-use Rattle.data.specs.printing.Printed.{is_printable}
+use Rattle.support.specs.declared.faults.refusal.Refusal.TheVariants as refusals
+use Rattle.values.specs.printing.Printed.{is_printable}
 use Rattle.world.specs.Deed.{need}
 use Rattle.calls.specs.language_calls.Messages.{need_printable}
 use Rattle.world.proofs.Answering.{carries_as}

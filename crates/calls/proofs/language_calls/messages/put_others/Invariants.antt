@@ -1,6 +1,6 @@
 use Rattle.std.proofs.Common.{◌≡◌, ◌++◌, map, drop, string_bytes}
-use Rattle.data.specs.View.{data_of}
-use Rattle.data.specs.printing.Pieces.{whole}
+use Rattle.values.specs.View.{data_of}
+use Rattle.values.specs.printing.Pieces.{whole}
 use Rattle.calls.specs.language_calls.Saying.{behind_spaces}
 use Rattle.calls.proofs.language_calls.messages.put_others.Given as goal
 

@@ -1,7 +1,7 @@
 use Rattle.std.proofs.Common.{◌≡◌, ◌++◌, length, string_bytes}
-use Rattle.data.specs.View.{data_of}
-use Rattle.data.specs.printing.Printed.{shown}
-use Rattle.data.specs.printing.Pieces.{whole}
+use Rattle.values.specs.View.{data_of}
+use Rattle.values.specs.printing.Printed.{shown}
+use Rattle.values.specs.printing.Pieces.{whole}
 use Rattle.calls.proofs.language_calls.messages.put_value.Given as goal
 
 -- what is put and what is left are all

@@ -1,5 +1,5 @@
 use Rattle.std.proofs.Common.{[], ◌∷◌, map, codes}
-use Rattle.data.specs.View.{data_of}
+use Rattle.values.specs.View.{data_of}
 use Rattle.world.proofs.Answering.{carries_stop, carries_then}
 use Rattle.calls.specs.language_calls.Messages.{line_of}
 use Rattle.calls.proofs.Saying.{carries_last, carries_whole}

@@ -1,6 +1,6 @@
 use Rattle.std.proofs.Common.{map, ap, refl}
 use Rattle.std.proofs.lemmas.List.{drop_all}
-use Rattle.data.specs.View.{data_of}
+use Rattle.values.specs.View.{data_of}
 use Rattle.world.proofs.Answering.{carries_give}
 use Rattle.world.proofs.Leading.{leads_start, leads_on, leads_end, leads_stop, leads_as, room_on}
 use Rattle.calls.specs.language_calls.Saying.{behind_spaces, say_each}

@@ -1,6 +1,6 @@
 use Rattle.std.proofs.Common.{ap, refl, sym, ◌∙◌}
-use Rattle.data.specs.View.{data_of}
-use Rattle.data.specs.printing.Pieces.{pieces, whole}
+use Rattle.values.specs.View.{data_of}
+use Rattle.values.specs.printing.Pieces.{pieces, whole}
 use Rattle.world.specs.Deed.{say}
 use Rattle.world.proofs.Answering.{carries_as, carries_give, carries_none}
 use Rattle.world.proofs.Leading.{leads_start, leads_on, leads_end, leads_stop, leads_as, room_on}

@@ -1,6 +1,6 @@
 use Rattle.std.proofs.Common.{length}
-use Rattle.data.specs.View.{data_of}
-use Rattle.data.specs.printing.Pieces.{pieces}
+use Rattle.values.specs.View.{data_of}
+use Rattle.values.specs.printing.Pieces.{pieces}
 use Rattle.world.specs.Answering.{Leads}
 use Rattle.world.specs.Caller.{state_of}
 use Rattle.calls.specs.language_calls.Saying.{say_each}

@@ -1,6 +1,6 @@
 use Rattle.std.proofs.Common.{[], ◌∷◌, map, ap, sym, refl}
-use Rattle.data.specs.View.{data_of}
-use Rattle.data.specs.printing.Printed.{shown}
+use Rattle.values.specs.View.{data_of}
+use Rattle.values.specs.printing.Printed.{shown}
 use Rattle.world.specs.Deed.{say}
 use Rattle.world.proofs.Answering.{carries_as, carries_give, carries_stop, carries_then}
 use Rattle.calls.specs.language_calls.Messages.{line_of}

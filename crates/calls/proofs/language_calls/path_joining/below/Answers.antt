@@ -1,7 +1,7 @@
 use Rattle.std.proofs.Common.{◌≡◌, IfOk, string_bytes, sym, ap, subst, ◌∙◌}
-use Rattle.data.specs.Limits.{within_bytes}
-use Rattle.data.specs.Tables.{string_in}
-use Rattle.paths.specs.Below.{ends_with_slash}
+use Rattle.values.specs.Limits.{within_bytes}
+use Rattle.values.specs.Tables.{string_in}
+use Rattle.support.specs.paths.Below.{ends_with_slash}
 use Rattle.calls.proofs.Joining.{below_joined}
 use Rattle.calls.proofs.language_calls.path_joining.below.Goals as goal
 

@@ -1,5 +1,5 @@
 use Rattle.std.proofs.Common.{[], map, take, ap, ◌∙◌, sym}
-use Rattle.data.specs.Limits.{within_bytes}
+use Rattle.values.specs.Limits.{within_bytes}
 use Rattle.calls.specs.language_calls.JoinPaths.{path_of}
 use Rattle.calls.proofs.Joining.{path_more}
 use Rattle.calls.proofs.language_calls.path_joining.path_of.Goals as goal

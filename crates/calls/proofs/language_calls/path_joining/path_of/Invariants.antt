@@ -1,6 +1,6 @@
 use Rattle.std.proofs.Common.{◌≡◌, [], map, take}
-use Rattle.data.specs.Limits.{within_bytes}
-use Rattle.data.specs.Tables.{string_in}
+use Rattle.values.specs.Limits.{within_bytes}
+use Rattle.values.specs.Tables.{string_in}
 use Rattle.calls.specs.language_calls.JoinPaths.{path_of}
 use Rattle.calls.proofs.language_calls.path_joining.path_of.Given as goal
 

@@ -1,7 +1,7 @@
 use Rattle.std.proofs.Common.{◌-◌, ◌+◌, refl, sym, ap, ◌∙◌, arith}
-use Rattle.data.specs.Data.{integer, item, no_items, items_append}
-use Rattle.data.specs.View.{items_of}
-use Rattle.data.proofs.ItemsLemmas.{items_of-push, items_append_assoc, items_append_none}
+use Rattle.values.specs.Data.{integer, item, no_items, items_append}
+use Rattle.values.specs.View.{items_of}
+use Rattle.values.proofs.ItemsLemmas.{items_of-push, items_append_assoc, items_append_none}
 use Rattle.std.specs.Prelude.{pos}
 use Rattle.calls.specs.language_calls.Range.{how_many, integers_from}
 use Rattle.calls.proofs.Counting.{first_of, none_of}

@@ -1,6 +1,6 @@
 use Rattle.std.proofs.Common.{◌≡◌, ◌-◌}
-use Rattle.data.specs.Data.{items_append}
-use Rattle.data.specs.View.{items_of}
+use Rattle.values.specs.Data.{items_append}
+use Rattle.values.specs.View.{items_of}
 use Rattle.calls.specs.language_calls.Range.{how_many, integers_from}
 use Rattle.calls.proofs.language_calls.ranges.integers.Given as goal
 

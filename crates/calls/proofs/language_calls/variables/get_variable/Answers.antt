@@ -1,8 +1,8 @@
 use Rattle.std.proofs.Common.{ℕ, List, Option, ap, ◌∙◌}
 use Rattle.arguments.specs.declared.rule.Rule.TheVariants as rules
-use Rattle.data.specs.Data.{Data}
+use Rattle.values.specs.Data.{Data}
 use Rattle.world.specs.Ruled.{obeyed}
-use Rattle.data.specs.language_names.Names.{is_name, is_predefined}
+use Rattle.values.specs.language_names.Names.{is_name, is_predefined}
 use Rattle.calls.specs.language_calls.Variables.{get_variable, variable_or}
 use Rattle.world.proofs.Values.{two}
 use Rattle.world.proofs.Answering.{carries_as, carries_then, carries_stop}

@@ -1,10 +1,10 @@
 use Rattle.std.proofs.Common.{Some, is_some, ap, ◌∙◌}
 use Rattle.std.specs.Prelude.{◌||◌}
 use Rattle.arguments.specs.declared.rule.Rule.TheVariants as rules
-use Rattle.data.specs.Data.{boolean}
+use Rattle.values.specs.Data.{boolean}
 use Rattle.world.specs.Ruled.{obeyed}
 use Rattle.world.specs.Store.{world_of}
-use Rattle.data.specs.language_names.Names.{is_name, is_predefined}
+use Rattle.values.specs.language_names.Names.{is_name, is_predefined}
 use Rattle.calls.specs.language_calls.Variables.{is_variable}
 use Rattle.world.proofs.Values.{two}
 use Rattle.world.proofs.Answering.{carries_as, carries_then, carries_stop, carries_none, carries_read, carries_give}

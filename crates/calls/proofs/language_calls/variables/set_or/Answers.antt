@@ -1,7 +1,7 @@
 use Rattle.std.proofs.Common.{Bor, Option, option_map, ap}
-use Rattle.data.specs.Data.{Data}
-use Rattle.data.specs.View.{data_of}
-use Rattle.data.specs.declared.value.Value.{Value}
+use Rattle.values.specs.Data.{Data}
+use Rattle.values.specs.View.{data_of}
+use Rattle.values.specs.declared.value.Value.{Value}
 use Rattle.calls.specs.language_calls.Variables.{set_or, value_or}
 use Rattle.world.proofs.Answering.{carries_as, carries_none, carries_read}
 use Rattle.calls.proofs.language_calls.variables.set_or.Goals as goal

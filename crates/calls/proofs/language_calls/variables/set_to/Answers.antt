@@ -1,6 +1,6 @@
 use Rattle.std.proofs.Common.{Bor, Some, option_map, ap, refl, sym}
-use Rattle.data.specs.View.{data_of}
-use Rattle.data.specs.declared.value.Value.{Value}
+use Rattle.values.specs.View.{data_of}
+use Rattle.values.specs.declared.value.Value.{Value}
 use Rattle.world.specs.Deed.{change}
 use Rattle.world.specs.World.{with_variable}
 use Rattle.calls.specs.language_calls.Variables.{set_to}

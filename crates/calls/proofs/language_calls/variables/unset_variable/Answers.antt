@@ -1,5 +1,5 @@
 use Rattle.std.proofs.Common.{None, is_some, ap, refl, ◌∙◌}
-use Rattle.basics.specs.declared.faults.refusal.Refusal.TheVariants as refusals
+use Rattle.support.specs.declared.faults.refusal.Refusal.TheVariants as refusals
 use Rattle.arguments.specs.declared.rule.Rule.TheVariants as rules
 use Rattle.world.specs.Deed.{need, change}
 use Rattle.world.specs.Ruled.{obeyed}

@@ -1,6 +1,6 @@
 use Rattle.std.proofs.Common.{Bor, Some, None, option_map, ap, refl, sym}
-use Rattle.data.specs.View.{data_of}
-use Rattle.data.specs.declared.value.Value.{Value}
+use Rattle.values.specs.View.{data_of}
+use Rattle.values.specs.declared.value.Value.{Value}
 use Rattle.calls.specs.language_calls.Variables.{value_or}
 use Rattle.world.proofs.Answering.{carries_as, carries_none, carries_give, carries_refuse}
 use Rattle.calls.proofs.language_calls.variables.value_or.Goals as goal

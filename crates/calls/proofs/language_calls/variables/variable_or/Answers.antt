@@ -1,6 +1,6 @@
 use Rattle.std.proofs.Common.{Bor, option_map, ap, sym, ◌∙◌}
-use Rattle.data.specs.View.{data_of}
-use Rattle.data.specs.declared.value.Value.{Value}
+use Rattle.values.specs.View.{data_of}
+use Rattle.values.specs.declared.value.Value.{Value}
 use Rattle.calls.specs.language_calls.Variables.{variable_or}
 use Rattle.world.proofs.Answering.{carries_as}
 use Rattle.calls.proofs.language_calls.variables.variable_or.Goals as goal

@@ -1,6 +1,6 @@
 use Rattle.std.proofs.Common.{ap, ◌∙◌}
 use Rattle.world.specs.DefinitionFiles.{line_at}
-use Rattle.basics.specs.declared.faults.refusal.Refusal.TheVariants as refusals
+use Rattle.support.specs.declared.faults.refusal.Refusal.TheVariants as refusals
 use Rattle.world.proofs.Answering.{carries_as}
 use Rattle.calls.specs.project_calls.OptionFile.{text_declares}
 use Rattle.calls.proofs.SpelledOptions.{carries_line_first, text_is, text_is_not}

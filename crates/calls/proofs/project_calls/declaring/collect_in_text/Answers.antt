@@ -1,7 +1,7 @@
 use Rattle.std.proofs.Common.{◌≡◌, Err, refl, subst}
-use Rattle.grammar.specs.Parsed.{parsed}
-use Rattle.grammar.specs.Tree.{file_of}
-use Rattle.lexer.specs.Answers.{Refuses}
+use Rattle.syntax.specs.Parsed.{parsed}
+use Rattle.syntax.specs.Tree.{file_of}
+use Rattle.syntax.specs.lexer.Answers.{Refuses}
 use Rattle.world.proofs.Answering.{carries_none}
 use Rattle.calls.proofs.SpelledOptions.{carries_spelled, carries_unspelled}
 use Rattle.calls.proofs.project_calls.declaring.collect_in_text.Goals as goal

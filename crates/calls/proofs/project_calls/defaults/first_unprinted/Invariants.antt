@@ -1,5 +1,5 @@
 use Rattle.std.proofs.Common.{◌≡◌, drop}
-use Rattle.data.specs.View.{items_of}
+use Rattle.values.specs.View.{items_of}
 use Rattle.calls.specs.project_calls.Defaults.{first_unprinted}
 use Rattle.calls.proofs.project_calls.defaults.first_unprinted.Given as goal
 

@@ -1,5 +1,5 @@
 use Rattle.std.proofs.Common.{◌≡◌, map, drop, string_bytes}
-use Rattle.data.specs.View.{items_of}
+use Rattle.values.specs.View.{items_of}
 use Rattle.calls.specs.project_calls.Defaults.{printed_all, printed_behind}
 use Rattle.calls.proofs.project_calls.defaults.print_all.Given as goal
 

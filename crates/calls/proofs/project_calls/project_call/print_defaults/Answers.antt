@@ -1,8 +1,8 @@
 use Rattle.std.proofs.Common.{ap, List, ℕ, Result, refl, sym, ◌∙◌}
-use Rattle.basics.specs.declared.faults.refusal.Refusal.{Refusal}
-use Rattle.data.specs.Data.{Items, entry_values, keys_in}
-use Rattle.data.specs.View.{items_of}
-use Rattle.data.specs.declared.refusal.Refusal.{Refusal as OperationRefusal}
+use Rattle.support.specs.declared.faults.refusal.Refusal.{Refusal}
+use Rattle.values.specs.Data.{Items, entry_values, keys_in}
+use Rattle.values.specs.View.{items_of}
+use Rattle.values.specs.declared.refusal.Refusal.{Refusal as OperationRefusal}
 use Rattle.arguments.specs.Arguments.{arguments_data}
 use Rattle.arguments.specs.Rules.{broken}
 use Rattle.arguments.specs.declared.rule.Rule.TheVariants as rules

@@ -2,7 +2,7 @@ use Rattle.std.proofs.Common.{map, string_bytes, ap, refl}
 use Rattle.arguments.specs.Arguments.{arguments_data}
 use Rattle.options.specs.option_file.View.{options_in}
 use Rattle.std.specs.Prelude.{codes, not}
-use Rattle.basics.specs.declared.faults.refusal.Refusal.TheVariants as refusals
+use Rattle.support.specs.declared.faults.refusal.Refusal.TheVariants as refusals
 use Rattle.calls.specs.project_calls.Project.{project}
 use Rattle.calls.specs.project_calls.Resolution.{resolution}
 use Rattle.world.specs.Deed.{need}

@@ -1,5 +1,5 @@
 use Rattle.std.proofs.Common.{◌≡◌, List, [], ◌∷◌, map, refl, ap, subst, IfOk, ◌∙◌}
-use Rattle.targets.specs.edge.Texts.{texts}
+use Rattle.build.specs.edge.Texts.{texts}
 use Rattle.machine.specs.option_values.BuiltIns as plain
 use Rattle.machine.specs.option_values.View.{row_in}
 use Rattle.machine.specs.declared.option_values.built_in.BuiltIn.{BuiltIn}

@@ -1,5 +1,5 @@
 use Rattle.std.proofs.Common.{◌≡◌, take}
-use Rattle.targets.specs.edge.Texts.{texts}
+use Rattle.build.specs.edge.Texts.{texts}
 use Rattle.options.specs.option_file.View.{options_in}
 use Rattle.calls.specs.project_calls.Resolution.{declared_names}
 use Rattle.calls.proofs.project_calls.resolution.declared_names.Given as goal

@@ -1,5 +1,5 @@
 use Rattle.std.proofs.Common.{◌≡◌, map, take}
-use Rattle.targets.specs.edge.Texts.{texts}
+use Rattle.build.specs.edge.Texts.{texts}
 use Rattle.calls.proofs.project_calls.resolution.row_names.Given as goal
 
 abbrev pub invariant-loop-row : goal.invariant-loop-row

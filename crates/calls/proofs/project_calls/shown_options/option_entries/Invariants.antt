@@ -1,7 +1,7 @@
 use Rattle.std.proofs.Common.{◌≡◌, map, take}
 use Rattle.machine.specs.option_values.Settings.{named_value}
 use Rattle.machine.specs.option_values.SettingsView.{options_in}
-use Rattle.targets.specs.View.{option_entry_view}
+use Rattle.build.specs.View.{option_entry_view}
 use Rattle.calls.specs.project_calls.Entries.{entry_of}
 use Rattle.calls.proofs.project_calls.shown_options.option_entries.Given as goal
 

@@ -2,9 +2,9 @@ use Rattle.std.proofs.Common.{sym, ap, ◌∙◌, ◌&&◌, length, map, nat_lt,
 use Rattle.std.specs.Prelude.{IsTrue}
 use Rattle.code.specs.declared.node.CallNode.{CallNode}
 use Rattle.std.specs.List.{list_all}
-use Rattle.grammar.specs.ExpressionTree.{ExpressionTree, ListTree, DictionaryTree, FunctionTree, PostfixTree, PrefixTree, ChainTree}
-use Rattle.grammar.specs.ExpressionTree.{TernaryTree, arguments, entries, expressions, links, operands, expression_of, entry_of}
-use Rattle.grammar.specs.ExpressionTree.{argument_of, operand_of, link_of}
+use Rattle.syntax.specs.ExpressionTree.{ExpressionTree, ListTree, DictionaryTree, FunctionTree, PostfixTree, PrefixTree, ChainTree}
+use Rattle.syntax.specs.ExpressionTree.{TernaryTree, arguments, entries, expressions, links, operands, expression_of, entry_of}
+use Rattle.syntax.specs.ExpressionTree.{argument_of, operand_of, link_of}
 use Rattle.code.specs.Nodes.{tree_at, entry_at, argument_at, operand_at, link_at, entry_within, argument_within, operand_within}
 use Rattle.code.specs.Nodes.{link_within}
 use Rattle.code.specs.Draft.{trees_in}

@@ -1,7 +1,7 @@
 use Rattle.std.proofs.Common.{◌+◌, ◌*◌, map, max, nat_lt, take}
 use denote.Param.Weighed.{most}
-use Rattle.grammar.specs.declared.tree.Expression.TheViews.{size-Expression, size-Link, size-Operand}
-use Rattle.grammar.specs.ExpressionTree.{expression_of, entry_of, argument_of, operand_of, link_of}
+use Rattle.syntax.specs.declared.tree.Expression.TheViews.{size-Expression, size-Link, size-Operand}
+use Rattle.syntax.specs.ExpressionTree.{expression_of, entry_of, argument_of, operand_of, link_of}
 use Rattle.code.specs.Nodes.{tree_at, entry_at, argument_at, operand_at, link_at, entry_within, argument_within, operand_within}
 use Rattle.code.specs.Nodes.{link_within}
 use Rattle.code.specs.Draft.{trees_in, Grows, Parts}

@@ -1,9 +1,9 @@
 use Rattle.std.proofs.Common.{refl, map, nat_lt, length, option_map, sym, ap, ◌∙◌}
 use Rattle.std.specs.List.{list_all}
-use Rattle.grammar.specs.ExpressionTree.{ExpressionTree, expression_of}
-use Rattle.grammar.specs.declared.tree.Expression.{Expression}
-use Rattle.grammar.specs.declared.tree.Branch.{Branch}
-use Rattle.grammar.specs.Tree.{AssignTree, AppendTree, BranchTree, ForeachTree, IfTree, branches, statement_of, branch_of, statements}
+use Rattle.syntax.specs.ExpressionTree.{ExpressionTree, expression_of}
+use Rattle.syntax.specs.declared.tree.Expression.{Expression}
+use Rattle.syntax.specs.declared.tree.Branch.{Branch}
+use Rattle.syntax.specs.Tree.{AssignTree, AppendTree, BranchTree, ForeachTree, IfTree, branches, statement_of, branch_of, statements}
 use Rattle.code.specs.declared.node.StatementNode.TheVariants as flat
 use Rattle.code.specs.Draft.{trees_in}
 use Rattle.code.specs.Statements.{statement_at, statement_tree, branch_within}

@@ -1,7 +1,7 @@
 use Rattle.std.proofs.Common.{◌+◌, ◌*◌, map, max, take}
 use denote.Param.Weighed.{most}
-use Rattle.grammar.specs.declared.tree.Statement.TheViews.{size-Branch, size-Statement}
-use Rattle.grammar.specs.Tree.{statement_of, branch_of}
+use Rattle.syntax.specs.declared.tree.Statement.TheViews.{size-Branch, size-Statement}
+use Rattle.syntax.specs.Tree.{statement_of, branch_of}
 use Rattle.code.specs.FileDraft.{Extends, AreStatements, AreBranches}
 use Rattle.code.proofs.file_draft.FileDraft.+flatten_statement.Given as goal
 

@@ -1,7 +1,7 @@
 use Rattle.std.proofs.Common.{ap, sym, subst, length, ◌∙◌}
 use Rattle.std.specs.Prelude.{IsTrue}
-use Rattle.grammar.specs.ExpressionTree.{expression_of}
-use Rattle.grammar.specs.ReadingStatements.{set_tree}
+use Rattle.syntax.specs.ExpressionTree.{expression_of}
+use Rattle.syntax.specs.ReadingStatements.{set_tree}
 use Rattle.code.specs.declared.node.StatementNode.{StatementNode}
 use Rattle.code.specs.Draft.{trees_in}
 use Rattle.code.specs.Statements.{statement_tree, statement_within}

@@ -1,7 +1,7 @@
 use Rattle.std.proofs.Common.{map, nat_lt, length, refl, option_map, ◌∙◌}
 use Rattle.std.specs.List.{list_all}
-use Rattle.grammar.specs.ExpressionTree.{expression_of}
-use Rattle.grammar.specs.Tree.{ForeachTree, statements}
+use Rattle.syntax.specs.ExpressionTree.{expression_of}
+use Rattle.syntax.specs.Tree.{ForeachTree, statements}
 use Rattle.code.specs.declared.node.StatementNode.TheVariants as flat
 use Rattle.code.specs.Nodes.{tree_at}
 use Rattle.code.specs.Draft.{trees_in}

@@ -1,6 +1,6 @@
 use Rattle.std.proofs.Common.{ap}
-use Rattle.grammar.specs.ExpressionTree.{expression_of}
-use Rattle.grammar.specs.Tree.{ValueTree}
+use Rattle.syntax.specs.ExpressionTree.{expression_of}
+use Rattle.syntax.specs.Tree.{ValueTree}
 use Rattle.code.specs.Draft.{trees_in}
 use Rattle.code.proofs.Made.{stands_so}
 use Rattle.code.proofs.Placed.{extends_trans, statement_as}

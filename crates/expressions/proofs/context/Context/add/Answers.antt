@@ -1,6 +1,6 @@
 use Rattle.std.proofs.Common.{◌<◌, ℕ, List, [], length, option_map, get_or, ap, refl, subst, sym, ◌∙◌}
-use Rattle.data.specs.View.{data_of}
-use Rattle.data.specs.language_names.Names.{is_predefined}
+use Rattle.values.specs.View.{data_of}
+use Rattle.values.specs.language_names.Names.{is_predefined}
 use Rattle.world.specs.Plan.{next}
 use Rattle.expressions.specs.Forms.{known, variable_by}
 use Rattle.expressions.specs.Assignments.{added}

@@ -6,10 +6,10 @@ use Rattle.code.specs.Literals.{means, spelled}
 use Rattle.code.specs.declared.format_string.FormatString.{FormatString}
 use Rattle.code.specs.declared.literal.LiteralNode.{LiteralNode}
 use Rattle.code.specs.declared.literal.Meaning.TheVariants as meanings
-use Rattle.data.specs.Data.{text}
-use Rattle.data.specs.Limits.{within}
-use Rattle.data.specs.declared.texts.placed.Places.TheVariants as places
-use Rattle.data.specs.texts.Segments.{segments}
+use Rattle.values.specs.Data.{text}
+use Rattle.values.specs.Limits.{within}
+use Rattle.values.specs.declared.texts.placed.Places.TheVariants as places
+use Rattle.values.specs.texts.Segments.{segments}
 use Rattle.world.specs.Plan.{answered}
 use Rattle.expressions.specs.Forms.{filled, literal_value}
 use Rattle.expressions.proofs.Evaluating.{given_as, given_give, given_none}

@@ -1,8 +1,8 @@
 use Rattle.std.proofs.Common.{ap, sym, ◌∙◌}
-use Rattle.data.specs.View.{data_of}
+use Rattle.values.specs.View.{data_of}
 use Rattle.code.proofs.Parts.{begins_same}
 use Rattle.code.specs.Statements.{name_at}
-use Rattle.data.specs.language_names.Names.{is_predefined}
+use Rattle.values.specs.language_names.Names.{is_predefined}
 use Rattle.expressions.specs.Assignments.{assigned_by}
 use Rattle.expressions.proofs.Assigning.{given_none_grown}
 use Rattle.expressions.proofs.Evaluating.{given_as, given_change, given_refuse}

@@ -1,5 +1,5 @@
 use Rattle.std.proofs.Common.{ap}
-use Rattle.data.specs.View.{data_of}
+use Rattle.values.specs.View.{data_of}
 use Rattle.code.proofs.Trees.{less}
 use Rattle.expressions.specs.Assignments.{assigned}
 use Rattle.expressions.proofs.Assigning.{name_stays}

@@ -1,6 +1,6 @@
 use Rattle.std.proofs.Common.{Option, Some, option_map, ap, sym}
-use Rattle.data.specs.View.{data_of}
-use Rattle.data.specs.declared.value.Value.{Value}
+use Rattle.values.specs.View.{data_of}
+use Rattle.values.specs.declared.value.Value.{Value}
 use Rattle.code.specs.Statements.{name_at}
 use Rattle.expressions.specs.Assignments.{bound}
 use Rattle.expressions.proofs.Evaluating.{given_as}

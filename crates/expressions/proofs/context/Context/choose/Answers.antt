@@ -1,6 +1,6 @@
 use Rattle.std.proofs.Common.{Bool, Option, Some, ap, refl, sym, ◌∙◌}
-use Rattle.data.specs.Data.{is_disabler}
-use Rattle.data.specs.View.{data_of}
+use Rattle.values.specs.Data.{is_disabler}
+use Rattle.values.specs.View.{data_of}
 use Rattle.expressions.specs.Conditions.{choice_of, choice_without}
 use Rattle.expressions.proofs.Evaluating.{given_as, given_give, given_refuse}
 use Rattle.expressions.proofs.context.Context.choose.Goals as goal

@@ -1,6 +1,6 @@
 use Rattle.std.proofs.Common.{ap, ◌∙◌}
-use Rattle.grammar.specs.Parsed.{parsed}
-use Rattle.basics.specs.declared.faults.refusal.Refusal.TheVariants as refusals
+use Rattle.syntax.specs.Parsed.{parsed}
+use Rattle.support.specs.declared.faults.refusal.Refusal.TheVariants as refusals
 use Rattle.world.specs.Plan.{deed}
 use Rattle.world.specs.DefinitionFiles.{line_at, refuse_line, tree_or_fault}
 use Rattle.expressions.proofs.Evaluating.{given_as}

@@ -1,7 +1,7 @@
 use Rattle.std.proofs.Common.{◌≡◌, Err, refl, subst}
-use Rattle.grammar.specs.Parsed.{parsed}
-use Rattle.grammar.specs.Tree.{file_of}
-use Rattle.lexer.specs.Answers.{Refuses}
+use Rattle.syntax.specs.Parsed.{parsed}
+use Rattle.syntax.specs.Tree.{file_of}
+use Rattle.syntax.specs.lexer.Answers.{Refuses}
 use Rattle.expressions.proofs.Evaluating.{given_as, given_none}
 use Rattle.expressions.proofs.Opening.{given_line, source_read, source_refused}
 use Rattle.expressions.proofs.context.Context.code_of_text.Goals as goal

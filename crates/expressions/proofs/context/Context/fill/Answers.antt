@@ -1,11 +1,11 @@
 use Rattle.std.proofs.Common.{◌≡◌, ℕ, List, [], ◌∷◌, ◌++◌, Ok, map, ap, refl, subst, sym, ◌∙◌}
 use Rattle.std.specs.Prelude.{true, false}
 use Rattle.code.specs.FormatStrings.{part_data}
-use Rattle.data.specs.Data.{Data}
-use Rattle.data.specs.View.{data_of}
-use Rattle.data.specs.printing.Printed.{is_plain, printed, shown}
-use Rattle.data.specs.texts.Segments.{Segment, text, place}
-use Rattle.basics.specs.declared.faults.refusal.Refusal.TheVariants as refusals
+use Rattle.values.specs.Data.{Data}
+use Rattle.values.specs.View.{data_of}
+use Rattle.values.specs.printing.Printed.{is_plain, printed, shown}
+use Rattle.values.specs.texts.Segments.{Segment, text, place}
+use Rattle.support.specs.declared.faults.refusal.Refusal.TheVariants as refusals
 use Rattle.world.specs.Plan.{answered, give, next, refuse}
 use Rattle.expressions.specs.Filling.{Puts}
 use Rattle.expressions.specs.Forms.{filled, part_text, printed_plain, variable}

@@ -1,5 +1,5 @@
 use Rattle.std.proofs.Common.{ap, refl}
-use Rattle.grammar.specs.Tree.{file_of, statements}
+use Rattle.syntax.specs.Tree.{file_of, statements}
 use Rattle.expressions.proofs.Assigning.{given_none_grown}
 use Rattle.expressions.proofs.Opening.{given_made}
 use Rattle.expressions.proofs.context.Context.flatten.Goals as goal

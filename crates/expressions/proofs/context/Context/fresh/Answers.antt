@@ -1,5 +1,5 @@
 use Rattle.std.proofs.Common.{ap, option_map, string_bytes, refl, sym, ◌∙◌}
-use Rattle.paths.specs.Paths.{folder_below}
+use Rattle.support.specs.paths.Paths.{folder_below}
 use Rattle.expressions.specs.Folders.{fresh_by}
 use Rattle.expressions.proofs.Evaluating.{given_as, given_none, given_read}
 use Rattle.expressions.proofs.Opening.{given_entered, given_here}

@@ -1,6 +1,6 @@
 use Rattle.std.proofs.Common.{ap, refl, sym, ◌∙◌}
 use Rattle.expressions.specs.Forms.{known_function, refused_name}
-use Rattle.data.specs.language_names.Names.{is_left_out}
+use Rattle.values.specs.language_names.Names.{is_left_out}
 use Rattle.expressions.proofs.Evaluating.{given_as, given_give, given_refuse}
 use Rattle.expressions.proofs.context.Context.function_at.Goals as goal
 

@@ -1,5 +1,5 @@
 use Rattle.std.proofs.Common.{ap, map, refl, sym, ◌∙◌}
-use Rattle.data.specs.View.{data_of}
+use Rattle.values.specs.View.{data_of}
 use Rattle.world.specs.Operation.{of_operation}
 use Rattle.world.specs.Plan.{refuse}
 use Rattle.expressions.specs.Details.{method_detail}

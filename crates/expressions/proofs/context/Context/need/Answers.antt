@@ -1,5 +1,5 @@
 use Rattle.std.proofs.Common.{option_map, ap, refl, sym}
-use Rattle.data.specs.View.{data_of}
+use Rattle.values.specs.View.{data_of}
 use Rattle.expressions.specs.Forms.{needed}
 use Rattle.expressions.proofs.Evaluating.{given_as, given_give, given_refuse, given_same}
 use Rattle.expressions.proofs.context.Context.need.Goals as goal

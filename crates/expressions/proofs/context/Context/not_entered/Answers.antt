@@ -4,7 +4,7 @@ use Rattle.std.specs.List.{list_any}
 use Rattle.std.proofs.lemmas.Bool.{lt-ltb, le-ltb}
 use Rattle.arguments.specs.Rules.{broken}
 use Rattle.arguments.specs.declared.rule.Rule.TheVariants as rules
-use Rattle.basics.specs.declared.faults.refusal.Refusal.TheVariants as refusals
+use Rattle.support.specs.declared.faults.refusal.Refusal.TheVariants as refusals
 use Rattle.expressions.proofs.Evaluating.{given_give}
 use Rattle.expressions.proofs.Opening.{given_lack, given_need}
 use Rattle.expressions.proofs.context.Context.not_entered.Goals as goal

@@ -1,6 +1,6 @@
 use Rattle.std.proofs.Common.{◌≡◌, length, option_map, is_some, ap, refl, sym, ◌∙◌}
 use Rattle.ports.specs.Tree.{file_at}
-use Rattle.basics.specs.declared.faults.refusal.Refusal.TheVariants as refusals
+use Rattle.support.specs.declared.faults.refusal.Refusal.TheVariants as refusals
 use Rattle.world.specs.Costs.{definition_file}
 use Rattle.world.specs.Deed.{refuse}
 use Rattle.world.specs.Plan.{deed}

@@ -1,5 +1,5 @@
 use Rattle.std.proofs.Common.{ap, refl, sym, ◌∙◌}
-use Rattle.data.specs.View.{data_of}
+use Rattle.values.specs.View.{data_of}
 use Rattle.expressions.specs.Assignments.{own_by}
 use Rattle.expressions.proofs.Evaluating.{given_as, given_give, given_same}
 use Rattle.expressions.proofs.context.Context.own.Goals as goal

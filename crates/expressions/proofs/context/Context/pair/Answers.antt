@@ -1,5 +1,5 @@
 use Rattle.std.proofs.Common.{[], ap, refl, sym}
-use Rattle.basics.specs.declared.faults.refusal.Refusal.TheVariants as refusals
+use Rattle.support.specs.declared.faults.refusal.Refusal.TheVariants as refusals
 use Rattle.world.specs.Plan.{refuse}
 use Rattle.expressions.specs.Details.{key_twice}
 use Rattle.expressions.specs.Forms.{paired_by}

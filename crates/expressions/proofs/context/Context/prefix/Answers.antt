@@ -1,6 +1,6 @@
 use Rattle.std.proofs.Common.{subst}
-use Rattle.data.specs.Tables.{Answers}
-use Rattle.data.specs.View.{data_of}
+use Rattle.values.specs.Tables.{Answers}
+use Rattle.values.specs.View.{data_of}
 use Rattle.operations.specs.operators.Operations.{unary_answer}
 use Rattle.expressions.proofs.context.Context.prefix.Goals as goal
 

@@ -4,7 +4,7 @@ use Rattle.ports.specs.Tree.{bytes_at, file_at}
 use Rattle.world.specs.Plan.{deed}
 use Rattle.world.proofs.Holding.{holds_later}
 use Rattle.world.specs.DefinitionFiles.{most_bytes, spelled_by}
-use Rattle.expressions.proofs.Evaluating.{given_as, given_none}
+use Rattle.expressions.proofs.Evaluating.{given_as}
 use Rattle.expressions.proofs.Opening.{given_over, given_short, given_within}
 use Rattle.expressions.proofs.context.Context.read.Goals as goal
 
@@ -12,12 +12,9 @@ pub returns-then-size-gt-MOST_BYTES-clause-gives : goal.returns-then-size-gt-MOS
 returns-then-size-gt-MOST_BYTES-clause-gives g c = λ files bytes h at size.
     given_over bytes (subst (λ n. most_bytes < n) size c.if-size-gt-MOST_BYTES.true) h c.line-line.ensures c.refuse.ensures
 
-pub returns-in_err-keep_room-clause-gives : goal.returns-in_err-keep_room-clause-gives
-returns-in_err-keep_room-clause-gives g c = λ files bytes h at size. given_none h c.from_residual.ensures.1
-
 pub returns-in_err-bytes-clause-gives : goal.returns-in_err-bytes-clause-gives
 returns-in_err-bytes-clause-gives g c = λ files bytes h at size.
-    given_short c.in_err-bytes.field-0.0 (holds_later c.in_err-bytes.ensures.stays h) c.in_err-bytes.ensures.no_fault c.from_residual-in_err-bytes.ensures.1 refl
+    given_short c.in_err-bytes.field-0.0 (holds_later c.in_err-bytes.ensures.stays h) c.in_err-bytes.ensures.no_fault c.from_residual.ensures.1 refl
 
 pub returns-clause-gives : goal.returns-clause-gives
 returns-clause-gives g c = λ files bytes h at size.

@@ -1,7 +1,7 @@
 use Rattle.std.proofs.Common.{◌≡◌, true, refl, ap, sym, ◌∙◌}
-use Rattle.data.specs.Data.{Data, object, is_disabler}
-use Rattle.data.specs.declared.object.Object.TheVariants as TheObject
-use Rattle.data.specs.View.{data_of}
+use Rattle.values.specs.Data.{Data, object, is_disabler}
+use Rattle.values.specs.declared.object.Object.TheVariants as TheObject
+use Rattle.values.specs.View.{data_of}
 use Rattle.operations.specs.operators.Operations.{disabler}
 use Rattle.expressions.specs.Forms.{unchosen}
 use Rattle.expressions.proofs.Evaluating.{given_as, given_give, given_refuse}

@@ -1,7 +1,7 @@
 use Rattle.std.proofs.Common.{List, ℕ, ap, subst, ◌∙◌}
 use Rattle.arguments.specs.Rules.{broken}
 use Rattle.arguments.specs.declared.rule.Rule.TheVariants as rules
-use Rattle.basics.specs.declared.faults.refusal.Refusal.TheVariants as refusals
+use Rattle.support.specs.declared.faults.refusal.Refusal.TheVariants as refusals
 use Rattle.world.specs.Answering.{Refuses}
 use Rattle.world.proofs.Ruling.{refuses_none}
 use Rattle.expressions.specs.Contexts.{fault_on}

@@ -1,6 +1,6 @@
 use Rattle.std.proofs.Common.{List, Some, map, ap, refl}
-use Rattle.data.specs.View.{data_of}
-use Rattle.data.specs.declared.value.Value.{Value}
+use Rattle.values.specs.View.{data_of}
+use Rattle.values.specs.declared.value.Value.{Value}
 use Rattle.world.specs.Plan.{give, next}
 use Rattle.expressions.specs.Forms.{method_answered}
 use Rattle.expressions.proofs.Evaluating.{given_as, given_give, given_stop, given_then}

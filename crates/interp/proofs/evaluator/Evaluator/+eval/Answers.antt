@@ -1,8 +1,8 @@
 use Rattle.std.proofs.Common.{ℕ, suc, ◌+◌, ◌≤◌, max, Bool, List, [], ◌∷◌, drop, map, get_or, Option, Err, Some, option_map, refl, sym, ap}
 use Rattle.std.proofs.Common.{◌∙◌, arith, rules}
-use Rattle.grammar.specs.ExpressionTree.{ListTree, DictionaryTree, FunctionTree, PostfixTree, ChainTree, expressions, entries, arguments}
-use Rattle.grammar.specs.ExpressionTree.{links, operands}
-use Rattle.grammar.specs.declared.tree.Operator.TheVariants as flatop
+use Rattle.syntax.specs.ExpressionTree.{ListTree, DictionaryTree, FunctionTree, PostfixTree, ChainTree, expressions, entries, arguments}
+use Rattle.syntax.specs.ExpressionTree.{links, operands}
+use Rattle.syntax.specs.declared.tree.Operator.TheVariants as flatop
 use Rattle.code.specs.declared.node.Node.TheVariants as flat
 use Rattle.code.specs.declared.node.EntryNode.{EntryNode}
 use Rattle.code.specs.declared.node.ArgumentNode.{ArgumentNode}
@@ -10,9 +10,9 @@ use Rattle.code.specs.declared.node.CallNode.{CallNode}
 use Rattle.code.specs.declared.node.OperandNode.{OperandNode}
 use Rattle.code.specs.declared.node.LinkNode.{LinkNode}
 use Rattle.code.specs.Nodes.{tree_at, entry_at, argument_at, operand_at, link_at, operand_within, link_within}
-use Rattle.data.specs.Data.{Data, Items, is_disabler}
-use Rattle.data.specs.View.{data_of, items_of}
-use Rattle.data.proofs.ItemsLemmas.{items_of-append}
+use Rattle.values.specs.Data.{Data, Items, is_disabler}
+use Rattle.values.specs.View.{data_of, items_of}
+use Rattle.values.proofs.ItemsLemmas.{items_of-append}
 use Rattle.operations.specs.operators.Literal.{pairs_of}
 use Rattle.arguments.specs.Arguments.{arguments_data, no_arguments}
 use Rattle.world.specs.Plan.{ruled, next}

@@ -1,8 +1,8 @@
 use Rattle.std.proofs.Common.{◌≡◌, suc, ◌+◌, ◌*◌, max, List, Some, drop, map, option_map}
-use Rattle.grammar.specs.ExpressionTree.{ExpressionTree, ListTree, DictionaryTree, ChainTree, expressions, entries, arguments, links}
-use Rattle.grammar.specs.ExpressionTree.{operands}
+use Rattle.syntax.specs.ExpressionTree.{ExpressionTree, ListTree, DictionaryTree, ChainTree, expressions, entries, arguments, links}
+use Rattle.syntax.specs.ExpressionTree.{operands}
 use Rattle.code.specs.Nodes.{tree_at, entry_at, argument_at, operand_at, link_at}
-use Rattle.data.specs.View.{data_of, items_of}
+use Rattle.values.specs.View.{data_of, items_of}
 use Rattle.operations.specs.operators.Literal.{pairs_of}
 use Rattle.arguments.specs.Arguments.{arguments_data, no_arguments}
 use Rattle.world.specs.Deed.{Files}

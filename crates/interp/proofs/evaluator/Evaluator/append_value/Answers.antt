@@ -1,5 +1,5 @@
 use Rattle.std.proofs.Common.{Err, ap, refl}
-use Rattle.data.specs.View.{data_of}
+use Rattle.values.specs.View.{data_of}
 use Rattle.expressions.specs.Assignments.{summed}
 use Rattle.expressions.proofs.Assigning.{name_stays}
 use Rattle.interp.proofs.Coming.{comes_given, comes_halt, comes_last, comes_stop, comes_then}

@@ -1,5 +1,5 @@
 use Rattle.std.proofs.Common.{ap, refl, ◌∙◌}
-use Rattle.data.specs.View.{data_of}
+use Rattle.values.specs.View.{data_of}
 use Rattle.expressions.specs.Assignments.{assigned}
 use Rattle.interp.proofs.Coming.{comes_given, comes_halt, comes_stop, comes_then}
 use Rattle.expressions.proofs.Evaluating.{given_as, given_give, given_then}

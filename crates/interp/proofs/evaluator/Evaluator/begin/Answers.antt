@@ -10,7 +10,7 @@ use Rattle.code.specs.declared.node.IfNode.{IfNode}
 use Rattle.code.specs.declared.node.StatementNode.{StatementNode}
 use Rattle.code.specs.declared.node.StatementNode.TheVariants as flat
 use Rattle.code.proofs.Trees.{both_true, less}
-use Rattle.grammar.specs.Tree.{StatementTree, branches}
+use Rattle.syntax.specs.Tree.{StatementTree, branches}
 use Rattle.world.specs.Plan.{next, ruled}
 use Rattle.interp.specs.Bounds.{bounds}
 use Rattle.expressions.specs.Codes.{block_by, expressions_by, statements_by}

@@ -1,7 +1,7 @@
 use Rattle.std.proofs.Common.{ℕ, List, Ok, map, sym, ap, refl, ◌∙◌}
 use Rattle.code.specs.Statements.{branch_at}
 use Rattle.code.specs.declared.code.Code.{Code}
-use Rattle.grammar.specs.Tree.{branches}
+use Rattle.syntax.specs.Tree.{branches}
 use Rattle.interp.specs.Bounds.{bounds}
 use Rattle.expressions.specs.Codes.{block_by, expressions_by, statements_by}
 use Rattle.interp.specs.Blocks.{statements_of}

@@ -2,7 +2,7 @@ use Rattle.std.proofs.Common.{Err, IsTrue, refl, sym, ap, subst, ◌∙◌}
 use Rattle.std.specs.Prelude.{nat_lt}
 use Rattle.code.specs.Statements.{name_at, second_within}
 use Rattle.code.specs.declared.code.Code.{Code}
-use Rattle.data.specs.View.{data_of}
+use Rattle.values.specs.View.{data_of}
 use Rattle.interp.specs.Bounds.{bounds}
 use Rattle.expressions.specs.Codes.{expressions_by}
 use Rattle.interp.specs.Frames.{behind_all, round_by}

@@ -1,6 +1,6 @@
 use Rattle.std.proofs.Common.{ℕ, List, map, sym, ap, refl, ◌∙◌}
 use Rattle.code.specs.Statements.{branch_at}
-use Rattle.grammar.specs.Tree.{branches}
+use Rattle.syntax.specs.Tree.{branches}
 use Rattle.expressions.specs.Codes.{block_by, expressions_by, statements_by}
 use Rattle.interp.specs.Folders.{folder}
 use Rattle.interp.specs.Frames.{part_done}

@@ -1,7 +1,7 @@
 use Rattle.std.proofs.Common.{◌+◌, List, drop, map, length, sym, ap, refl, ◌∙◌, rules, arith}
 use Rattle.code.specs.Statements.{branch_at, statement_at}
 use Rattle.code.specs.declared.node.BranchNode.{BranchNode}
-use Rattle.grammar.specs.Tree.{Branches, branches, statements}
+use Rattle.syntax.specs.Tree.{Branches, branches, statements}
 use Rattle.interp.specs.Statements.{by_choice, branches_of, do_all}
 use Rattle.interp.specs.Folders.{folder}
 use Rattle.interp.specs.Frames.{part_done}

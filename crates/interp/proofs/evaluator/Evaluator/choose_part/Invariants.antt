@@ -1,7 +1,7 @@
 use Rattle.std.proofs.Common.{◌≡◌, List, drop, map}
 use Rattle.code.specs.Statements.{branch_at}
-use Rattle.grammar.specs.ExpressionTree.{ExpressionTree}
-use Rattle.grammar.specs.Tree.{StatementTree, Statements, branches}
+use Rattle.syntax.specs.ExpressionTree.{ExpressionTree}
+use Rattle.syntax.specs.Tree.{StatementTree, Statements, branches}
 use Rattle.world.specs.Deed.{Files}
 use Rattle.world.specs.Gives.{Holds}
 use Rattle.interp.specs.Bounds.{Bounds}

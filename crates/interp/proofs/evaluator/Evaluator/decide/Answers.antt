@@ -1,6 +1,6 @@
 use Rattle.std.proofs.Common.{ℕ, Option, Ok, [], refl, sym, ap, ◌∙◌}
-use Rattle.data.specs.Data.{Data}
-use Rattle.basics.specs.declared.faults.refusal.Refusal.{Refusal}
+use Rattle.values.specs.Data.{Data}
+use Rattle.support.specs.declared.faults.refusal.Refusal.{Refusal}
 use Rattle.operations.specs.operators.Logic.{LeftAnswers, left_answer}
 use Rattle.operations.specs.declared.operators.logic.Left.{Left}
 use Rattle.operations.specs.declared.operators.logic.Left.TheVariants.{Decides, Open}

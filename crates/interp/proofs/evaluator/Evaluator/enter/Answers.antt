@@ -1,5 +1,5 @@
 use Rattle.std.proofs.Common.{subst, ◌≡◌, ℕ, suc, ◌-◌, List, [], ◌∷◌, ◌++◌, sym, ap, refl, ◌∙◌, string_bytes, arith}
-use Rattle.basics.specs.declared.faults.refusal.Refusal.TheVariants as refusals
+use Rattle.support.specs.declared.faults.refusal.Refusal.TheVariants as refusals
 use Rattle.world.specs.Answering.{Refuses}
 use Rattle.world.specs.Plan.{next}
 use Rattle.expressions.specs.Codes.{file_by}

@@ -2,7 +2,7 @@ use Rattle.std.proofs.Common.{◌≤◌, suc, max, List, length, map, Some, sym,
 use Rattle.code.specs.Nodes.{link_at, link_within, tree_at}
 use Rattle.code.specs.declared.node.LinkNode.{LinkNode}
 use Rattle.code.specs.declared.node.Node.TheVariants as nodes
-use Rattle.grammar.specs.ExpressionTree.{links}
+use Rattle.syntax.specs.ExpressionTree.{links}
 use Rattle.interp.specs.Expressions.{given_by, links_of, value_of}
 use Rattle.world.specs.Plan.{next, ruled}
 use Rattle.interp.specs.Parts.{above, above_link}

@@ -2,7 +2,7 @@ use Rattle.std.proofs.Common.{Ok, Err, IsTrue, drop, sym, ap, subst, refl, â—Œâˆ
 use Rattle.std.specs.Prelude.{nat_lt}
 use Rattle.code.specs.Statements.{second_within}
 use Rattle.code.specs.declared.code.Code.{Code}
-use Rattle.data.specs.View.{data_of}
+use Rattle.values.specs.View.{data_of}
 use Rattle.interp.specs.Bounds.{bounds}
 use Rattle.interp.specs.Frames.{behind_all, parts_by, round_by, rounds_left, walk_left}
 use Rattle.interp.specs.Statements.{rounds_of}

@@ -1,7 +1,7 @@
 use Rattle.std.proofs.Common.{[], ap, sym, refl, ◌∙◌}
 use Rattle.arguments.specs.Arguments.{arguments_data}
-use Rattle.data.specs.Data.{Data}
-use Rattle.basics.specs.declared.faults.refusal.Refusal.TheVariants as refusals
+use Rattle.values.specs.Data.{Data}
+use Rattle.support.specs.declared.faults.refusal.Refusal.TheVariants as refusals
 use Rattle.world.specs.Plan.{next, refuse}
 use Rattle.interp.specs.Acting.{way_view}
 use Rattle.interp.specs.Entering.{by_way}

@@ -1,7 +1,7 @@
 use Rattle.std.proofs.Common.{Bor, option_map, false, ap, refl, sym, ◌∙◌}
-use Rattle.data.specs.Data.{object_in}
-use Rattle.data.specs.View.{data_of}
-use Rattle.data.specs.declared.object.Object.{Object}
+use Rattle.values.specs.Data.{object_in}
+use Rattle.values.specs.View.{data_of}
+use Rattle.values.specs.declared.object.Object.{Object}
 use Rattle.interp.specs.Expressions.{method_at_by}
 use Rattle.expressions.proofs.Evaluating.{given_as, given_give}
 use Rattle.interp.proofs.evaluator.Evaluator.method_at.Goals as goal

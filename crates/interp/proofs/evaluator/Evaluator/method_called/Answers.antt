@@ -1,8 +1,8 @@
 use Rattle.std.proofs.Common.{Bor, option_map, false, Some, ap, sym, ◌∙◌}
 use Rattle.arguments.specs.Arguments.{arguments_data}
-use Rattle.data.specs.Data.{object_in}
-use Rattle.data.specs.View.{data_of}
-use Rattle.data.specs.declared.object.Object.{Object}
+use Rattle.values.specs.Data.{object_in}
+use Rattle.values.specs.View.{data_of}
+use Rattle.values.specs.declared.object.Object.{Object}
 use Rattle.interp.specs.Expressions.{method_by, method_called_by}
 use Rattle.expressions.proofs.Evaluating.{given_as, given_give, given_none}
 use Rattle.interp.proofs.evaluator.Evaluator.method_called.Goals as goal

@@ -8,7 +8,7 @@ use Rattle.code.specs.declared.node.IfNode.{IfNode}
 use Rattle.code.specs.declared.node.StatementNode.{StatementNode}
 use Rattle.code.specs.declared.node.StatementNode.TheVariants as flat
 use Rattle.code.proofs.Trees.{both_true, less}
-use Rattle.grammar.specs.Tree.{StatementTree, branches}
+use Rattle.syntax.specs.Tree.{StatementTree, branches}
 use Rattle.expressions.specs.Codes.{block_by, expressions_by, statements_by}
 use Rattle.interp.specs.Blocks.{branch_or, part_of}
 use Rattle.interp.specs.Folders.{folder}

@@ -3,8 +3,8 @@ use Rattle.std.specs.Prelude.{nat_lt}
 use Rattle.code.specs.Nodes.{tree_at}
 use Rattle.code.specs.declared.node.StatementNode.TheVariants as flat
 use Rattle.code.proofs.Trees.{both_true, less}
-use Rattle.data.specs.Data.{Data}
-use Rattle.grammar.specs.Tree.{StatementTree}
+use Rattle.values.specs.Data.{Data}
+use Rattle.syntax.specs.Tree.{StatementTree}
 use Rattle.world.specs.Plan.{give, next, ruled}
 use Rattle.expressions.specs.Assignments.{appended, assigned, own}
 use Rattle.expressions.specs.Codes.{expressions_by}

@@ -3,7 +3,7 @@ use Rattle.code.specs.Nodes.{argument_at}
 use Rattle.code.specs.declared.node.ArgumentNode.{ArgumentNode}
 use Rattle.code.specs.declared.node.CallNode.{CallNode}
 use Rattle.code.specs.declared.node.Node.TheVariants as nodes
-use Rattle.grammar.specs.ExpressionTree.{ExpressionTree, arguments}
+use Rattle.syntax.specs.ExpressionTree.{ExpressionTree, arguments}
 use Rattle.world.specs.Plan.{give, next}
 use Rattle.interp.specs.Bounds.{bounds}
 use Rattle.interp.specs.Acting.{performed, way_view}

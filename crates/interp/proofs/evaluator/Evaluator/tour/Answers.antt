@@ -1,5 +1,5 @@
 use Rattle.std.proofs.Common.{◌+◌, drop, ap, sym, refl, arith, rules, ◌∙◌}
-use Rattle.data.specs.View.{data_of}
+use Rattle.values.specs.View.{data_of}
 use Rattle.expressions.specs.Rounds.{rounds_in}
 use Rattle.expressions.proofs.Evaluating.{given_give, given_none, given_rule, leads_as, leads_end, leads_on, leads_start}
 use Rattle.interp.specs.Frames.{parts_by, round_by}

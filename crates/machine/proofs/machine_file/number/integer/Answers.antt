@@ -1,5 +1,5 @@
 use Rattle.std.proofs.Common.{◌∙◌, sym, arith}
-use Rattle.lexer.specs.Numerals.{magnitude}
+use Rattle.syntax.specs.lexer.Numerals.{magnitude}
 use Rattle.machine.proofs.Ranges.{past_64}
 use Rattle.machine.proofs.machine_file.number.integer.Goals as goal
 

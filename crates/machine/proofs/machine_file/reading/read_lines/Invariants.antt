@@ -1,5 +1,5 @@
 use Rattle.std.proofs.Common.{◌≡◌, Some, false, is_some, string_bytes, length, drop}
-use Rattle.basics.specs.Maps.{get_by_text}
+use Rattle.support.specs.Maps.{get_by_text}
 use Rattle.machine.specs.machine_file.Files.{said_from, nothing_said}
 use Rattle.machine.specs.machine_file.Lines.{file_lines}
 use Rattle.machine.specs.machine_file.View.{said_by}

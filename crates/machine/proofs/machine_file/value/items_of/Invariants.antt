@@ -1,5 +1,5 @@
 use Rattle.std.proofs.Common.{◌≡◌, length}
-use Rattle.lexer.specs.Lexeme.{lexemes}
+use Rattle.syntax.specs.lexer.Lexeme.{lexemes}
 use Rattle.machine.specs.machine_file.Values.{items_of}
 use Rattle.machine.proofs.Items.{found}
 use Rattle.machine.proofs.machine_file.value.items_of.Given as goal

@@ -1,5 +1,5 @@
 use Rattle.std.proofs.Common.{◌≡◌, ℕ, List, take}
-use Rattle.basics.specs.Among.{is_among}
+use Rattle.support.specs.Among.{is_among}
 use Rattle.machine.specs.option_values.View.{strings_in}
 use Rattle.machine.proofs.option_values.choices.set_of.Given as goal
 

@@ -1,7 +1,7 @@
 use Rattle.std.proofs.Common.{rules, tests, ◌∙◌, string_bytes}
 use Rattle.std.proofs.lemmas.Iterator.{YieldsList-from_slice}
 use Rattle.std.proofs.lemmas.Iterator.Search.{all_from_yields_List}
-use Rattle.basics.specs.Among.{is_among}
+use Rattle.support.specs.Among.{is_among}
 use Rattle.machine.specs.option_values.View.{texts_of}
 use Rattle.machine.proofs.OptionValuesItems.{all_items}
 use Rattle.machine.proofs.option_values.list.all_among.Goals as goal

@@ -5,7 +5,7 @@ use Rattle.std.proofs.lemmas.Iterator.Consumers.{YieldsList-at, YieldsList-turn,
 use Rattle.std.proofs.lemmas.Iterator.Splits.{YieldsList-from_str_split}
 use Rattle.std.proofs.lemmas.List.{append-nil, at_drop_all, length_push}
 use Rattle.std.proofs.lemmas.Bool.Decides.{nat_tests}
-use Rattle.lexer.specs.Bytes.{comma}
+use Rattle.syntax.specs.lexer.Bytes.{comma}
 use Rattle.machine.specs.option_values.Lists.{without_spaces}
 use Rattle.machine.specs.option_values.View.{strings_in}
 use Rattle.machine.proofs.OptionValuesItems.{parts_more, parts_of-some}

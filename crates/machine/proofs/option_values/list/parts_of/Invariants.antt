@@ -1,7 +1,7 @@
 use Rattle.std.proofs.Common.{◌≡◌, ◌++◌, drop, length, map}
 use Rattle.std.specs.Prelude.{◌==◌}
 use Rattle.std.specs.List.{slice_split}
-use Rattle.lexer.specs.Bytes.{comma}
+use Rattle.syntax.specs.lexer.Bytes.{comma}
 use Rattle.machine.specs.option_values.Lists.{without_spaces}
 use Rattle.machine.specs.option_values.View.{strings_in}
 use Rattle.machine.proofs.option_values.list.parts_of.Given as goal

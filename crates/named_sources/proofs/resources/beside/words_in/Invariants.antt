@@ -1,5 +1,5 @@
 use Rattle.std.proofs.Common.{◌≡◌, map, take}
-use Rattle.data.specs.View.{data_of}
+use Rattle.values.specs.View.{data_of}
 use Rattle.machine.specs.machine_file.View.{strings_in}
 use Rattle.named_sources.specs.resources.Beside.{words_in}
 use Rattle.named_sources.proofs.resources.beside.words_in.Given as goal

@@ -1,11 +1,11 @@
 use Rattle.std.proofs.Common.{◌≡◌, ℕ, ◌+◌, ◌<◌, ◌≤◌, List, ◌++◌, length, drop, get_or, map, OnOk, refl, sym, ap, subst, ◌∙◌}
 use Rattle.std.proofs.Common.{append-nil, append_assoc, arith}
 use Rattle.std.proofs.lemmas.List.{at_drop_all, at_drop_more}
-use Rattle.data.specs.Weight.{weight}
-use Rattle.data.specs.View.{data_of, items_of}
-use Rattle.data.specs.declared.object.Dependency.{Dependency}
-use Rattle.data.specs.declared.value.Value.{Value}
-use Rattle.data.proofs.ItemsLemmas.{weight-le-items_weight}
+use Rattle.values.specs.Weight.{weight}
+use Rattle.values.specs.View.{data_of, items_of}
+use Rattle.values.specs.declared.object.Dependency.{Dependency}
+use Rattle.values.specs.declared.value.Value.{Value}
+use Rattle.values.proofs.ItemsLemmas.{weight-le-items_weight}
 use Rattle.named_sources.specs.resources.Joined.{dependencies_in, dependencies_of}
 use Rattle.named_sources.proofs.resources.joining.+collect.Goals as goal
 

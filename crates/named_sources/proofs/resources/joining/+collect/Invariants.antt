@@ -1,6 +1,6 @@
 use Rattle.std.proofs.Common.{◌≡◌, ◌+◌, ◌*◌, ◌++◌, map, drop}
-use Rattle.data.specs.View.{data_of, items_of}
-use Rattle.data.specs.Weight.{weight, items_weight}
+use Rattle.values.specs.View.{data_of, items_of}
+use Rattle.values.specs.Weight.{weight, items_weight}
 use Rattle.named_sources.specs.resources.Joined.{dependencies_of}
 use Rattle.named_sources.proofs.resources.joining.+collect.Given as goal
 

@@ -1,5 +1,5 @@
 use Rattle.std.proofs.Common.{◌≡◌, [], drop}
-use Rattle.data.specs.View.{items_of}
+use Rattle.values.specs.View.{items_of}
 use Rattle.named_sources.specs.resources.Testing.{assigned_behind}
 use Rattle.named_sources.specs.resources.TestingView.{strings_of}
 use Rattle.named_sources.proofs.resources.testing.assign.Given as goal

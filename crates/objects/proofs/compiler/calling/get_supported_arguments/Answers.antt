@@ -1,6 +1,6 @@
 use Rattle.std.proofs.Common.{map, ap, refl, ◌∙◌}
-use Rattle.data.specs.Data.{no_items}
-use Rattle.data.specs.View.{data_of}
+use Rattle.values.specs.Data.{no_items}
+use Rattle.values.specs.View.{data_of}
 use Rattle.world.proofs.Answering.{carries_as, carries_give, carries_none, carries_stop, carries_then, carries_value}
 use Rattle.objects.specs.CompilerMethods.{get_supported_arguments, supported}
 use Rattle.objects.proofs.compiler.calling.get_supported_arguments.Goals as goal

@@ -1,9 +1,9 @@
 use Rattle.std.proofs.Common.{◌≡◌, Some, true, false, refl, sym, ap, ◌∙◌}
 use Rattle.std.specs.Prelude.{if◌then◌else◌}
 use Rattle.arguments.specs.Given.{text_or_none}
-use Rattle.data.specs.Data.{item, items_append, no_items}
-use Rattle.data.specs.View.{data_of, items_of}
-use Rattle.data.proofs.ItemsLemmas.{items_append_none, items_of-push}
+use Rattle.values.specs.Data.{item, items_append, no_items}
+use Rattle.values.specs.View.{data_of, items_of}
+use Rattle.values.proofs.ItemsLemmas.{items_append_none, items_of-push}
 use Rattle.machine.specs.machine_file.Questions.{answer_to}
 use Rattle.machine.specs.machine_file.View.{machine_in}
 use Rattle.objects.specs.CompilerSaid.{argument_topic, is_true}

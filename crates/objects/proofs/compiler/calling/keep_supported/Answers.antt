@@ -1,8 +1,8 @@
 use Rattle.std.proofs.Common.{◌+◌, Bor, Some, map, ap, refl, sym, ◌∙◌}
 use Rattle.arguments.specs.Given.{text_or_none}
-use Rattle.data.specs.Data.{items_append}
-use Rattle.data.specs.View.{data_of, items_of}
-use Rattle.data.specs.declared.value.Value.{Value}
+use Rattle.values.specs.Data.{items_append}
+use Rattle.values.specs.View.{data_of, items_of}
+use Rattle.values.specs.declared.value.Value.{Value}
 use Rattle.machine.specs.machine_file.Questions.{answer_to}
 use Rattle.world.proofs.Answering.{carries_give, carries_none, carries_then}
 use Rattle.world.proofs.Leading.{leads_start, leads_on, leads_end, leads_stop, leads_as}

@@ -1,6 +1,6 @@
 use Rattle.std.proofs.Common.{map, drop}
-use Rattle.data.specs.Data.{no_items}
-use Rattle.data.specs.View.{data_of, items_of}
+use Rattle.values.specs.Data.{no_items}
+use Rattle.values.specs.View.{data_of, items_of}
 use Rattle.world.specs.Answering.{Leads}
 use Rattle.world.specs.Caller.{state_of}
 use Rattle.objects.specs.CompilerMethods.{supported}

@@ -1,5 +1,5 @@
 use Rattle.std.proofs.Common.{Some, map, ap, ◌∙◌}
-use Rattle.data.specs.Data.{integer}
+use Rattle.values.specs.Data.{integer}
 use Rattle.arguments.specs.Arguments.{arguments_data}
 use Rattle.machine.specs.machine_file.Questions.{answer_to, check_topic}
 use Rattle.world.proofs.Answering.{carries_give, carries_none, carries_stop, carries_then}

@@ -1,5 +1,5 @@
 use Rattle.std.proofs.Common.{◌≡◌, [], false, drop}
-use Rattle.data.specs.View.{items_of}
+use Rattle.values.specs.View.{items_of}
 use Rattle.objects.specs.configuration_calls.Contents.{all_set}
 use Rattle.objects.proofs.configuration_calls.contents.all_set.Given as goal
 

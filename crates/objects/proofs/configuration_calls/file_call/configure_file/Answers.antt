@@ -1,7 +1,7 @@
 use Rattle.std.proofs.Common.{[], ap, ◌∙◌}
 use Rattle.arguments.specs.declared.rule.Rule.TheVariants as rules
-use Rattle.basics.specs.declared.faults.refusal.Refusal.TheVariants as refusals
-use Rattle.paths.specs.Names.{is_file_name}
+use Rattle.support.specs.declared.faults.refusal.Refusal.TheVariants as refusals
+use Rattle.support.specs.paths.Names.{is_file_name}
 use Rattle.world.specs.Deed.{need}
 use Rattle.world.specs.Ruled.{obeyed}
 use Rattle.world.proofs.Values.{two}

@@ -1,5 +1,5 @@
 use Rattle.std.proofs.Common.{option_map, ap, ◌∙◌}
-use Rattle.paths.specs.Paths.{path_in}
+use Rattle.support.specs.paths.Paths.{path_in}
 use Rattle.world.specs.Deed.{Files}
 use Rattle.world.specs.Making.{taken, written}
 use Rattle.world.proofs.Acting.{acts_as, room_after}

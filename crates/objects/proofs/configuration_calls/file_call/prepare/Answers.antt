@@ -1,5 +1,5 @@
 use Rattle.std.proofs.Common.{refl, ap, ◌∙◌}
-use Rattle.data.specs.Limits.{within_bytes}
+use Rattle.values.specs.Limits.{within_bytes}
 use Rattle.world.proofs.Answering.{carries_answered, carries_give, carries_none, carries_stop, carries_then}
 use Rattle.world.specs.Store.{world_of}
 use Rattle.world.proofs.Values.{views_same}

@@ -1,5 +1,5 @@
 use Rattle.std.proofs.Common.{Some, is_some, ap, ◌∙◌}
-use Rattle.data.specs.Data.{boolean}
+use Rattle.values.specs.Data.{boolean}
 use Rattle.template.specs.ConfigData.{content_of}
 use Rattle.world.proofs.Answering.{carries_give, carries_read, carries_stop, carries_then}
 use Rattle.objects.specs.configuration_calls.Methods.{has}

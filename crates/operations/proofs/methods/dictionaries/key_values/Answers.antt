@@ -1,8 +1,8 @@
 use Rattle.std.proofs.Common.{◌≡◌, ◌+◌, ◌∷◌, map, drop, sym, ap, ◌∙◌}
 use Rattle.std.proofs.lemmas.List.{drop_all}
-use Rattle.data.specs.Data.{text, item, no_items, items_append}
-use Rattle.data.specs.View.{items_of}
-use Rattle.data.proofs.ItemsLemmas.{items_of-append, items_append_none}
+use Rattle.values.specs.Data.{text, item, no_items, items_append}
+use Rattle.values.specs.View.{items_of}
+use Rattle.values.proofs.ItemsLemmas.{items_of-append, items_append_none}
 use Rattle.operations.specs.methods.TextLists.{texts}
 use Rattle.operations.proofs.TextListLemmas.{next_text, appended}
 use Rattle.operations.proofs.methods.dictionaries.key_values.Goals as goal

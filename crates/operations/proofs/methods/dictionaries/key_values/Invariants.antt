@@ -1,6 +1,6 @@
 use Rattle.std.proofs.Common.{◌≡◌, map, drop}
-use Rattle.data.specs.Data.{items_append}
-use Rattle.data.specs.View.{items_of}
+use Rattle.values.specs.Data.{items_append}
+use Rattle.values.specs.View.{items_of}
 use Rattle.operations.specs.methods.TextLists.{texts}
 use Rattle.operations.proofs.methods.dictionaries.key_values.Given as goal
 

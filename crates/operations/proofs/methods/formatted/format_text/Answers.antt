@@ -1,7 +1,7 @@
 use Rattle.std.proofs.Common.{map, sym, ap, ◌∙◌}
 use Rattle.std.specs.List.{list_all}
-use Rattle.data.specs.View.{data_of}
-use Rattle.data.specs.texts.Segments.{segment_data}
+use Rattle.values.specs.View.{data_of}
+use Rattle.values.specs.texts.Segments.{segment_data}
 use Rattle.operations.specs.methods.Formatted.{has_value}
 use Rattle.operations.proofs.FormattedLemmas.{formatted_refused, formatted_absent, formatted_made, formatted_long}
 use Rattle.operations.proofs.methods.formatted.format_text.Goals as goal

@@ -1,7 +1,7 @@
 use Rattle.std.proofs.Common.{◌≡◌, ◌≤◌, ◌++◌, map, drop, length}
 use Rattle.std.specs.List.{flat_map}
-use Rattle.data.specs.View.{data_of}
-use Rattle.data.specs.texts.Segments.{segment_data}
+use Rattle.values.specs.View.{data_of}
+use Rattle.values.specs.texts.Segments.{segment_data}
 use Rattle.operations.specs.methods.Formatted.{filled}
 use Rattle.operations.proofs.methods.formatted.write_segments.Given as goal
 

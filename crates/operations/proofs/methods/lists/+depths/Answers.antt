@@ -1,7 +1,7 @@
 use Rattle.std.proofs.Common.{ap, arith}
-use Rattle.data.specs.Weight.{weight}
-use Rattle.data.specs.View.{data_of}
-use Rattle.data.proofs.ItemsLemmas.{weight-le-items_weight}
+use Rattle.values.specs.Weight.{weight}
+use Rattle.values.specs.View.{data_of}
+use Rattle.values.proofs.ItemsLemmas.{weight-le-items_weight}
 use Rattle.operations.proofs.methods.lists.+depths.Goals as goal
 
 pub stands_in-stands_inside-requires : goal.stands_in-stands_inside-requires

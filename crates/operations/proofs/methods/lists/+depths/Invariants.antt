@@ -1,6 +1,6 @@
 use Rattle.std.proofs.Common.{◌≡◌, ◌+◌, ◌*◌, drop}
-use Rattle.data.specs.View.{data_of, items_of}
-use Rattle.data.specs.Weight.{weight, items_weight}
+use Rattle.values.specs.View.{data_of, items_of}
+use Rattle.values.specs.Weight.{weight, items_weight}
 use Rattle.operations.specs.methods.Lists.{stands_in}
 use Rattle.operations.proofs.methods.lists.+depths.Given as goal
 

@@ -1,5 +1,5 @@
 use Rattle.std.proofs.Common.{sym, ap, ◌∙◌, Ok}
-use Rattle.data.specs.View.{items_of}
+use Rattle.values.specs.View.{items_of}
 use Rattle.operations.proofs.LimitLemmas.{list_within, list_past}
 use Rattle.operations.proofs.operators.literal.list.Goals as goal
 

@@ -1,6 +1,6 @@
 use Rattle.std.proofs.Common.{◌≡◌, ◌*◌, ◌≤◌, ◌^◌, length, drop}
-use Rattle.data.specs.Data.{no_entries}
-use Rattle.data.specs.Weight.{entries_weight}
+use Rattle.values.specs.Data.{no_entries}
+use Rattle.values.specs.Weight.{entries_weight}
 use Rattle.operations.specs.operators.Literal.{with_entries, pairs_of}
 use Rattle.operations.proofs.operators.literal.put_entries.Given as goal
 

@@ -1,7 +1,7 @@
 use Rattle.std.proofs.Common.{ap, arith}
-use Rattle.data.specs.Weight.{entries_weight}
-use Rattle.data.specs.View.{data_of}
-use Rattle.data.proofs.BuilderLemmas.{weight_put-le}
+use Rattle.values.specs.Weight.{entries_weight}
+use Rattle.values.specs.View.{data_of}
+use Rattle.values.proofs.BuilderLemmas.{weight_put-le}
 use Rattle.operations.proofs.operators.literal.put_entry.Goals as goal
 
 pub returns-clause-light : goal.returns-clause-light

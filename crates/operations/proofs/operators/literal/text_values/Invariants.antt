@@ -1,6 +1,6 @@
 use Rattle.std.proofs.Common.{◌≡◌, map, drop}
-use Rattle.data.specs.Data.{no_items}
-use Rattle.data.specs.View.{items_of}
+use Rattle.values.specs.Data.{no_items}
+use Rattle.values.specs.View.{items_of}
 use Rattle.operations.specs.operators.TextLists.{texts_behind}
 use Rattle.operations.proofs.operators.literal.text_values.Given as goal
 

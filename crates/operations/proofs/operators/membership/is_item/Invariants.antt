@@ -1,5 +1,5 @@
 use Rattle.std.proofs.Common.{◌≡◌, drop}
-use Rattle.data.specs.View.{data_of, items_of}
+use Rattle.values.specs.View.{data_of, items_of}
 use Rattle.operations.specs.operators.Rows.{is_item}
 use Rattle.operations.proofs.operators.membership.is_item.Given as goal
 

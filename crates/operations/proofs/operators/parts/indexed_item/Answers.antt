@@ -1,8 +1,8 @@
 use Rattle.std.proofs.Common.{◌≡◌, Some, option_and_then, sym, ap, ◌∙◌}
 use Rattle.std.specs.Int.{w128}
 use Rattle.std.proofs.lemmas.Int.{to_z-of_z}
-use Rattle.data.specs.Data.{count}
-use Rattle.data.proofs.EntriesLemmas.{copied}
+use Rattle.values.specs.Data.{count}
+use Rattle.values.proofs.EntriesLemmas.{copied}
 use Rattle.operations.specs.operators.Index.{item_at, place}
 use Rattle.operations.proofs.PartLemmas.{item_at-items_of}
 use Rattle.operations.proofs.operators.parts.indexed_item.Goals as goal

@@ -1,5 +1,5 @@
 use Rattle.std.proofs.Common.{◌≡◌, [], map, drop}
-use Rattle.grammar.specs.ExpressionTree.{argument_of}
+use Rattle.syntax.specs.ExpressionTree.{argument_of}
 use Rattle.machine.specs.option_values.View.{strings_in}
 use Rattle.options.specs.option_file.Calls.{first_twice}
 use Rattle.options.proofs.option_file.call.first_twice.Given as goal

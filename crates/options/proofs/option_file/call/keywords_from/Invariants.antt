@@ -1,5 +1,5 @@
 use Rattle.std.proofs.Common.{◌≡◌, drop}
-use Rattle.grammar.specs.ExpressionTree.{argument_trees}
+use Rattle.syntax.specs.ExpressionTree.{argument_trees}
 use Rattle.options.specs.option_file.Calls.{keywords_from}
 use Rattle.options.specs.option_file.Keywords.{nothing_given}
 use Rattle.options.specs.option_file.KeywordsView.{keywords_in}

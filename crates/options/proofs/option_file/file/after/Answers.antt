@@ -1,5 +1,5 @@
 use Rattle.std.proofs.Common.{ℕ, List, ◌∙◌, sym, ap}
-use Rattle.grammar.specs.Tree.{statement_of}
+use Rattle.syntax.specs.Tree.{statement_of}
 use Rattle.options.specs.option_file.Lookups.{is_used}
 use Rattle.options.specs.option_file.View.{call_in, entry_in, options_in}
 use Rattle.options.proofs.NewNames.{declared_new}

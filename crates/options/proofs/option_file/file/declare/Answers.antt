@@ -1,6 +1,6 @@
 use Rattle.std.proofs.Common.{◌∙◌, List, [], map, sym, ap}
-use Rattle.grammar.specs.declared.tree.Statement.{Statement}
-use Rattle.grammar.specs.Tree.{statement_of}
+use Rattle.syntax.specs.declared.tree.Statement.{Statement}
+use Rattle.syntax.specs.Tree.{statement_of}
 use Rattle.options.specs.option_file.Declares.{declares_from}
 use Rattle.options.specs.option_file.MisfitView.{refused_in}
 use Rattle.options.specs.option_file.View.{after_in, options_in}

@@ -1,6 +1,6 @@
 use Rattle.std.proofs.Common.{◌≡◌, IfOk, subst, sym}
-use Rattle.grammar.specs.ExpressionTree.{argument_trees, expression_of}
-use Rattle.grammar.proofs.Views.{call_seen}
+use Rattle.syntax.specs.ExpressionTree.{argument_trees, expression_of}
+use Rattle.syntax.proofs.Views.{call_seen}
 use Rattle.options.specs.option_file.Declares.{function_declares, expression_declares}
 use Rattle.options.specs.option_file.View.{call_in}
 use Rattle.options.proofs.option_file.file.expression_declares.Goals as goal

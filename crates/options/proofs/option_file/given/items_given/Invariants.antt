@@ -1,5 +1,5 @@
 use Rattle.std.proofs.Common.{◌≡◌, drop, map}
-use Rattle.grammar.specs.ExpressionTree.{expression_of, expressions}
+use Rattle.syntax.specs.ExpressionTree.{expression_of, expressions}
 use Rattle.options.specs.option_file.Given.{items_given}
 use Rattle.options.proofs.Items.{found}
 use Rattle.options.proofs.option_file.given.items_given.Given as goal

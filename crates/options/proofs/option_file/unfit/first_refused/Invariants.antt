@@ -1,5 +1,5 @@
 use Rattle.std.proofs.Common.{◌≡◌, map, drop}
-use Rattle.grammar.specs.ExpressionTree.{argument_of}
+use Rattle.syntax.specs.ExpressionTree.{argument_of}
 use Rattle.options.specs.option_file.Unfit.{first_refused}
 use Rattle.options.proofs.option_file.unfit.first_refused.Given as goal
 

@@ -1,4 +1,4 @@
-use Rattle.basics.specs.View.{fault_view}
+use Rattle.support.specs.View.{fault_view}
 use Rattle.outputs.proofs.Ends.{agrees_fault, device_fault}
 use Rattle.outputs.proofs.build_file.concluding.refuse.Goals as goal
 

@@ -1,5 +1,5 @@
 use Rattle.outputs.proofs.FaultLines.{line_steps-faults}
-use Rattle.basics.specs.View.{fault_view}
+use Rattle.support.specs.View.{fault_view}
 use Rattle.outputs.proofs.build_file.fault.write_fault.Goals as goal
 
 pub returns : goal.returns

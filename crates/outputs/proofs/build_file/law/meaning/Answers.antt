@@ -1,5 +1,5 @@
-use Rattle.project.specs.World.{edges_in}
-use Rattle.outputs.specs.build_file.BuildFile.{default_outputs}
+use Rattle.build.specs.project.World.{edges_in}
+use Rattle.ninja.specs.Defaults.{default_outputs}
 use Rattle.outputs.proofs.DefaultPaths.{defaults_are_paths}
 use Rattle.outputs.proofs.FileEdges.{once_with_all, defaults_held, all_before, no_circle_read}
 use Rattle.outputs.proofs.build_file.law.meaning.Goals as goal

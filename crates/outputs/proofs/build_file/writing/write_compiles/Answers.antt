@@ -2,22 +2,22 @@ use Rattle.std.proofs.Common.{◌≡◌, ◌<◌, List, length, get_or, subst, a
 use Rattle.std.proofs.lemmas.Grind.{common_steps}
 use Rattle.ports.proofs.Sending.{writes_next}
 use Rattle.ports.specs.Outputs.{puts}
-use Rattle.targets.specs.declared.sources.Input.{Input}
-use Rattle.outputs.specs.ninja.Writing.{edge_text}
+use Rattle.build.specs.declared.sources.Input.{Input}
+use Rattle.ninja.specs.Writing.{edge_text}
 use Rattle.outputs.proofs.Stopping.{writes_ends_at}
 use Rattle.outputs.proofs.TargetTexts.{edge_for, first_held}
 use Rattle.outputs.proofs.build_file.writing.write_compiles.Goals as goal
 
 pub write_compile-requires-clause-first : goal.write_compile-requires-clause-first
 write_compile-requires-clause-first g c =
-    let p = c.args.from.now.parts.now in
+    let p = c.args.parts.now in
     let i = c.loop-input.input-index in
     let within : i < length p.inputs.items = subst (λ (xs : List Input). i < length xs) c.deref-input-items.ensures.value c.loop-input-test.true in
     first_held p.words.items p.inputs.items i within p.first
 
 pub returns-in_err-write_compile : goal.returns-in_err-write_compile
 returns-in_err-write_compile g c =
-    let p = c.args.from.now.parts.now in
+    let p = c.args.parts.now in
     let i = c.loop-input.input-index in
     let one = c.input-item.result in
     let within : i < length p.inputs.items = subst (λ (xs : List Input). i < length xs) c.deref-input-items.ensures.value c.loop-input-test.true in
@@ -27,7 +27,7 @@ returns-in_err-write_compile g c =
 
 pub loop-input-preserved : goal.loop-input-preserved
 loop-input-preserved g c =
-    let p = c.args.from.now.parts.now in
+    let p = c.args.parts.now in
     let i = c.loop-input.input-index in
     let one = c.input-item.result in
     let within : i < length p.inputs.items = subst (λ (xs : List Input). i < length xs) c.deref-input-items.ensures.value c.loop-input-test.true in

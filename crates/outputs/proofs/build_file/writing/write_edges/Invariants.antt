@@ -2,8 +2,8 @@ use Rattle.std.proofs.Common.{take}
 use Rattle.std.specs.List.{flat_map}
 use Rattle.ports.specs.Endings.{Whole}
 use Rattle.ports.specs.Outputs.{Writes, puts}
-use Rattle.targets.specs.edge.View.{edge_view}
-use Rattle.outputs.specs.ninja.Writing.{edge_text}
+use Rattle.build.specs.edge.View.{edge_view}
+use Rattle.ninja.specs.Writing.{edge_text}
 use Rattle.outputs.proofs.build_file.writing.write_edges.Given as goal
 
 abbrev pub invariant-loop-edge : goal.invariant-loop-edge

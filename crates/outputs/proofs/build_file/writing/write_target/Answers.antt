@@ -1,9 +1,10 @@
 use Rattle.ports.specs.Outputs.{puts}
-use Rattle.outputs.specs.ninja.Writing.{edges_text}
-use Rattle.targets.specs.target_edges.PartsView.{parts_edges}
+use Rattle.ninja.specs.Writing.{edges_text}
+use Rattle.build.specs.target_edges.PartsView.{parts_edges}
 use Rattle.outputs.specs.build_file.Parts.{target_steps}
 use Rattle.outputs.proofs.TargetTexts.{target_is}
-use Rattle.outputs.proofs.Stopping.{writes_over, writes_wants}
+use Rattle.ninja.proofs.Puts.{writes_over}
+use Rattle.outputs.proofs.Stopping.{writes_wants}
 use Rattle.outputs.proofs.build_file.writing.write_target.Goals as goal
 
 pub returns-in_err-parts : goal.returns-in_err-parts

@@ -1,6 +1,6 @@
 use Rattle.std.proofs.Common.{length, string_bytes, refl, ap, subst, ◌∙◌}
 use Rattle.std.specs.Prelude.{option_map}
-use Rattle.basics.specs.declared.faults.refusal.Refusal.TheVariants as refusals
+use Rattle.support.specs.declared.faults.refusal.Refusal.TheVariants as refusals
 use Rattle.ports.specs.Tree.{file_at}
 use Rattle.world.specs.Answering.{Refuses}
 use Rattle.world.specs.Deed.{required}

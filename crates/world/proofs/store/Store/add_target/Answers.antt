@@ -1,8 +1,8 @@
 use Rattle.std.proofs.Common.{◌≡◌, ap, subst, IfOk}
-use Rattle.project.specs.Adding.{after_target, target_answer}
-use Rattle.project.specs.Refused.{answer_data}
-use Rattle.project.specs.World.{WorldData}
-use Rattle.targets.specs.View.{target_view}
+use Rattle.build.specs.project.Adding.{after_target, target_answer}
+use Rattle.build.specs.project.Refused.{answer_data}
+use Rattle.build.specs.project.World.{WorldData}
+use Rattle.build.specs.View.{target_view}
 use Rattle.world.specs.World.{declaring}
 use Rattle.world.specs.Store.{Kept, changing, world_of}
 use Rattle.world.specs.contracts.store.Store.{the_view}

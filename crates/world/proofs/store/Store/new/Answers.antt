@@ -1,6 +1,6 @@
 use Rattle.std.proofs.Common.{refl, ap, ◌∙◌}
 use Rattle.machine.specs.machine_file.View.{machine_in}
-use Rattle.project.specs.World.{new_world}
+use Rattle.build.specs.project.World.{new_world}
 use Rattle.world.specs.AskedView.{all_asked_in}
 use Rattle.world.specs.SettingsView.{settings_view}
 use Rattle.world.proofs.Setting.{world_first}

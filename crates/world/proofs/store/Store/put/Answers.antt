@@ -1,5 +1,5 @@
 use Rattle.std.proofs.Common.{◌<◌, length, [], get_or, Some, ap, arith, subst, sym, ◌∙◌}
-use Rattle.data.specs.View.{data_of}
+use Rattle.values.specs.View.{data_of}
 use Rattle.world.specs.Store.{changing, world_of}
 use Rattle.world.specs.World.{with_variable}
 use Rattle.world.proofs.Setting.{slots_within, variables_at, world_with}

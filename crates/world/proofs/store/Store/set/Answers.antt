@@ -2,7 +2,7 @@ use Rattle.std.proofs.Common.{Some, ap, sym, subst, ◌∙◌, arith}
 use Rattle.std.proofs.lemmas.Grind.{common_steps}
 use Rattle.code.specs.Draft.{IsFront}
 use Rattle.code.proofs.NameLists.{begins_with_name}
-use Rattle.data.specs.View.{data_of}
+use Rattle.values.specs.View.{data_of}
 use Rattle.world.specs.Store.{changing, world_of}
 use Rattle.world.specs.World.{with_variable}
 use Rattle.world.proofs.Setting.{slots_fit, variables_set, world_with}

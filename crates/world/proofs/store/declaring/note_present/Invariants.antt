@@ -1,6 +1,6 @@
 use Rattle.std.proofs.Common.{◌≡◌, drop}
-use Rattle.targets.specs.edge.Texts.{put_all_new, texts}
-use Rattle.project.specs.World.{WorldData}
+use Rattle.build.specs.edge.Texts.{put_all_new, texts}
+use Rattle.build.specs.project.World.{WorldData}
 use Rattle.world.proofs.store.declaring.note_present.Given as goal
 
 -- what was noted and what is left are all

@@ -1,4 +1,0 @@
-mod Hashed
-mod Keys
-mod Names
-mod Pairs

@@ -1,8 +1,0 @@
-pub mod Limits
-pub mod Among
-pub mod Texts
-pub mod Faults
-pub mod View
-pub mod Sets
-pub mod Maps
-pub mod Places

@@ -1,0 +1,31 @@
+pub mod ListLemmas
+pub mod InputLists
+pub mod KeptLast
+pub mod FirstNumber
+mod Examples
+pub mod Marking
+pub mod LinkedLists
+pub mod Walking
+pub mod PathTexts
+pub mod TextLists
+pub mod Held
+pub mod WayTexts
+pub mod Joining
+pub mod Sharing
+pub mod Holding
+pub mod HoldingCustom
+pub mod HoldingWords
+pub mod HoldingFile
+mod TargetEdgesExamples
+pub mod PathLists
+pub mod SourceTests
+pub mod EdgeOrder
+pub mod Earlier
+pub mod NextMade
+pub mod NextInside
+pub mod Placing
+pub mod Answering
+pub mod NoCycle
+pub mod Reading
+pub mod Arguments
+pub mod InOrder

@@ -1,0 +1,7 @@
+-- Inputs without where they lie in memory.
+use Rattle.std.specs.Prelude.{string_bytes}
+use Rattle.build.specs.Sources.{InputData}
+use Rattle.build.specs.declared.sources.Input.{Input}
+
+abbrev pub input_view : Input → InputData
+input_view i = record { path = string_bytes i.path; name = string_bytes i.name }

@@ -1,0 +1,12 @@
+pub mod Data
+pub mod View
+pub mod Sources
+pub mod Inputs
+pub mod Files
+pub mod Libraries
+pub mod Marks
+pub mod LinkedViews
+pub mod Walk
+pub mod edge
+pub mod target_edges
+pub mod project

@@ -1,0 +1,51 @@
+-- What Ninja's text can hold. What it can't has no escape.
+use Rattle.std.specs.Prelude.{ℕ, Bool, true, false, ◌==◌, nat_le, ◌||◌, ◌&&◌, not, List, [], ◌∷◌, Option, Some, None}
+use Rattle.std.specs.List.{list_all}
+use Rattle.build.specs.edge.Texts.{Path, Text}
+use Rattle.build.specs.edge.Data.{EdgeData}
+
+-- no control character, no `#`, no `|`
+abbrev pub path_byte_held : ℕ → Bool
+path_byte_held b = nat_le 32 b && not ((b == 127) || ((b == 35) || (b == 124)))
+
+abbrev pub path_held : Path → Bool
+path_held path = list_all path_byte_held path
+
+-- no zero, newline or carriage return
+abbrev pub value_byte_held : ℕ → Bool
+value_byte_held b = not ((b == 0) || ((b == 10) || (b == 13)))
+
+abbrev pub value_held : Text → Bool
+value_held text = list_all value_byte_held text
+
+-- a path that isn't empty, which Ninja can hold
+abbrev pub is_path : Path → Bool
+is_path [] = false
+is_path (b ∷ bs) = path_held (b ∷ bs)
+
+abbrev pub is_some_list : List Text → Bool
+is_some_list [] = false
+is_some_list (t ∷ ts) = true
+
+abbrev pub value_held_if : Option Text → Bool
+value_held_if None = true
+value_held_if (Some value) = value_held value
+
+-- the edge makes something by a command, and its paths are such
+abbrev pub paths_writable : EdgeData → Bool
+paths_writable e =
+    is_some_list e.outputs
+    && (list_all is_path e.outputs && (list_all is_path e.inputs && (list_all is_path e.implicit && list_all is_path e.order_only)))
+
+-- its words, where its output goes, its description and its depfile can be held as values
+abbrev pub values_writable : EdgeData → Bool
+values_writable e =
+    is_some_list e.words
+    && (list_all value_held e.words && (value_held_if e.redirect && (value_held e.description && value_held_if e.depfile)))
+
+-- `build.ninja` can hold the edge
+abbrev pub is_writable : EdgeData → Bool
+is_writable e = paths_writable e && values_writable e
+
+abbrev pub are_writable : List EdgeData → Bool
+are_writable edges = list_all is_writable edges

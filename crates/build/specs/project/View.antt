@@ -1,0 +1,45 @@
+-- What a project holds, without where it lies in memory.
+use Rattle.std.specs.Prelude.{List, map, string_bytes}
+use Rattle.build.specs.edge.Texts.{Path, texts}
+use Rattle.build.specs.Data.{SurroundingsData}
+use Rattle.build.specs.Libraries.{LinkedData}
+use Rattle.build.specs.project.World.{WorldData, AnswerData, InstallData, TestData}
+use Rattle.build.specs.declared.project.notes.Answer.{Answer}
+use Rattle.build.specs.declared.project.notes.Install.{Install}
+use Rattle.build.specs.declared.project.notes.Test.{Test}
+
+abbrev pub answer_view : Answer → AnswerData
+answer_view a = record { name = string_bytes a.name; version = string_bytes a.version; is_found = a.is_found }
+
+abbrev pub install_view : Install → InstallData
+install_view i = record { source = string_bytes i.source; destination = string_bytes i.destination }
+
+abbrev pub test_view : Test → TestData
+test_view t = record {
+  name = string_bytes t.name;
+  command = texts t.command.items;
+  environment = texts t.environment.items;
+  suites = texts t.suites.items;
+  should_fail = t.should_fail;
+  timeout = t.timeout;
+}
+
+-- the paths that were looked at, and what was noted
+pub record NotesData : Type 0 where
+  pub present : List Path
+  pub absent : List Path
+  pub dependencies : List AnswerData
+  pub installs : List InstallData
+  pub tests : List TestData
+
+abbrev pub world_of : SurroundingsData → List LinkedData → (outputs : List Path) → NotesData → WorldData
+world_of s ls outputs notes = record {
+  surroundings = s;
+  targets = map (λ l. l.target) ls;
+  outputs = outputs;
+  present = notes.present;
+  absent = notes.absent;
+  dependencies = notes.dependencies;
+  installs = notes.installs;
+  tests = notes.tests;
+}

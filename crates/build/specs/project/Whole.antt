@@ -1,0 +1,45 @@
+-- How a project keeps what it holds.
+use Rattle.std.specs.Prelude.{◌≡◌, true, List, [], ◌++◌, map, String}
+use Rattle.std.specs.Global.{Global}
+use Rattle.build.specs.edge.Texts.{Path, holds}
+use Rattle.build.specs.edge.Holding.{are_writable}
+use Rattle.build.specs.Data.{SurroundingsData, TargetData}
+use Rattle.build.specs.Libraries.{LinkedData, linked, linked_of}
+use Rattle.build.specs.target_edges.Edges.{all_edges, edges_of}
+use Rattle.build.specs.project.Laws.{outputs_of, AtMostOnce, all_made, all_inside}
+use Rattle.build.specs.project.World.{taken_of, known_of}
+use Rattle.build.specs.project.Earlier.{refers_back, all_refer_back}
+
+-- the same paths, in any order
+abbrev pub SamePaths : List Path → List Path → Type 0
+SamePaths xs ys = (p : Path) → holds p xs ≡ holds p ys
+
+-- the second list is the first and more
+pub record IsFront (old new : List (String Global)) : Type 0 where
+  pub more : List (String Global)
+  pub is : new ≡ old ++ more
+
+abbrev pub targets_in : List LinkedData → List TargetData
+targets_in ls = map (λ l. l.target) ls
+
+-- The targets are linked as the definition says, the set has the paths that are taken, none is taken twice, each path that an edge needs
+-- is there before it, no edge makes anything outside the build folder, Ninja can hold each edge, and each target refers to earlier ones.
+pub record IsWhole (s : SurroundingsData) (ls : List LinkedData) (outputs present kept : List Path) : Type 0 where
+  pub libraries : ls ≡ linked_of (targets_in ls)
+  pub paths : SamePaths kept (taken_of s (targets_in ls) outputs)
+  pub once : AtMostOnce (taken_of s (targets_in ls) outputs)
+  pub made : all_made (known_of s outputs present) (all_edges s (targets_in ls)) ≡ true
+  pub inside : all_inside (outputs_of (all_edges s (targets_in ls))) ≡ true
+  pub outputs_inside : all_inside outputs ≡ true
+  pub writable : are_writable (all_edges s (targets_in ls)) ≡ true
+  pub back : all_refer_back s outputs [] (targets_in ls) ≡ true
+
+-- a target that fits behind these, with its edges
+pub record IsNext (s : SurroundingsData) (ts : List TargetData) (outputs present : List Path) (l : LinkedData)
+    (paths : List Path) : Type 0 where
+  pub libraries : l ≡ linked (linked_of ts) l.target
+  pub paths_are : paths ≡ outputs_of (edges_of s (linked_of ts) l)
+  pub made : all_made (known_of s outputs present ++ outputs_of (all_edges s ts)) (edges_of s (linked_of ts) l) ≡ true
+  pub inside : all_inside (outputs_of (edges_of s (linked_of ts) l)) ≡ true
+  pub writable : are_writable (edges_of s (linked_of ts) l) ≡ true
+  pub back : refers_back s outputs ts l.target ≡ true

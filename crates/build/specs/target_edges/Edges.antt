@@ -1,0 +1,144 @@
+-- The edges of a target, from the targets before it.
+--
+-- An executable: each C source is compiled to an object, then the objects and libraries are linked to its file. A static library: the
+-- objects are put into an archive. A shared library: it is linked, and where it has a number, symbolic links lead to its file. A custom
+-- target is one edge.
+use Rattle.std.specs.Prelude.{ℕ, List, [], ◌∷◌, ◌++◌, map, flat_map, codes, Option, Some, None, if◌then◌else◌}
+use Rattle.build.specs.edge.Texts.{Path, Text}
+use Rattle.build.specs.edge.Paths.{object_path}
+use Rattle.build.specs.edge.Data.{EdgeData}
+use Rattle.build.specs.declared.edge.rule.Rule.{Rule}
+use Rattle.build.specs.declared.edge.rule.Rule.TheVariants as rule
+use Rattle.build.specs.Data.{SurroundingsData, BuildData, CustomData, TargetData, Build, Custom}
+use Rattle.build.specs.Sources.{InputData, compiled, generated, source_paths}
+use Rattle.build.specs.Files.{file_name, file_path, link_paths, object_paths, output_paths, depfile_path, is_static}
+use Rattle.build.specs.Libraries.{LinkedData, linked}
+use Rattle.build.specs.target_edges.Words.{compile_words, link_words, library_files}
+
+-- ---- compiling
+
+-- the words of a compile command that differ from source to source
+abbrev pub source_words : (object depfile source : Path) → List Text
+source_words object depfile source =
+    codes "-MD" ∷ codes "-MQ" ∷ object ∷ codes "-MF" ∷ depfile ∷ codes "-o" ∷ object ∷ codes "-c" ∷ source ∷ []
+
+-- the compiler writes into `OBJ.d` which headers it has read
+abbrev pub compiling : (words : List Text) (generated : List Path) (object source : Path) → EdgeData
+compiling words generated object source = record {
+  rule = rule.CCompile;
+  outputs = object ∷ [];
+  inputs = source ∷ [];
+  implicit = [];
+  order_only = generated;
+  words = words ++ source_words object (object ++ codes ".d") source;
+  redirect = None;
+  description = codes "Compiling C object " ++ object;
+  depfile = Some (object ++ codes ".d");
+}
+
+-- the edge of an input, of the target whose file this is
+abbrev pub compile_edge : (words : List Text) (generated : List Path) (file : Path) → InputData → EdgeData
+compile_edge words generated file i = compiling words generated (object_path file i.name) i.path
+
+abbrev pub compile_edges : SurroundingsData → BuildData → List EdgeData
+compile_edges s t = map (compile_edge (compile_words s t) (generated t) (file_path t)) (compiled s.facts.depth t)
+
+-- ---- the file
+
+abbrev pub archiving : (archiver : List Text) (file : Path) (objects : List Path) → EdgeData
+archiving archiver file objects = record {
+  rule = rule.Ar;
+  outputs = file ∷ [];
+  inputs = objects;
+  implicit = [];
+  order_only = [];
+  words = archiver ++ (codes "csr" ∷ file ∷ objects);
+  redirect = None;
+  description = codes "Archiving " ++ file;
+  depfile = None;
+}
+
+abbrev pub linking : (words : List Text) (file : Path) (objects libraries : List Path) → EdgeData
+linking words file objects libraries = record {
+  rule = rule.CLink;
+  outputs = file ∷ [];
+  inputs = objects;
+  implicit = libraries;
+  order_only = [];
+  words = words;
+  redirect = None;
+  description = codes "Linking target " ++ file;
+  depfile = None;
+}
+
+-- the edge that makes the target's file of its objects
+abbrev pub file_edge : SurroundingsData → List LinkedData → List ℕ → BuildData → (file : Path) (objects : List Path) → EdgeData
+file_edge s earlier ns t file objects =
+    if is_static t.kind then archiving s.facts.archiver file objects
+    else linking (link_words s earlier ns t file objects) file objects (library_files earlier ns)
+
+-- ---- symbolic links
+
+abbrev pub naming : (file : Path) (name : Text) (link : Path) → EdgeData
+naming file name link = record {
+  rule = rule.Symlink;
+  outputs = link ∷ [];
+  inputs = file ∷ [];
+  implicit = [];
+  order_only = [];
+  words = codes "ln" ∷ codes "-f" ∷ codes "-s" ∷ name ∷ link ∷ [];
+  redirect = None;
+  description = codes "Linking name " ++ link;
+  depfile = None;
+}
+
+abbrev pub link_edges : BuildData → List EdgeData
+link_edges t = map (naming (file_path t) (file_name t)) (link_paths t)
+
+-- ---- custom targets
+
+abbrev pub first_of : List Path → Option Path
+first_of [] = None
+first_of (p ∷ ps) = Some p
+
+abbrev pub custom_rule : Option Text → Rule
+custom_rule None = rule.Custom
+custom_rule (Some depfile) = rule.CustomDep
+
+abbrev pub and_path : Path → Text
+and_path path = codes " " ++ path
+
+abbrev pub custom_edge : ℕ → CustomData → EdgeData
+custom_edge depth t = record {
+  rule = custom_rule t.depfile;
+  outputs = output_paths t;
+  inputs = flat_map (source_paths depth) t.inputs;
+  implicit = flat_map (source_paths depth) t.needs;
+  order_only = [];
+  words = t.words;
+  redirect = if t.captures then first_of (output_paths t) else None;
+  description = codes "Generating" ++ flat_map and_path (output_paths t);
+  depfile = depfile_path t;
+}
+
+-- ---- all of them
+
+-- the edges of a build target that links these libraries, by their numbers
+abbrev pub build_edges : SurroundingsData → List LinkedData → List ℕ → BuildData → List EdgeData
+build_edges s earlier ns t = compile_edges s t ++ (file_edge s earlier ns t (file_path t) (object_paths s.facts.depth t) ∷ link_edges t)
+
+abbrev pub target_edges : SurroundingsData → List LinkedData → List ℕ → TargetData → List EdgeData
+target_edges s earlier ns (Build t) = build_edges s earlier ns t
+target_edges s earlier ns (Custom t) = custom_edge s.facts.depth t ∷ []
+
+-- the edges of a target that stands behind these
+abbrev pub edges_of : SurroundingsData → List LinkedData → LinkedData → List EdgeData
+edges_of s earlier l = target_edges s earlier l.libraries l.target
+
+abbrev pub edges_after : SurroundingsData → List LinkedData → List TargetData → List EdgeData
+edges_after s earlier [] = []
+edges_after s earlier (t ∷ ts) = edges_of s earlier (linked earlier t) ++ edges_after s (earlier ++ linked earlier t ∷ []) ts
+
+-- the edges of all targets, in the order of their declaration
+abbrev pub all_edges : SurroundingsData → List TargetData → List EdgeData
+all_edges s ts = edges_after s [] ts

@@ -1,0 +1,33 @@
+-- The edges of which a target's parts are.
+use Rattle.std.specs.Prelude.{List, [], ◌∷◌, ◌++◌, map, option_map, string_bytes}
+use Rattle.build.specs.edge.Data.{EdgeData}
+use Rattle.build.specs.edge.Texts.{texts}
+use Rattle.build.specs.edge.View.{edge_view}
+use Rattle.build.specs.Inputs.{input_view}
+use Rattle.build.specs.target_edges.Parts.{joined_edge}
+use Rattle.build.specs.declared.target_edges.parts.BuildParts.{BuildParts}
+use Rattle.build.specs.declared.target_edges.parts.CustomParts.{CustomParts}
+use Rattle.build.specs.declared.target_edges.parts.TargetParts.{TargetParts}
+use Rattle.build.specs.declared.target_edges.parts.TargetParts.TheVariants.{Build, Custom}
+
+abbrev pub build_parts_edges : BuildParts → List EdgeData
+build_parts_edges p =
+    map (joined_edge (texts p.words.items) (texts p.generated.items) (string_bytes p.file)) (map input_view p.inputs.items)
+    ++ map edge_view p.rest.items
+
+abbrev pub custom_parts_edge : CustomParts → EdgeData
+custom_parts_edge p = record {
+  rule = p.rule;
+  outputs = texts p.outputs.now;
+  inputs = texts p.inputs.items;
+  implicit = texts p.needs.items;
+  order_only = [];
+  words = texts p.words.now;
+  redirect = option_map (λ t. t.now) p.redirect;
+  description = string_bytes p.description;
+  depfile = option_map string_bytes p.depfile;
+}
+
+abbrev pub parts_edges : TargetParts → List EdgeData
+parts_edges (Build p) = build_parts_edges p
+parts_edges (Custom p) = custom_parts_edge p ∷ []

@@ -1,0 +1,15 @@
+//! A project: its targets, what else was declared, and the edges that make it.
+
+mod claims;
+mod fitting;
+mod notes;
+mod project;
+mod refusal;
+mod unheld;
+
+pub use notes::{Answer, Install, Test};
+pub use project::{
+    Project, edges, edges_are_writable, edges_stand_in_order, needs_are_made, no_circle,
+    outputs_differ, parts, targets_refer_back,
+};
+pub use refusal::{Refusal, Refused};

@@ -1,0 +1,77 @@
+//! The paths that a project makes.
+ghost use Rattle.std.specs.Prelude.{◌≡◌, ◌++◌, IfOk, OnErr, ◌&&◌, not, is_some, None, option_map, if◌then◌else◌};
+ghost use Rattle.build.specs.edge.Texts.{texts};
+ghost use Rattle.build.specs.project.Laws.{first_taken};
+ghost use Rattle.build.specs.project.Whole.{IsFront};
+
+use std::alloc::AllocError;
+use support::tables::SipSet;
+
+// Inserts each path, up to the first that is there, and gives that one.
+fn insert_new<'p>(
+    paths: &mut SipSet<String>,
+    fresh: &'p [String],
+) -> Result<Option<&'p str>, AllocError>
+    ensures tested { IfOk result (λ taken. option_map (λ p. p.now) taken ≡ first_taken (texts paths.old.keys) (texts fresh.now)) }
+    ensures added { IfOk result (λ taken. taken ≡ None → texts paths.new.keys ≡ texts paths.old.keys ++ texts fresh.now) }
+    ensures begins { IsFront paths.old.keys paths.new.keys }
+{
+    for path in fresh {
+        if !paths.insert(path.clone()?)? {
+            return Ok(Some(path.as_str()));
+        }
+    }
+    Ok(None)
+}
+
+// Inserts each path of both lists, up to the first that is there, and gives that one.
+fn insert_both<'p>(
+    paths: &mut SipSet<String>,
+    these: &'p [String],
+    others: &'p [String],
+) -> Result<Option<&'p str>, AllocError>
+    ensures tested { IfOk result (λ taken. option_map (λ p. p.now) taken
+        ≡ first_taken (texts paths.old.keys) (texts these.now ++ texts others.now)) }
+    ensures added { IfOk result (λ taken. taken ≡ None → texts paths.new.keys
+        ≡ texts paths.old.keys ++ (texts these.now ++ texts others.now)) }
+    ensures begins { IsFront paths.old.keys paths.new.keys }
+{
+    match insert_new(paths, these) {
+        Ok(None) => insert_new(paths, others),
+        Ok(Some(path)) => Ok(Some(path)),
+        Err(refused) => Err(refused),
+    }
+}
+
+/// Gives the first of the paths of both lists that is there already or stands twice; and adds all of them, where there is none and they
+/// are to be kept.
+pub fn claim<'p>(
+    paths: &mut SipSet<String>,
+    these: &'p [String],
+    others: &'p [String],
+    keep: bool,
+) -> Result<Option<&'p str>, AllocError>
+    ensures tested { IfOk result (λ taken. option_map (λ p. p.now) taken
+        ≡ first_taken (texts paths.old.keys) (texts these.now ++ texts others.now)) }
+    ensures added { IfOk result (λ taken. texts paths.new.keys
+        ≡ (if not (is_some taken) && keep then texts paths.old.keys ++ (texts these.now ++ texts others.now) else texts paths.old.keys)) }
+    ensures err { OnErr result (paths.new.keys ≡ paths.old.keys) }
+{
+    let mark = paths.len();
+    match insert_both(paths, these, others) {
+        Ok(None) => {
+            if !keep {
+                paths.truncate(mark);
+            }
+            Ok(None)
+        }
+        Ok(Some(path)) => {
+            paths.truncate(mark);
+            Ok(Some(path))
+        }
+        Err(refused) => {
+            paths.truncate(mark);
+            Err(refused)
+        }
+    }
+}

@@ -1,0 +1,105 @@
+//! The edges of a target, in parts.
+ghost use Rattle.std.specs.Prelude.{◌≡◌, ◌∷◌, [], map, IfOk};
+ghost use Rattle.build.specs.edge.Paths.{object_path};
+ghost use Rattle.build.specs.edge.View.{edge_view};
+ghost use Rattle.build.specs.Files.{file_path as path_of};
+ghost use Rattle.build.specs.Inputs.{input_view};
+ghost use Rattle.build.specs.LinkedViews.{linked_views};
+ghost use Rattle.build.specs.View.{surroundings_view, build_view, target_view};
+ghost use Rattle.build.specs.target_edges.Edges.{file_edge, link_edges, build_edges, target_edges};
+ghost use Rattle.build.specs.target_edges.PartsView.{build_parts_edges, parts_edges};
+
+use crate::edge::Edge;
+use crate::target_edges::compiling::front_words;
+use crate::target_edges::custom::custom_parts;
+use crate::target_edges::linking::{Context, file_edge, link_edges};
+use crate::target_edges::parts::{BuildParts, TargetParts};
+use crate::{
+    BuildTarget, Input, Linked, Target, compiled_sources, file_name, file_path, generated_outputs,
+    link_paths, objects,
+};
+use std::alloc::{AllocError, Global};
+
+/// The edges that make the links to the target's file.
+pub fn names(context: &Context, target: &BuildTarget, file: &str) -> Result<Vec<Edge>, AllocError>
+    requires { file.now ≡ path_of (build_view target.now) }
+    ensures { IfOk result (λ v. map edge_view v.items ≡ link_edges (build_view target.now)) }
+{
+    let links = link_paths(context.alloc, target)?;
+    if links.is_empty() {
+        return Ok(Vec::new(context.alloc));
+    }
+    let name = file_name(context.alloc, target)?;
+    link_edges(context.alloc, file, &name, &links)
+}
+
+// The edge that makes the target's file of the objects of these inputs, and those that make the links to it.
+fn file_edges(
+    context: &Context,
+    target: &BuildTarget,
+    file: &str,
+    inputs: &[Input],
+) -> Result<Vec<Edge>, AllocError>
+    requires { file.now ≡ path_of (build_view target.now) }
+    ensures { IfOk result (λ v. map edge_view v.items
+        ≡ file_edge (surroundings_view context.now.surroundings.now)
+        (linked_views context.now.earlier.now) context.now.libraries.now (build_view target.now) file.now
+        (map (λ i. object_path file.now i.name) (map input_view inputs.now)) ∷ link_edges (build_view target.now)) }
+{
+    let objects = objects(context.alloc, file, inputs)?;
+    let mut edges = Vec::new(context.alloc);
+    edges.push(file_edge(context, target, file, objects)?)?;
+    let mut names = names(context, target, file)?;
+    edges.append(&mut names)?;
+    Ok(edges)
+}
+
+fn build_parts(context: &Context, target: &BuildTarget) -> Result<BuildParts, AllocError>
+    ensures { IfOk result (λ p. build_parts_edges p
+        ≡ build_edges (surroundings_view context.now.surroundings.now)
+        (linked_views context.now.earlier.now) context.now.libraries.now (build_view target.now)) }
+{
+    let alloc = context.alloc;
+    let generated = generated_outputs(alloc, target)?;
+    let words = front_words(alloc, context.surroundings, target)?;
+    let file = file_path(alloc, target)?;
+    let inputs = compiled_sources(alloc, context.surroundings.facts.depth, target)?;
+    let rest = file_edges(context, target, &file, &inputs)?;
+    Ok(BuildParts {
+        words,
+        generated,
+        file,
+        inputs,
+        rest,
+    })
+}
+
+/// The parts of no edges.
+pub fn no_parts<'a>(alloc: Global) -> TargetParts<'a>
+    ensures { parts_edges result ≡ [] }
+{
+    TargetParts::Build(BuildParts {
+        words: Vec::new(alloc),
+        generated: Vec::new(alloc),
+        file: String::new(alloc),
+        inputs: Vec::new(alloc),
+        rest: Vec::new(alloc),
+    })
+}
+
+/// The edges of a target: of a build target those that compile its sources, the one that makes its file and those that make symbolic
+/// links to it; of a custom target the one that runs its command.
+pub fn target_parts<'a>(context: &Context, one: &'a Linked) -> Result<TargetParts<'a>, AllocError>
+    ensures { IfOk result (λ p. parts_edges p
+        ≡ target_edges (surroundings_view context.now.surroundings.now)
+        (linked_views context.now.earlier.now) context.now.libraries.now (target_view one.now.target)) }
+{
+    match &one.target {
+        Target::Build(target) => Ok(TargetParts::Build(build_parts(context, target)?)),
+        Target::Custom(target) => {
+            let depth = context.surroundings.facts.depth;
+            let parts = custom_parts(context.alloc, depth, target, &one.paths)?;
+            Ok(TargetParts::Custom(parts))
+        }
+    }
+}

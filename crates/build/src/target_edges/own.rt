@@ -1,0 +1,70 @@
+//! What the compile edge of a source has of its own.
+ghost use Rattle.std.specs.Prelude.{◌≡◌, ◌++◌, map, IfOk, string_bytes, codes};
+ghost use Rattle.build.specs.edge.Own.{own_view};
+ghost use Rattle.build.specs.edge.Paths.{object_path};
+ghost use Rattle.build.specs.target_edges.Parts.{last_words};
+
+use crate::Input;
+use crate::edge::{OwnParts, object_path};
+use crate::target_edges::words::join;
+use std::alloc::{AllocError, Global};
+
+/// The texts of a source's compile edge that no other edge has.
+#[derive(Drop)]
+pub struct SourceTexts {
+    pub object: String,
+    pub depfile: String,
+    pub description: String,
+}
+
+/// The texts of an input, of the target whose file this is.
+pub fn source_texts(alloc: Global, file: &str, input: &Input) -> Result<SourceTexts, AllocError>
+    ensures object { IfOk result (λ t. string_bytes t.object ≡ object_path file.now (string_bytes input.now.name)) }
+    ensures depfile { IfOk result (λ t. string_bytes t.depfile ≡ object_path file.now (string_bytes input.now.name) ++ codes ".d") }
+    ensures description { IfOk result (λ t. string_bytes t.description
+        ≡ codes "Compiling C object " ++ object_path file.now (string_bytes input.now.name)) }
+{
+    let object = object_path(alloc, file, &input.name)?;
+    let depfile = join(alloc, &object, ".d")?;
+    let description = join(alloc, "Compiling C object ", &object)?;
+    Ok(SourceTexts {
+        object,
+        depfile,
+        description,
+    })
+}
+
+/// The words behind those that the compile edges of a target share.
+pub fn last_words<'a>(texts: &'a SourceTexts, source: &'a str) -> [&'a str; 7]
+    ensures { map (λ w. w.now) result ≡ last_words (string_bytes texts.now.object) (string_bytes texts.now.depfile) source.now }
+{
+    let object = texts.object.as_str();
+    [
+        object,
+        "-MF",
+        texts.depfile.as_str(),
+        "-o",
+        object,
+        "-c",
+        source,
+    ]
+}
+
+/// The parts of the edge, with these last words.
+pub fn own_parts<'a>(texts: &'a SourceTexts, source: &'a str, words: &'a [&'a str]) -> OwnParts<'a>
+    ensures { own_view result ≡ record {
+      output = string_bytes texts.now.object;
+      input = source.now;
+      words = map (λ w. w.now) words.now;
+      description = string_bytes texts.now.description;
+      depfile = string_bytes texts.now.depfile;
+    } }
+{
+    OwnParts {
+        output: &texts.object,
+        input: source,
+        words,
+        description: &texts.description,
+        depfile: &texts.depfile,
+    }
+}

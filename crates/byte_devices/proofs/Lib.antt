@@ -1,0 +1,6 @@
+pub mod KeptLast
+pub mod KeptPieces
+pub mod Named
+pub mod SpelledTexts
+pub mod SpelledTree
+pub mod Zeros

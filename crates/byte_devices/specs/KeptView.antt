@@ -1,0 +1,8 @@
+-- Outputs that keep pieces, without where they lie in memory.
+use Rattle.ports.specs.Outputs.{OutputState}
+use Rattle.byte_devices.specs.Kept.{kept_state}
+use Rattle.byte_devices.specs.PiecesView.{pieces_view}
+use Rattle.byte_devices.specs.declared.outputs.KeptOutputs.{KeptOutputs}
+
+abbrev pub kept_seen : KeptOutputs → OutputState
+kept_seen out = kept_state (pieces_view out.pieces.items) out.failures

@@ -1,0 +1,10 @@
+-- Pieces without where they lie in memory.
+use Rattle.std.specs.Prelude.{List, map}
+use Rattle.byte_devices.specs.Pieces.{PieceData, piece}
+use Rattle.byte_devices.specs.declared.piece.Piece.{Piece}
+
+abbrev pub piece_view : Piece → PieceData
+piece_view p = piece p.kind p.bytes.items
+
+abbrev pub pieces_view : List Piece → List PieceData
+pieces_view ps = map piece_view ps

@@ -1,0 +1,75 @@
+//! What outputs keep: pieces of one kind.
+ghost use Rattle.std.specs.Prelude.{◌≡◌, ◌++◌, ◌∷◌, [], OnOk, OnErr, true};
+ghost use Rattle.byte_devices.specs.Pieces.{goes_on, piece, with_bytes};
+ghost use Rattle.byte_devices.specs.PiecesView.{pieces_view};
+
+use std::alloc::{AllocError, Global};
+
+/// What a piece is.
+#[derive(Clone, Copy, Debug, PartialEq, Eq)]
+pub enum Kind {
+    /// An output was begun: the bytes are its name.
+    Open,
+    /// Bytes of the open output.
+    Bytes,
+    /// The open output was ended: there are no bytes.
+    Close,
+    /// Bytes of the log.
+    Log,
+    /// Bytes of a fault's line.
+    Fault,
+}
+
+/// What was written, of one kind.
+#[derive(Drop)]
+pub struct Piece {
+    pub kind: Kind,
+    pub bytes: Vec<u8>,
+}
+
+// Whether bytes of the second kind go on with a piece of the first.
+fn goes_on(kind: Kind, next: Kind) -> bool
+    ensures { result ≡ goes_on kind next }
+{
+    match (kind, next) {
+        (Kind::Bytes, Kind::Bytes) | (Kind::Log, Kind::Log) | (Kind::Fault, Kind::Fault) => true,
+        _ => false,
+    }
+}
+
+// A piece more.
+pub(crate) fn keep_piece(
+    alloc: Global,
+    pieces: &mut Vec<Piece>,
+    kind: Kind,
+    bytes: &[u8],
+) -> Result<(), AllocError>
+    ensures kept { OnOk result (pieces_view pieces.new.items ≡ pieces_view pieces.old.items ++ piece kind bytes.now ∷ []) }
+    ensures same { OnErr result (pieces_view pieces.new.items ≡ pieces_view pieces.old.items) }
+{
+    let bytes = Vec::from_slice(alloc, bytes)?;
+    pieces.push(Piece { kind, bytes })?;
+    Ok(())
+}
+
+// Bytes more of this kind: they go on with the last piece where that is of the kind too.
+pub(crate) fn keep_bytes(
+    alloc: Global,
+    pieces: &mut Vec<Piece>,
+    kind: Kind,
+    bytes: &[u8],
+) -> Result<(), AllocError>
+    requires { goes_on kind kind ≡ true }
+    ensures kept { OnOk result (pieces_view pieces.new.items ≡ with_bytes kind (pieces_view pieces.old.items) bytes.now) }
+    ensures same { OnErr result (pieces_view pieces.new.items ≡ pieces_view pieces.old.items) }
+{
+    if bytes.is_empty() {
+        return Ok(());
+    }
+    let len = pieces.len();
+    if len > 0 && goes_on(pieces[len - 1].kind, kind) {
+        pieces[len - 1].bytes.extend_from_slice(bytes)?;
+        return Ok(());
+    }
+    keep_piece(alloc, pieces, kind, bytes)
+}

@@ -1,9 +1,0 @@
-use Rattle.std.proofs.Common.{sym, ap, ◌∙◌}
-use Rattle.data.specs.Data.{keys_in}
-use Rattle.data.proofs.EntriesLemmas.{keys_in-entries_of}
-use Rattle.data.proofs.value.Dictionary.keys.Goals as goal
-
-pub returns : goal.returns
-returns c =
-    c.as_slice.ensures.keys ∙ sym (keys_in-entries_of c.self.inside.keys c.self.inside.values.items c.self.invariant.pairs)
-    ∙ ap keys_in c.self.view_is

@@ -1,8 +1,0 @@
-use Rattle.std.proofs.Common.{sym, ap, ◌∙◌}
-use Rattle.data.specs.Data.{entry_values}
-use Rattle.data.specs.View.{items_of}
-use Rattle.data.proofs.EntriesLemmas.{entry_values-entries_of}
-use Rattle.data.proofs.value.Dictionary.values.Goals as goal
-
-pub returns-clause-values : goal.returns-clause-values
-returns-clause-values c = ap items_of c.deref.ensures.value ∙ sym (entry_values-entries_of c.self.inside.keys c.self.inside.values.items c.self.invariant.pairs) ∙ ap entry_values c.self.view_is

@@ -1,7 +1,0 @@
-use Rattle.std.proofs.Common.{ap, arith}
-use Rattle.data.specs.Data.{count}
-use Rattle.data.proofs.ItemsLemmas.{count-items_of}
-use Rattle.data.proofs.value.List.len.Goals as goal
-
-pub returns-clause-len : goal.returns-clause-len
-returns-clause-len c = omega (arith, count-items_of c.self.inside.items.items, ap count c.self.view_is)

@@ -1,8 +1,0 @@
-use Rattle.std.proofs.Common.{◌≡◌, drop}
-use Rattle.data.specs.View.{items_of}
-use Rattle.data.specs.Data.{have_disabler}
-use Rattle.data.proofs.value.have_disabler.Given as goal
-
--- what is left decides
-abbrev pub invariant-loop-value : goal.invariant-loop-value
-invariant-loop-value l = have_disabler (items_of (drop l.value-index l.values)) ≡ have_disabler (items_of l.values)

@@ -1,0 +1,14 @@
+-- What a caller gives, without where it lies in memory.
+use Rattle.embedding.specs.Given.{GivenData}
+use Rattle.embedding.specs.declared.given.Given.{Given}
+
+abbrev pub given_view : Given → GivenData
+given_view g = record {
+  paths = g.paths.now;
+  sizes = g.sizes.now;
+  contents = g.contents.now;
+  words = g.words.now;
+  machine = g.machine.now;
+  source_root = g.source_root.now;
+  build_folder = g.build_folder.now;
+}

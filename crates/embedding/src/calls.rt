@@ -1,0 +1,41 @@
+//! The calls: one for each task.
+ghost use Rattle.std.specs.Prelude.{ℕ, List};
+ghost use Rattle.command.specs.declared.line.Task.TheVariants as tasks;
+ghost use Rattle.interp.specs.Evaluation.{MachineSaid};
+ghost use Rattle.world.specs.Prelude.{Files};
+ghost use Rattle.embedding.specs.Answers.{Ends, Keeps};
+ghost use Rattle.embedding.specs.Given.{Means};
+ghost use Rattle.embedding.specs.GivenView.{given_view};
+
+use crate::ending::Ending;
+use crate::given::Given;
+use crate::running::run;
+use meson::Task;
+use std::alloc::Global;
+
+/// Configures the project, as `meson setup` does.
+pub fn setup(alloc: Global, given: &Given<'_>, room: &mut [u8], length: &mut u64) -> Ending
+    ensures run { (files : Files) (options : List (List ℕ)) (said : MachineSaid) → Means (given_view given.now) files options said
+        → Ends tasks.Setup (given_view given.now) files options said result room.new length.new }
+    ensures kept { Keeps result room.old room.new length.new }
+{
+    run(alloc, Task::Setup, given, room, length)
+}
+
+/// Lists what the project asks the machine file, as `meson questions` does.
+pub fn questions(alloc: Global, given: &Given<'_>, room: &mut [u8], length: &mut u64) -> Ending
+    ensures run { (files : Files) (options : List (List ℕ)) (said : MachineSaid) → Means (given_view given.now) files options said
+        → Ends tasks.Questions (given_view given.now) files options said result room.new length.new }
+    ensures kept { Keeps result room.old room.new length.new }
+{
+    run(alloc, Task::Questions, given, room, length)
+}
+
+/// Says in which fault the project ends and what that is about, as `meson fault` does.
+pub fn fault(alloc: Global, given: &Given<'_>, room: &mut [u8], length: &mut u64) -> Ending
+    ensures run { (files : Files) (options : List (List ℕ)) (said : MachineSaid) → Means (given_view given.now) files options said
+        → Ends tasks.Fault (given_view given.now) files options said result room.new length.new }
+    ensures kept { Keeps result room.old room.new length.new }
+{
+    run(alloc, Task::Fault, given, room, length)
+}

@@ -1,0 +1,60 @@
+//! What a caller gives.
+ghost use Rattle.embedding.specs.GivenView.{given_view};
+ghost use Rattle.embedding.specs.MakingSettings.{MakesSettings};
+
+use byte_devices::{TextsFault, texts};
+use std::alloc::Global;
+use world::{Settings, SettingsFault};
+
+/// What a caller gives for a run, as bytes.
+#[derive(Clone, Copy)]
+pub struct Given<'a> {
+    /// The paths of the files, each ended by a zero byte.
+    pub paths: &'a [u8],
+    /// The sizes of the files, in bytes.
+    pub sizes: &'a [u64],
+    /// The contents of the files, joined.
+    pub contents: &'a [u8],
+    /// The option words, `name=value` each, each ended by a zero byte.
+    pub words: &'a [u8],
+    /// The bytes of the machine file. There are none if there is no machine file.
+    pub machine: &'a [u8],
+    /// The path of the source directory, an absolute path.
+    pub source_root: &'a [u8],
+    /// The path of the build directory, relative to the source directory.
+    pub build_folder: &'a [u8],
+}
+
+/// Why a run can't begin.
+#[derive(Clone, Copy, Debug, PartialEq, Eq)]
+pub enum Refused {
+    /// The slices spell no tree of files or no option words, or a directory isn't UTF-8.
+    Slices,
+    /// The source directory is no absolute path, or the build directory is none to build in.
+    Settings,
+    /// Memory ran out.
+    Memory,
+}
+
+/// The settings of what a caller gives.
+pub fn make_settings(alloc: Global, given: &Given<'_>) -> Result<Settings, Refused>
+    ensures { MakesSettings (given_view given.now) result }
+{
+    let Ok(root) = str::from_utf8(given.source_root) else {
+        return Err(Refused::Slices);
+    };
+    let Ok(folder) = str::from_utf8(given.build_folder) else {
+        return Err(Refused::Slices);
+    };
+    let words = match texts(alloc, given.words) {
+        Ok(words) => words,
+        Err(TextsFault::Bytes) => return Err(Refused::Slices),
+        Err(TextsFault::Memory) => return Err(Refused::Memory),
+    };
+    match Settings::new(alloc, root, folder, words) {
+        Ok(settings) => Ok(settings),
+        Err(SettingsFault::Root) => Err(Refused::Settings),
+        Err(SettingsFault::Folder) => Err(Refused::Settings),
+        Err(SettingsFault::Memory) => Err(Refused::Memory),
+    }
+}

@@ -1,5 +1,0 @@
-use Rattle.grammar.proofs.EveryText.{texts_are_parsed}
-use Rattle.grammar.proofs.law.texts_are_parsed.Goals as goal
-
-pub returns : goal.returns
-returns c = texts_are_parsed

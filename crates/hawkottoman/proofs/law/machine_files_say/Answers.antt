@@ -1,4 +1,0 @@
-use Rattle.hawkottoman.proofs.law.machine_files_say.Goals as goal
-
-pub returns : goal.returns
-returns c = c.machine_files_say.ensures

@@ -1,0 +1,119 @@
+-- Functions and methods by their names: looking them up, and calling them.
+use Rattle.std.specs.Prelude.{ℕ, Bool, true, false, List, Option, Some, None, ok_or, Result, Ok, Err}
+use Rattle.arguments.specs.Arguments.{ArgumentsData}
+use Rattle.arguments.specs.Disablers.{gives_disabler}
+use Rattle.arguments.specs.Rows.{any_values}
+use Rattle.calls.specs.language_calls.Turning.{is_turned_off}
+use Rattle.expressions.specs.Details.{method_detail}
+use Rattle.expressions.specs.Forms.{disabler_method}
+use Rattle.interp.specs.Functions.{call}
+use Rattle.objects.specs.Left.{is_left_out as is_left_out_method}
+use Rattle.objects.specs.Methods.{has_method as has_object_method, object_method}
+use Rattle.operations.specs.methods.Methods.{answer as method_answer, has_name}
+use Rattle.operations.specs.operators.Operations.{disabler}
+use Rattle.support.specs.declared.faults.refusal.Refusal.{Refusal}
+use Rattle.support.specs.declared.faults.refusal.Refusal.TheVariants as refusals
+use Rattle.values.specs.Data.{Data, is_disabler, object_in}
+use Rattle.values.specs.declared.language_names.functions.Function.{Function}
+use Rattle.values.specs.declared.object.Object.{Object}
+use Rattle.values.specs.declared.refusal.Refusal.{Refusal as OperationRefusal}
+use Rattle.values.specs.language_names.Functions.{function_named}
+use Rattle.values.specs.language_names.Names.{is_left_out}
+use Rattle.world.specs.Deed.{Deed, give, refuse, ◌>>=◌}
+use Rattle.world.specs.Fit.{fit}
+use Rattle.world.specs.Operation.{of_operation}
+
+-- ---- what a name names
+
+-- A name that names nothing is E23 if the manual has it and it is left out, else E8.
+abbrev pub unnamed : Bool → Refusal
+unnamed true = refusals.LeftOut
+unnamed false = refusals.UnknownFunction
+
+-- the function with a name
+abbrev pub function_of : List ℕ → Result Function Refusal
+function_of name = ok_or (function_named name) (unnamed (is_left_out name))
+
+-- whether there is a method with a name, and whether the name is left out
+abbrev pub known : Bool → Bool → Result (Unit {0}) Refusal
+known true left_out = Ok tt
+known false left_out = Err (unnamed left_out)
+
+-- a method of an object, or of a plain value; no method of a plain value is left out
+abbrev pub method_in : Option Object → Data → List ℕ → Result (Unit {0}) Refusal
+method_in (Some o) d name = known (has_object_method o name) (is_left_out_method o name)
+method_in None d name = known (has_name d name) false
+
+abbrev pub method_by : Bool → Data → List ℕ → Result (Unit {0}) Refusal
+method_by true d name = Ok tt
+method_by false d name = method_in (object_in d) d name
+
+-- whether a receiver has a method with a name; a disabler has every method
+abbrev pub method_of : Data → List ℕ → Result (Unit {0}) Refusal
+method_of d name = method_by (is_disabler d) d name
+
+abbrev pub done : {A : Type 0} → Result A Refusal → Result (Unit {0}) Refusal
+done (Ok a) = Ok tt
+done (Err refusal) = Err refusal
+
+-- Whether a name names a function, or with a receiver a method of the receiver; if not, its refusal.
+abbrev pub lookup : Option Data → List ℕ → Result (Unit {0}) Refusal
+lookup None name = done (function_of name)
+lookup (Some d) name = method_of d name
+
+-- ---- the call
+
+abbrev pub function_called_by : Bool → Function → ArgumentsData → Deed (Option Data)
+function_called_by true f a = give (Some disabler)
+function_called_by false f a = call f a
+
+-- a function on evaluated arguments; a disabler among them turns the call off
+abbrev pub function_called : Function → ArgumentsData → Deed (Option Data)
+function_called f a = function_called_by (is_turned_off f a) f a
+
+-- what a method of a value gives, or its refusal, with what that is about
+abbrev pub answered_with : (OperationRefusal → List ℕ) → Result Data OperationRefusal → Deed Data
+answered_with detail (Ok d) = give d
+answered_with detail (Err refusal) = refuse (of_operation refusal) (detail refusal)
+
+abbrev pub method_answered : Data → List ℕ → List Data → Deed Data
+method_answered d name ds = answered_with (method_detail d name ds) (method_answer d name ds)
+
+-- a method of a plain value: it takes values of any kind and number, and no keyword
+unfoldable pub value_method : Data → List ℕ → ArgumentsData → Deed (Option Data)
+value_method d name a = do
+  _ ← fit any_values a
+  e ← method_answered d name a.positional
+  give (Some e)
+
+abbrev pub method_called_on : Option Object → Data → List ℕ → ArgumentsData → Deed (Option Data)
+method_called_on (Some o) d name a = object_method o name a
+method_called_on None d name a = value_method d name a
+
+-- a disabler among the arguments turns the call off
+abbrev pub method_called_unless : Bool → Data → List ℕ → ArgumentsData → Deed (Option Data)
+method_called_unless true d name a = give (Some disabler)
+method_called_unless false d name a = method_called_on (object_in d) d name a
+
+abbrev pub method_called_by : Bool → Data → List ℕ → ArgumentsData → Deed (Option Data)
+method_called_by true d name a = give (Some (disabler_method name a))
+method_called_by false d name a = method_called_unless (gives_disabler a) d name a
+
+-- a method of a receiver on evaluated arguments
+abbrev pub method_called : Data → List ℕ → ArgumentsData → Deed (Option Data)
+method_called d name a = method_called_by (is_disabler d) d name a
+
+-- a call of a function that was looked up, or the refusal of its name
+abbrev pub function_call : Result Function Refusal → List ℕ → ArgumentsData → Deed (Option Data)
+function_call (Ok f) name a = function_called f a
+function_call (Err refusal) name a = refuse refusal name
+
+-- a call of a method that was looked up, or the refusal of its name
+abbrev pub method_call : Result (Unit {0}) Refusal → Data → List ℕ → ArgumentsData → Deed (Option Data)
+method_call (Ok u) d name a = method_called d name a
+method_call (Err refusal) d name a = refuse refusal name
+
+-- A call by a name: first the name is looked up, then the function or the method is called on evaluated arguments.
+abbrev pub call_by_name : Option Data → List ℕ → ArgumentsData → Deed (Option Data)
+call_by_name None name a = function_call (function_of name) name a
+call_by_name (Some d) name a = method_call (method_of d name) d name a

@@ -1,0 +1,244 @@
+//! What a run asks a machine file, as lines of JSON.
+ghost use Rattle.std.specs.Prelude.{◌≡◌, ◌++◌, IfOk, OnOk, codes, map, option_map, string_bytes};
+ghost use Rattle.serde_json.specs.Events.{SendsValue};
+ghost use Rattle.machine.specs.machine_file.QuestionsView.{asides_in, question_in};
+ghost use Rattle.machine.specs.machine_file.Questions.{answer_to};
+ghost use Rattle.machine.specs.machine_file.View.{entries_of, machine_in, strings_in, value_in};
+ghost use Rattle.introspection.specs.Questions.{entry_member, label_of, label_text, line_of, line_text, lines_of, option_line};
+ghost use Rattle.introspection.specs.Questions.{ordered, shown_beside, shown_key, shown_reply, shown_value};
+ghost use Rattle.introspection.specs.QuestionsView.{line_in, reply_in};
+
+use crate::sending::printed;
+use machine::machine_file::{Aside, Machine, MachineValue, Question, Section, Topic};
+use serde::{Described, Serialize, Serializer};
+use serde_json::Value;
+use std::alloc::{AllocError, Global};
+
+/// What a machine file answers.
+#[derive(Clone, Copy)]
+pub enum Reply<'a> {
+    /// The value at a key, where there is one.
+    Value(Option<&'a MachineValue>),
+    /// What a section says, where it is there.
+    Section(Option<&'a Section>),
+}
+
+/// What is asked for, the answer, and what the call said beside it.
+#[derive(Clone, Copy)]
+pub struct QuestionLine<'a> {
+    pub section: &'a str,
+    /// The key; none where the whole section is asked for.
+    pub key: Option<&'a str>,
+    pub reply: Reply<'a>,
+    pub asides: &'a [Aside],
+}
+
+// Adds the options of these names.
+fn add_options<'a>(
+    lines: &mut Vec<QuestionLine<'a>>,
+    machine: &'a Machine,
+    section: &'a str,
+    names: &'a [String],
+    asides: &'a [Aside],
+) -> Result<(), AllocError>
+    ensures { IfOk result (λ _. map line_in lines.new.items ≡ map line_in lines.old.items
+        ++ map (option_line (machine_in machine.now) (asides_in asides.now) section.now) (strings_in names.now)) }
+{
+    for name in names {
+        lines.push(QuestionLine {
+            section,
+            key: Some(name.as_str()),
+            reply: Reply::Value(machine.get(section, name.as_str())),
+            asides,
+        })?;
+    }
+    Ok(())
+}
+
+// The lines of options: those that are built in, and then those that the project declares.
+fn option_lines<'a>(
+    alloc: Global,
+    machine: &'a Machine,
+    built_in: &'a [String],
+    declared: &'a [String],
+    asides: &'a [Aside],
+) -> Result<Vec<QuestionLine<'a>>, AllocError>
+    ensures { IfOk result (λ lines. map line_in lines.items
+        ≡ map (option_line (machine_in machine.now) (asides_in asides.now) (codes "built-in options")) (strings_in built_in.now)
+        ++ map (option_line (machine_in machine.now) (asides_in asides.now) (codes "project options")) (strings_in declared.now)) }
+{
+    let mut lines = Vec::new(alloc);
+    add_options(&mut lines, machine, "built-in options", built_in, asides)?;
+    add_options(&mut lines, machine, "project options", declared, asides)?;
+    Ok(lines)
+}
+
+/// The lines of a question: one, or one for each option that is asked for, with what this machine file answers.
+pub fn question_lines<'a>(
+    alloc: Global,
+    machine: &'a Machine,
+    question: &'a Question,
+) -> Result<Vec<QuestionLine<'a>>, AllocError>
+    ensures { IfOk result (λ lines. map line_in lines.items
+        ≡ lines_of (question_in question.now) (answer_to (machine_in machine.now) (question_in question.now).topic)) }
+{
+    let asides = question.asides.as_slice();
+    match &question.topic {
+        Topic::Key(section, key) => {
+            let line = QuestionLine {
+                section: section.as_str(),
+                key: Some(key.as_str()),
+                reply: Reply::Value(machine.get(section.as_str(), key.as_str())),
+                asides,
+            };
+            Ok(vec![in alloc; line]?)
+        }
+        Topic::Whole(section) => {
+            let line = QuestionLine {
+                section: section.as_str(),
+                key: None,
+                reply: Reply::Section(machine.section(section.as_str())),
+                asides,
+            };
+            Ok(vec![in alloc; line]?)
+        }
+        Topic::Options(built_in, declared) => {
+            option_lines(alloc, machine, built_in, declared, asides)
+        }
+    }
+}
+
+// A value of a machine file.
+fn send_value<S: Serializer>(value: &MachineValue, out: &mut S) -> Result<(), S::Error>
+    ensures { OnOk result (SendsValue (shown_value (value_in value.now)) (S.written out.old) (S.written out.new)) }
+{
+    match value {
+        MachineValue::Text(text) => out.str(text.as_str()),
+        MachineValue::Integer(number) => Value::from(*number).serialize(out),
+        MachineValue::Boolean(truth) => out.bool(*truth),
+        MachineValue::Texts(texts) => texts.serialize(out),
+    }
+}
+
+// What a section says, in the order of its lines.
+fn send_section<S: Serializer>(section: &Section, out: &mut S) -> Result<(), S::Error>
+    ensures { OnOk result (SendsValue (ordered (map entry_member (entries_of section.now))) (S.written out.old) (S.written out.new)) }
+{
+    out.begin_map(Some(section.len()))?;
+    for i in 0..section.len() {
+        let Some((key, entry)) = section.at(i) else {
+            return out.end_map();
+        };
+        out.key(key)?;
+        send_value(&entry.value, out)?;
+    }
+    out.end_map()
+}
+
+fn send_reply<S: Serializer>(reply: Reply<'_>, out: &mut S) -> Result<(), S::Error>
+    ensures { OnOk result (SendsValue (shown_reply (reply_in reply.entry)) (S.written out.old) (S.written out.new)) }
+{
+    match reply {
+        Reply::Value(Some(value)) => send_value(value, out),
+        Reply::Section(Some(section)) => send_section(section, out),
+        Reply::Value(None) | Reply::Section(None) => out.unit(),
+    }
+}
+
+fn send_key<S: Serializer>(key: Option<&str>, out: &mut S) -> Result<(), S::Error>
+    ensures { OnOk result (SendsValue (shown_key (option_map (λ k. k.now) key.entry)) (S.written out.old) (S.written out.new)) }
+{
+    match key {
+        Some(key) => out.str(key),
+        None => out.unit(),
+    }
+}
+
+fn send_beside<S: Serializer>(asides: &[Aside], out: &mut S) -> Result<(), S::Error>
+    ensures { OnOk result (SendsValue (shown_beside (asides_in asides.now)) (S.written out.old) (S.written out.new)) }
+{
+    out.begin_map(Some(asides.len()))?;
+    for aside in asides.iter() {
+        out.key(aside.name.as_str())?;
+        aside.texts.serialize(out)?;
+    }
+    out.end_map()
+}
+
+// A line, asked in the definition file `file` at the line `place` of it.
+#[derive(Clone, Copy)]
+struct Placed<'a, 'q> {
+    line: &'a QuestionLine<'q>,
+    file: &'a str,
+    place: usize,
+}
+
+impl Described for Placed<'_, '_> {
+    ghost writes = { λ p. SendsValue (line_of (line_in p.line.now) p.file.now p.place) };
+}
+
+impl Serialize for Placed<'_, '_> {
+    fn serialize<S: Serializer>(&self, out: &mut S) -> Result<(), S::Error> {
+        out.begin_map(Some(6))?;
+        out.key("section")?;
+        out.str(self.line.section)?;
+        out.key("key")?;
+        send_key(self.line.key, out)?;
+        out.key("answer")?;
+        send_reply(self.line.reply, out)?;
+        out.key("file")?;
+        out.str(self.file)?;
+        out.key("line")?;
+        self.place.serialize(out)?;
+        out.key("beside")?;
+        send_beside(self.line.asides, out)?;
+        out.end_map()
+    }
+}
+
+// A line without the place.
+#[derive(Clone, Copy)]
+struct Label<'a, 'q> {
+    line: &'a QuestionLine<'q>,
+}
+
+impl Described for Label<'_, '_> {
+    ghost writes = { λ l. SendsValue (label_of (line_in l.line.now)) };
+}
+
+impl Serialize for Label<'_, '_> {
+    fn serialize<S: Serializer>(&self, out: &mut S) -> Result<(), S::Error> {
+        out.begin_map(Some(4))?;
+        out.key("section")?;
+        out.str(self.line.section)?;
+        out.key("key")?;
+        send_key(self.line.key, out)?;
+        out.key("answer")?;
+        send_reply(self.line.reply, out)?;
+        out.key("beside")?;
+        send_beside(self.line.asides, out)?;
+        out.end_map()
+    }
+}
+
+impl QuestionLine<'_> {
+    /// The text of this line, asked in the definition file `file` at the line `place` of it, from 1: a JSON object, without a newline.
+    pub fn text(&self, alloc: Global, file: &str, place: usize) -> Result<String, AllocError>
+        ensures { IfOk result (λ s. string_bytes s ≡ line_text (line_in self.now) file.now place) }
+    {
+        let placed = Placed {
+            line: self,
+            file,
+            place,
+        };
+        printed(alloc, &placed)
+    }
+
+    /// The text without the place, by which lines are told apart.
+    pub fn label(&self, alloc: Global) -> Result<String, AllocError>
+        ensures { IfOk result (λ s. string_bytes s ≡ label_text (line_in self.now)) }
+    {
+        let label = Label { line: self };
+        printed(alloc, &label)
+    }
+}

@@ -1,0 +1,121 @@
+-- What a run asks.
+use Rattle.std.proofs.Common.{◌≡◌, ◌≢◌, ℕ, zero, suc, ◌+◌, ◌≤◌, List, [], Result, Ok, Err, IsErrAnd, refl, sym, ap, subst, ◌∙◌, arith}
+use Rattle.support.specs.Faults.{FaultData}
+use Rattle.world.specs.Details.{refuse_about}
+use Rattle.machine.specs.machine_file.Fault.{MachineFaultData, told}
+use Rattle.machine.specs.machine_file.Files.{Section}
+use Rattle.world.specs.Deed.{Files}
+use Rattle.world.specs.Gives.{Gives, failures_after}
+use Rattle.world.specs.Plan.{carry}
+use Rattle.world.specs.Run.{Outcome, Run, Faulted, outcome_of}
+use Rattle.world.specs.Settings.{SettingsData}
+use Rattle.world.specs.Start.{first_world}
+use Rattle.world.specs.Trace.{Seen}
+use Rattle.world.specs.World.{Asked, World}
+use Rattle.world.specs.declared.stop.Stop.{Stop}
+use Rattle.world.specs.declared.stop.Stop.TheVariants as stops
+use Rattle.interp.specs.Beginnings.{Reads}
+use Rattle.interp.specs.Evaluation.{MachineSaid, definitions, evaluated, sections_of}
+use Rattle.meson.specs.Laws.{asked_by}
+use Rattle.meson.specs.Questions.{fault_of, questions_text}
+use Rattle.meson.specs.Telling.{Asks, AsksOver, Ended, text_of}
+use Rattle.meson.specs.declared.asking.Asking.{Asking}
+
+-- the lines of all that a run asks
+abbrev pub run_text : Files → SettingsData → MachineSaid → List ℕ
+run_text files s said = questions_text (sections_of said) (asked_by files s said)
+
+-- no memory was left
+pub asks_none : (run : Run (Unit {0})) (text : List ℕ) (result : Result Asking Stop) → IsErrAnd result (λ r. r ≡ stops.Memory) → Asks run text result
+asks_none run text (Ok a) is = absurd is
+asks_none run text (Err e) is = subst (λ x. Asks run text (Err x)) (sym is) tt
+
+pub fails_none : (result : Result Asking Stop) (t : ℕ) → IsErrAnd result (λ r. r ≡ stops.Memory) → t ≡ failures_after t result
+fails_none (Ok a) t is = absurd is
+fails_none (Err e) t is = subst (λ x. t ≡ failures_after {B = Asking} t (Err x)) (sym is) refl
+
+-- a machine file with a fault: nothing was asked
+faulty_asked : (files : Files) (s : SettingsData) (f : MachineFaultData) → run_text files s (Err f) ≡ []
+unfolding evaluated refuse_about
+faulty_asked files s f = refl
+
+faulty_ended : (files : Files) (s : SettingsData) (f : MachineFaultData) → outcome_of (evaluated files s (Err f)) ≡ Faulted (told f)
+unfolding evaluated refuse_about
+faulty_ended files s f = refl
+
+unread : {A : Type 0} (view : A → List Section) (files : Files) (s : SettingsData) (said : MachineSaid) (e : Stop) → Reads view said (Err e)
+    → Asks (evaluated files s said) (run_text files s said) (Err e)
+unread view files s (Ok sections) (stops.Refused f) h = absurd h
+unread view files s (Err g) (stops.Refused f) h = (faulty_asked files s g, faulty_ended files s g ∙ ap (λ (d : FaultData). Faulted d) (sym h))
+unread view files s (Ok sections) stops.Device h = absurd h
+unread view files s (Err g) stops.Device h = absurd h
+unread view files s said stops.Memory h = tt
+
+pub asks_unread : {A : Type 0} (view : A → List Section) (files : Files) (s : SettingsData) (said : MachineSaid) (e : Stop) (result : Result Asking Stop)
+    → IsErrAnd result (λ r. r ≡ e) → Reads view said (Err e) → Asks (evaluated files s said) (run_text files s said) result
+asks_unread view files s said e (Ok a) is h = absurd is
+asks_unread view files s said e (Err d) is h = subst (λ x. Asks (evaluated files s said) (run_text files s said) (Err x)) (sym is) (unread view files s said e h)
+
+-- a world that begins so was asked
+pub over_read : (files : Files) (s : SettingsData) (machine sections : List Section) (k : World) (result : Result Asking Stop) → machine ≡ sections → k ≡ first_world s sections
+    → Asks (carry files definitions k) (text_of machine (carry files definitions k)) result → AsksOver files s sections result
+over_read files s machine sections k result same is h =
+    subst (λ w. Asks (carry files definitions w) (text_of sections (carry files definitions w)) result) is
+    (subst (λ ss. Asks (carry files definitions k) (text_of ss (carry files definitions k)) result) same h)
+
+pub over_none : (files : Files) (s : SettingsData) (sections : List Section) (result : Result Asking Stop) → IsErrAnd result (λ r. r ≡ stops.Memory) → AsksOver files s sections result
+over_none files s sections result is = asks_none (carry files definitions (first_world s sections)) (text_of sections (carry files definitions (first_world s sections))) result is
+
+-- what was asked over the sections that were read is what the run asks
+pub asks_read : {A : Type 0} (view : A → List Section) (files : Files) (s : SettingsData) (said : MachineSaid) (x : A) (result : Result Asking Stop) → Reads view said (Ok x)
+    → AsksOver files s (view x) result → Asks (evaluated files s said) (run_text files s said) result
+unfolding evaluated
+asks_read view files s (Ok sections) x result read h = subst (λ ss. AsksOver files s ss result) read h
+asks_read view files s (Err g) x result read h = absurd read
+
+-- what stands in the store is all that was asked, where the definitions came to their end
+pub asks_after : (run : Run (Unit {0})) (sections : List Section) (ended : Result (Unit {0}) Stop) (w : World) (n : ℕ) (old new : Seen) (result : Result Asking Stop)
+    → Gives {A = Unit {0}} {B = Unit {0}} (λ u. u) run ended w old new → Ended ended (questions_text sections w.asked) n result → Asks run (text_of sections run) result
+asks_after run sections (Ok u) w n old new (Ok a) g e = record {
+  lines = e.0 ∙ ap (λ r. text_of sections r) (sym g.is);
+  fault = e.1 ∙ ap (λ r. fault_of (outcome_of r)) (sym g.is);
+}
+asks_after run sections (Err (stops.Refused fault)) w n old new (Ok a) g e = record {
+  lines = e.0 ∙ ap (λ (asked : List Asked). questions_text sections asked) g.asks;
+  fault = e.1 ∙ ap (λ (o : Outcome (Unit {0})). fault_of o) (sym g.is);
+}
+asks_after run sections (Err stops.Device) w n old new (Ok a) g e = absurd e
+asks_after run sections (Err stops.Memory) w n old new (Ok a) g e = absurd e
+asks_after run sections ended w n old new (Err (stops.Refused fault)) g e = absurd e
+asks_after run sections ended w n old new (Err stops.Device) g e = tt
+asks_after run sections ended w n old new (Err stops.Memory) g e = tt
+
+-- ---- the failures of the tree, `t` before and `u` after it
+
+no_memory : (t u n : ℕ) → n ≢ 0 → t ≤ u → u + n ≡ t + 0 + 1 → u ≡ t
+no_memory t u zero other a e = absurd (other refl)
+no_memory t u (suc n) other a e = omega (arith, a, e)
+
+pub fails_after : (ended : Result (Unit {0}) Stop) (text : List ℕ) (n : ℕ) (result : Result Asking Stop) (t u : ℕ) → t ≤ u → u + n ≡ failures_after (t + 0) ended → Ended ended text n result
+    → u ≡ failures_after t result
+fails_after (Ok x) text n (Ok a) t u le sum e = omega (arith, le, sum)
+fails_after (Err (stops.Refused fault)) text n (Ok a) t u le sum e = omega (arith, le, sum)
+fails_after (Err stops.Device) text n (Ok a) t u le sum e = absurd e
+fails_after (Err stops.Memory) text n (Ok a) t u le sum e = absurd e
+fails_after ended text n (Err (stops.Refused fault)) t u le sum e = absurd e
+fails_after ended text n (Err stops.Device) t u le sum e =
+    let all : u + n ≡ t + 0 + 1 = subst (λ x. u + n ≡ failures_after (t + 0) x) e.0 sum in omega (arith, all, e.1)
+fails_after (Ok x) text n (Err stops.Memory) t u le sum e = omega (arith, le, sum)
+fails_after (Err (stops.Refused fault)) text n (Err stops.Memory) t u le sum e = omega (arith, le, sum)
+fails_after (Err stops.Device) text n (Err stops.Memory) t u le sum e = no_memory t u n (e refl) le sum
+fails_after (Err stops.Memory) text n (Err stops.Memory) t u le sum e = omega (arith, le, sum)
+
+-- a stop before any device was asked
+pub fails_unread : {A : Type 0} (read : Result A Stop) (e : Stop) (result : Result Asking Stop) (t : ℕ) → IsErrAnd result (λ s. s ≡ e) → ((n : ℕ) → failures_after {B = A} n (Err e) ≡ n) → t ≡ failures_after t result
+fails_unread {A} read e (Ok a) t is quiet = absurd is
+fails_unread {A} read e (Err d) t is quiet = subst (λ x. t ≡ failures_after {B = Asking} t (Err x)) (sym is) (same A t e quiet)
+  where
+    same : (A : Type 0) (t : ℕ) (e : Stop) → ((n : ℕ) → failures_after {B = A} n (Err e) ≡ n) → t ≡ failures_after {B = Asking} t (Err e)
+    same A t (stops.Refused fault) quiet = refl
+    same A t stops.Device quiet = sym (quiet t)
+    same A t stops.Memory quiet = refl

@@ -1,0 +1,46 @@
+-- What `meson fault` tells: the fault in which a run ends, and what it is about.
+use Rattle.std.specs.Prelude.{◌++◌, [], codes, option_map, Option, Some, None, Result, Ok, Err}
+use Rattle.ports.specs.Outputs.{OutputState, faults, logs}
+use Rattle.support.specs.Faults.{FaultData, fault_line}
+use Rattle.support.specs.View.{fault_view}
+use Rattle.outputs.specs.build_file.Concluding.{Whole, told_before}
+use Rattle.outputs.specs.declared.build_file.concluding.Status.{Status}
+use Rattle.outputs.specs.declared.build_file.concluding.Status.TheVariants as statuses
+use Rattle.world.specs.Deed.{Files}
+use Rattle.world.specs.Run.{outcome_of}
+use Rattle.world.specs.Settings.{SettingsData}
+use Rattle.world.specs.declared.stop.Stop.{Stop}
+use Rattle.world.specs.declared.stop.Stop.TheVariants as stops
+use Rattle.interp.specs.Evaluation.{MachineSaid, evaluated}
+use Rattle.meson.specs.Questions.{fault_of}
+use Rattle.meson.specs.Setup.{Concludes, Keeps}
+use Rattle.meson.specs.declared.asking.Asking.{Asking}
+
+-- the detail of a fault, as a line of the log
+abbrev pub detail_told : FaultData → Whole
+detail_told f = record { steps = logs f.detail ++ logs (codes "\n"); status = statuses.Fault }
+
+-- the line of a fault, and behind it that
+abbrev pub told_whole : FaultData → Whole
+told_whole f = told_before (faults (fault_line f)) (detail_told f)
+
+abbrev pub ending_told : Option FaultData → Whole
+ending_told None = record { steps = []; status = statuses.Done }
+ending_told (Some f) = told_whole f
+
+-- the fault of the run of these files, settings and what a machine file says: its line, and its detail in the log; nothing else is written
+abbrev pub fault_told : Files → SettingsData → MachineSaid → Whole
+fault_told files s said = ending_told (fault_of (outcome_of (evaluated files s said)))
+
+-- ---- the same of what the code has
+
+-- what was done where a run stopped so, and the status
+abbrev pub TellsStop : Stop → Status → OutputState → OutputState → Type 0
+TellsStop (stops.Refused fault) status old new = Concludes (told_whole (fault_view fault)) status old new
+TellsStop stops.Device status old new = Keeps statuses.Device status old new
+TellsStop stops.Memory status old new = Keeps statuses.Memory status old new
+
+-- what was done after a run, and the status
+abbrev pub TellsFault : Result Asking Stop → Status → OutputState → OutputState → Type 0
+TellsFault (Ok a) status old new = Concludes (ending_told (option_map fault_view a.fault)) status old new
+TellsFault (Err stop) status old new = TellsStop stop status old new

@@ -1,0 +1,55 @@
+//! `meson setup` for C projects as a library: from the bytes of a source tree to the bytes of a build folder.
+//!
+//! [`setup`] runs a project over any devices and states the theorem of the whole. [`questions`] lists what that run asks the machine
+//! file, and [`fault`] says in which fault it ends and what that is about. [`depends_on_looked`], [`lists_what_it_looks_at`],
+//! [`needs_are_there`] and [`machine_files_say`] are laws of every run: calls that do nothing, whose contracts hold.
+//!
+//! The crates of the layers are parts of this one, so that who lists `meson` alone has a parser, the order of versions, a template pass
+//! or a Ninja writer too, as `meson::syntax::parse`.
+#![tactic(auto)]
+
+mod asking;
+#[cfg(test)]
+mod device_failures;
+mod ending;
+#[cfg(test)]
+mod expected;
+#[cfg(test)]
+mod given;
+mod law;
+mod running;
+mod task;
+mod telling;
+
+pub use arguments;
+pub use asking::questions;
+pub use build;
+pub use calls;
+pub use code;
+pub use command;
+pub use command::{Line, LineFault, Task, command_line};
+pub use ending::fault;
+pub use expressions;
+pub use interp;
+pub use interp::Inputs;
+pub use introspection;
+pub use law::{depends_on_looked, lists_what_it_looks_at, machine_files_say, needs_are_there};
+pub use machine;
+pub use named_sources;
+pub use ninja;
+pub use objects;
+pub use operations;
+pub use options;
+pub use outputs;
+pub use outputs::build_file::Status;
+pub use ports;
+pub use resource_calls;
+pub use running::setup;
+pub use support;
+pub use syntax;
+pub use target_calls;
+pub use task::perform;
+pub use template;
+pub use values;
+pub use world;
+pub use world::{Settings, SettingsFault};

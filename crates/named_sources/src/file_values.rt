@@ -1,0 +1,50 @@
+//! What `files` and `include_directories` give.
+ghost use Rattle.std.specs.Prelude.{◌≡◌, IfOk, map, string_bytes};
+ghost use Rattle.values.specs.Prelude.{Answers};
+ghost use Rattle.values.specs.Data.{no_items};
+ghost use Rattle.named_sources.specs.ValuesView.{items_in};
+ghost use Rattle.named_sources.specs.Values.{directories_at, files_at, files_behind};
+
+use crate::resources::short_texts;
+use std::alloc::{AllocError, Global};
+use values::{List, Object, Refusal, Text, Value};
+
+// The files at these paths.
+fn files(alloc: Global, paths: &[String]) -> Result<Result<Vec<Value>, Refusal>, AllocError>
+    ensures { IfOk result (λ r. items_in r ≡ files_behind no_items (map string_bytes paths.now)) }
+{
+    let mut files = Vec::new(alloc);
+    for path in paths {
+        match Text::of_str(alloc, path.as_str())? {
+            Ok(path) => {
+                let is_built = false;
+                files.push(Value::of_object(alloc, Object::File { path, is_built })?)?;
+            }
+            Err(refusal) => return Ok(Err(refusal)),
+        }
+    }
+    Ok(Ok(files))
+}
+
+/// The list of the files of the tree at these paths, or `Refusal::Limit` where a path or the list is too long.
+pub fn files_at(alloc: Global, paths: &[String]) -> Result<Result<Value, Refusal>, AllocError>
+    ensures { IfOk result (λ r. Answers (files_at (map string_bytes paths.now)) r) }
+{
+    match files(alloc, paths)? {
+        Ok(files) => match List::from_items(files) {
+            Ok(list) => Ok(Ok(Value::of_list(alloc, list)?)),
+            Err(refusal) => Ok(Err(refusal)),
+        },
+        Err(refusal) => Ok(Err(refusal)),
+    }
+}
+
+/// The object that has the folders at these paths, or `Refusal::Limit` where a path is too long.
+pub fn directories_at(alloc: Global, paths: &[String]) -> Result<Result<Value, Refusal>, AllocError>
+    ensures { IfOk result (λ r. Answers (directories_at (map string_bytes paths.now)) r) }
+{
+    match short_texts(alloc, paths)? {
+        Ok(texts) => Ok(Ok(Value::of_object(alloc, Object::IncludeDirectories(texts))?)),
+        Err(refusal) => Ok(Err(refusal)),
+    }
+}

@@ -1,0 +1,80 @@
+-- The words of a command, as a POSIX shell reads them.
+use Rattle.std.specs.Prelude.{ℕ, Bool, cond, ◌==◌, ◌||◌, List, [], ◌∷◌, ◌++◌, Option, Some, None}
+use Rattle.ninja.specs.Machine.{Machine, output_from}
+use Rattle.ninja.specs.Posix.{is_literal, is_no_command_name}
+use Rattle.ninja.specs.Reading.{◌>>=◌}
+
+pub data ShellToken : Type 0 where
+  -- the bytes that stand outside quotes, and all
+  Word : (bare text : List ℕ) → ShellToken
+  Redirect : ShellToken
+
+pub data Quoting : Type 0 where
+  BetweenWords : Quoting
+  Bare : (bare text : List ℕ) → Quoting
+  Single : (bare text : List ℕ) → Quoting
+  Double : (bare text : List ℕ) → Quoting
+  Arrow : Quoting
+  Unread : Quoting
+
+-- `"`, `$`, the backquote, the backslash
+abbrev pub is_special_in_double : ℕ → Bool
+is_special_in_double b = (b == 36) || ((b == 96) || (b == 92))
+
+abbrev pub next_between : ℕ → Quoting
+next_between b = cond (b == 32) BetweenWords
+    (cond (b == 39) (Single [] []) (cond (b == 34) (Double [] [])
+    (cond (b == 62) Arrow (cond (is_literal b) (Bare (b ∷ []) (b ∷ [])) Unread))))
+
+abbrev pub next_quoting : Quoting → ℕ → Quoting
+next_quoting BetweenWords b = next_between b
+next_quoting (Bare bare text) b = cond (b == 32) BetweenWords
+    (cond (b == 39) (Single bare text)
+    (cond (b == 34) (Double bare text) (cond (is_literal b) (Bare (bare ++ b ∷ []) (text ++ b ∷ [])) Unread)))
+next_quoting (Single bare text) b = cond (b == 39) (Bare bare text) (Single bare (text ++ b ∷ []))
+next_quoting (Double bare text) b = cond (b == 34) (Bare bare text) (cond (is_special_in_double b) Unread (Double bare (text ++ b ∷ [])))
+next_quoting Arrow b = cond (b == 32) BetweenWords Unread
+next_quoting Unread b = Unread
+
+abbrev pub words_given : Quoting → ℕ → List ShellToken
+words_given BetweenWords b = []
+words_given (Bare bare text) b = cond (b == 32) (Word bare text ∷ []) []
+words_given (Single bare text) b = []
+words_given (Double bare text) b = []
+words_given Arrow b = cond (b == 32) (Redirect ∷ []) []
+words_given Unread b = []
+
+abbrev pub words_at_end : Quoting → Option (List ShellToken)
+words_at_end BetweenWords = Some []
+words_at_end (Bare bare text) = Some (Word bare text ∷ [])
+words_at_end (Single bare text) = None
+words_at_end (Double bare text) = None
+words_at_end Arrow = None
+words_at_end Unread = None
+
+abbrev pub shell : Machine Quoting ℕ ShellToken
+shell = record { next = next_quoting; gives = words_given; ends = words_at_end }
+
+pub record Command : Type 0 where
+  pub words : List (List ℕ)
+  pub redirect : Option (List ℕ)
+
+abbrev pub with_word : List ℕ → Option Command → Option Command
+with_word word (Some c) = Some (record { words = word ∷ c.words; redirect = c.redirect })
+with_word word None = None
+
+-- words, and behind a `>` one more
+abbrev pub command_of : List ShellToken → Option Command
+command_of [] = Some (record { words = []; redirect = None })
+command_of (Word bare text ∷ ts) = with_word text (command_of ts)
+command_of (Redirect ∷ Word bare text ∷ []) = Some (record { words = []; redirect = Some text })
+command_of (Redirect ∷ _) = None
+
+abbrev pub command_from : List ShellToken → Option Command
+command_from [] = None
+command_from (Word bare text ∷ ts) = cond (is_no_command_name bare) None (command_of (Word bare text ∷ ts))
+command_from (Redirect ∷ ts) = None
+
+-- the command that a text is
+abbrev pub shell_command : List ℕ → Option Command
+shell_command text = output_from shell BetweenWords text >>= command_from

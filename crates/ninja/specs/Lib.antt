@@ -1,0 +1,17 @@
+pub mod Bytes
+pub mod Shell
+pub mod Escapes
+pub mod Words
+pub mod Writing
+pub mod Places
+pub mod Parts
+pub mod Machine
+pub mod Pieces
+pub mod Lines
+pub mod Reading
+pub mod Posix
+pub mod Commands
+pub mod Meaning
+pub mod Steps
+pub mod Defaults
+pub mod Tail

@@ -1,0 +1,21 @@
+-- Which words are written without quotes.
+use Rattle.std.specs.Prelude.{ℕ, Bool, ◌==◌, nat_le, ◌||◌, ◌&&◌, List, [], ◌∷◌, codes}
+use Rattle.std.specs.List.{list_any}
+use Rattle.ninja.specs.Bytes.{is_one_of}
+
+-- `A-Z a-z 0-9 _ @ % + = : , . / -`
+abbrev pub is_bare_byte : ℕ → Bool
+is_bare_byte b = (nat_le 97 b && nat_le b 122)
+    || ((nat_le 65 b && nat_le b 90)
+    || ((nat_le 45 b && nat_le b 58) || ((b == 95) || ((b == 64) || ((b == 37) || ((b == 43) || ((b == 61) || (b == 44))))))))
+
+abbrev pub has_equals : List ℕ → Bool
+has_equals bytes = list_any (λ b. b == 61) bytes
+
+abbrev pub is_reserved : List ℕ → Bool
+is_reserved word = is_one_of (codes "case" ∷ codes "do" ∷ codes "done" ∷ codes "elif" ∷ codes "else" ∷ codes "esac" ∷ codes "fi"
+    ∷ codes "for" ∷ codes "if" ∷ codes "in" ∷ codes "then" ∷ codes "until" ∷ codes "while" ∷ []) word
+
+-- as the first word it gets quotes, since a shell would read no word of the command: an assignment, or a word of its own language
+abbrev pub is_no_first_word : List ℕ → Bool
+is_no_first_word bare = has_equals bare || is_reserved bare

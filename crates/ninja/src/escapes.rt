@@ -1,0 +1,153 @@
+//! Paths and values, with a `$` before what Ninja would read otherwise.
+ghost use Rattle.std.specs.Prelude.{◌≡◌, [], ◌∷◌, ◌++◌, MatchOption};
+ghost use Rattle.ports.specs.Endings.{ended};
+ghost use Rattle.ports.specs.Outputs.{IsOpen, Writes, puts};
+ghost use Rattle.std.specs.List.{flat_map, list_all};
+ghost use Rattle.ninja.specs.Escapes.{path_byte_text, value_byte_text, value_rest_text, starts_with_space, leading_dollar};
+ghost use Rattle.ninja.specs.Escapes.{path_text};
+ghost use Rattle.ninja.specs.Escapes.{value_text};
+ghost use Rattle.ninja.specs.Words.{quoted_byte};
+ghost use Rattle.ninja.specs.Places.{byte_text, stays};
+
+use ports::{DeviceFault, Outputs, put_all};
+
+/// Where bytes stand, which rules how they are written.
+#[derive(Clone, Copy)]
+pub enum Place {
+    InPath,
+    InValue,
+    /// In a value, between a shell's single quotes.
+    InQuotes,
+}
+
+fn path_escape(byte: u8) -> Option<&'static [u8]>
+    ensures { MatchOption result (path_byte_text byte ≡ byte ∷ []) (λ text. path_byte_text byte ≡ text.now) }
+{
+    match byte {
+        b'$' => Some(b"$$"),
+        b' ' => Some(b"$ "),
+        b':' => Some(b"$:"),
+        _ => None,
+    }
+}
+
+fn value_escape(byte: u8) -> Option<&'static [u8]>
+    ensures { MatchOption result (value_byte_text byte ≡ byte ∷ []) (λ text. value_byte_text byte ≡ text.now) }
+{
+    match byte {
+        b'$' => Some(b"$$"),
+        _ => None,
+    }
+}
+
+fn quoted_escape(byte: u8) -> Option<&'static [u8]>
+    ensures { MatchOption result (value_rest_text (quoted_byte byte) ≡ byte ∷ []) (λ text. value_rest_text (quoted_byte byte) ≡ text.now) }
+{
+    match byte {
+        b'\'' => Some(b"'\"'\"'"),
+        b'$' => Some(b"$$"),
+        _ => None,
+    }
+}
+
+impl Place {
+    // What is written for the byte, if not the byte itself.
+    fn escape(self, byte: u8) -> Option<&'static [u8]>
+        ensures { MatchOption result (byte_text self byte ≡ byte ∷ []) (λ text. byte_text self byte ≡ text.now) }
+    {
+        match self {
+            Place::InPath => path_escape(byte),
+            Place::InValue => value_escape(byte),
+            Place::InQuotes => quoted_escape(byte),
+        }
+    }
+
+    // Whether the byte is written as itself.
+    fn keeps(self, byte: u8) -> bool
+        ensures { result ≡ stays self byte }
+    {
+        match self {
+            Place::InPath => !matches!(byte, b'$' | b' ' | b':'),
+            Place::InValue => byte != b'$',
+            Place::InQuotes => !matches!(byte, b'\'' | b'$'),
+        }
+    }
+}
+
+fn all_stay(place: Place, bytes: &[u8]) -> bool
+    ensures { result ≡ list_all (stays place) bytes.now }
+{
+    bytes.iter().all(|byte| place.keeps(*byte))
+}
+
+fn write_byte<O: Outputs>(place: Place, byte: u8, out: &mut O) -> Result<(), DeviceFault>
+    requires { IsOpen (O.seen out.old) }
+    ensures { Writes (O.seen out.old) (puts (byte_text place byte)) (ended result) (O.seen out.new) }
+{
+    match place.escape(byte) {
+        Some(escaped) => put_all(out, escaped),
+        None => put_all(out, &[byte]),
+    }
+}
+
+#[tactic(auto, using(ports::proofs::Sending::writing))]
+fn write_each<O: Outputs>(place: Place, bytes: &[u8], out: &mut O) -> Result<(), DeviceFault>
+    requires { IsOpen (O.seen out.old) }
+    ensures { Writes (O.seen out.old) (flat_map (λ b. puts (byte_text place b)) bytes.now) (ended result) (O.seen out.new) }
+{
+    for byte in bytes {
+        write_byte(place, *byte, out)?;
+    }
+    Ok(())
+}
+
+/// Writes bytes that stand in this place: at once, where each stands for itself.
+pub fn write_escaped<O: Outputs>(place: Place, bytes: &[u8], out: &mut O) -> Result<(), DeviceFault>
+    requires { IsOpen (O.seen out.old) }
+    ensures { Writes (O.seen out.old) (puts (flat_map (byte_text place) bytes.now)) (ended result) (O.seen out.new) }
+{
+    if all_stay(place, bytes) {
+        put_all(out, bytes)
+    } else {
+        write_each(place, bytes, out)
+    }
+}
+
+/// Writes a path: with a `$` before each dollar sign, space and colon.
+pub fn write_path<O: Outputs>(path: &str, out: &mut O) -> Result<(), DeviceFault>
+    requires { IsOpen (O.seen out.old) }
+    ensures { Writes (O.seen out.old) (puts (path_text path.now)) (ended result) (O.seen out.new) }
+{
+    write_escaped(Place::InPath, path.as_bytes(), out)
+}
+
+fn starts_with_space(bytes: &[u8]) -> bool
+    ensures { result ≡ starts_with_space bytes.now }
+{
+    matches!(bytes, [b' ', ..])
+}
+
+// A space in front would be dropped.
+fn leading_dollar(value: &[u8]) -> &'static [u8]
+    ensures { result.now ≡ leading_dollar value.now }
+{
+    if starts_with_space(value) { b"$" } else { b"" }
+}
+
+#[tactic(auto, using(ports::proofs::Sending::writing))]
+fn write_value_bytes<O: Outputs>(value: &[u8], out: &mut O) -> Result<(), DeviceFault>
+    requires { IsOpen (O.seen out.old) }
+    ensures { Writes (O.seen out.old) (puts (leading_dollar value.now) ++ puts (value_rest_text value.now)) (ended result)
+        (O.seen out.new) }
+{
+    put_all(out, leading_dollar(value))?;
+    write_escaped(Place::InValue, value, out)
+}
+
+/// Writes a value: with a `$` before each dollar sign, and before a space in front.
+pub fn write_value<O: Outputs>(value: &str, out: &mut O) -> Result<(), DeviceFault>
+    requires { IsOpen (O.seen out.old) }
+    ensures { Writes (O.seen out.old) (puts (value_text value.now)) (ended result) (O.seen out.new) }
+{
+    write_value_bytes(value.as_bytes(), out)
+}

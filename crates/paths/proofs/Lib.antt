@@ -1,4 +1,0 @@
-pub mod NameTexts
-pub mod PathTexts
-pub mod Staying
-mod Examples

@@ -1,4 +1,0 @@
-pub mod Folder
-pub mod Paths
-pub mod Below
-pub mod Names

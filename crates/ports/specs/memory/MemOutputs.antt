@@ -1,0 +1,22 @@
+use Rattle.std.specs.Prelude.{ℕ}
+use Rattle.ports.specs.declared.memory.plan.OutputCall.{OutputCall}
+use Rattle.ports.specs.Outputs.{OutputState}
+use Rattle.ports.specs.memory.Plan.{Planned}
+use Rattle.ports.specs.memory.Slots.{room_of, state_at}
+use Rattle.ports.specs.declared.memory.outputs.MemOutputs.{MemOutputs}
+
+-- what outputs in memory are seen as: they always tell
+abbrev pub mem_outputs_seen : MemOutputs → OutputState
+mem_outputs_seen m = state_at m.names.items m.slots.items m.current m.failures
+
+-- what is planned for them
+abbrev pub mem_outputs_plan : MemOutputs → Planned OutputCall
+mem_outputs_plan m = record { piece = m.plan.piece; kind = m.plan.kind; number = m.plan.number }
+
+-- how many events there is room for, and for how many bytes of names
+pub record Room : Type 0 where
+  pub events : ℕ
+  pub names : ℕ
+
+abbrev pub mem_outputs_room : MemOutputs → Room
+mem_outputs_room m = record { events = room_of m.slots; names = room_of m.names }

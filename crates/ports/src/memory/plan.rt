@@ -1,0 +1,92 @@
+//! What is planned for a device in memory, so that a test sees short calls and failures.
+
+ghost use Rattle.std.specs.Prelude.{◌≡◌, ◌<◌, ◌-◌, ◌==◌};
+ghost use Rattle.ports.specs.memory.Plan.{planned, is_due, is_output_call, is_tree_call, number_after};
+
+/// The calls of a tree, to say which of them is to fail.
+#[derive(Clone, Copy, Debug, PartialEq, Eq)]
+pub enum TreeCall {
+    Size,
+    ReadAt,
+    /// Each of these.
+    Any,
+}
+
+/// The calls of outputs, to say which of them is to fail.
+#[derive(Clone, Copy, Debug, PartialEq, Eq)]
+pub enum OutputCall {
+    Open,
+    Put,
+    Close,
+    Log,
+    Fault,
+    /// Each of these.
+    Any,
+}
+
+// At most `piece` bytes are taken in a call. Of the calls of the kind from now on the one of this number fails, none where it is 0.
+#[derive(Drop)]
+pub(crate) struct Plan<C> {
+    pub(crate) piece: usize,
+    kind: C,
+    number: u64,
+    ghost piece_is_some: { 0 < piece },
+}
+
+impl<C: Copy> Plan<C> {
+    // Such a piece, and the call that is told by its kind and its number, if one is to fail.
+    pub(crate) fn told(any: C, piece: usize, fail: Option<(C, u64)>) -> Self
+        requires { 0 < piece }
+        ensures { planned any piece fail ≡ record { piece = result.piece; kind = result.kind; number = result.number } }
+    {
+        let (kind, number) = fail.unwrap_or((any, 0));
+        Plan::new(piece, kind, number)
+    }
+}
+
+impl<C> Plan<C> {
+    pub(crate) fn new(piece: usize, kind: C, number: u64) -> Self
+        requires { 0 < piece }
+        ensures piece { result.piece ≡ piece }
+        ensures kind { result.kind ≡ kind }
+        ensures number { result.number ≡ number }
+    {
+        Plan {
+            piece,
+            kind,
+            number,
+        }
+    }
+
+    // Counts one call of the kind, and says whether it is the one that fails.
+    fn count_down(&mut self) -> bool
+        ensures fails { result ≡ (self.old.number == 1) }
+        ensures number { self.new.number ≡ self.old.number - 1 }
+        ensures piece { self.new.piece ≡ self.old.piece }
+        ensures kind { self.new.kind ≡ self.old.kind }
+    {
+        let is_last = self.number == 1;
+        self.number = self.number.saturating_sub(1);
+        is_last
+    }
+}
+
+// Counts this call, and says whether it is to fail.
+pub(crate) fn tree_call_fails(plan: &mut Plan<TreeCall>, call: TreeCall) -> bool
+    ensures fails { result ≡ is_due (is_tree_call plan.old.kind call) plan.old.number }
+    ensures number { plan.new.number ≡ number_after (is_tree_call plan.old.kind call) plan.old.number }
+    ensures piece { plan.new.piece ≡ plan.old.piece }
+    ensures kind { plan.new.kind ≡ plan.old.kind }
+{
+    (plan.kind == TreeCall::Any || plan.kind == call) && plan.count_down()
+}
+
+// Counts this call, and says whether it is to fail.
+pub(crate) fn output_call_fails(plan: &mut Plan<OutputCall>, call: OutputCall) -> bool
+    ensures fails { result ≡ is_due (is_output_call plan.old.kind call) plan.old.number }
+    ensures number { plan.new.number ≡ number_after (is_output_call plan.old.kind call) plan.old.number }
+    ensures piece { plan.new.piece ≡ plan.old.piece }
+    ensures kind { plan.new.kind ≡ plan.old.kind }
+{
+    (plan.kind == OutputCall::Any || plan.kind == call) && plan.count_down()
+}

@@ -1,0 +1,167 @@
+//! Sets in the order of insertion.
+ghost use Rattle.std.specs.Prelude.{◌≡◌, ◌<◌, [], length, position, option_copied, slice_get, nat_eq, take, false, not, is_some};
+ghost use Rattle.std.specs.Prelude.{bytes_eq, string_bytes, IfOk, IfSome, OnOk, OnErr};
+ghost use Rattle.std.specs.List.{list_any, IsDistinct, position_or_len};
+ghost use Rattle.support.specs.Sets.{insert_key};
+
+use indexmap::IndexSet;
+use std::alloc::{AllocError, Global};
+use std::hash::{BuildHasherDefault, DefaultHasher, Hash};
+use std::marker::Model;
+
+/// What makes a hasher for each key: SipHash with a fixed key.
+pub type SipHasher = BuildHasherDefault<DefaultHasher>;
+
+/// A set in the order of insertion, hashed by SipHash. Its keys have the indices from 0 on.
+pub struct SipSet<K: Eq + Hash + Drop> {
+    set: IndexSet<K, SipHasher>,
+}
+
+impl<K: Eq + Hash + Drop> Model for SipSet<K> {
+    ghost use Rattle.support.specs.Sets.{KeySet};
+
+    ghost Value = { KeySet K };
+
+    ghost view = { λ s. record { keys = s.set.keys } };
+}
+
+// A table has many parts, and a check goes through each of them wherever one is let go, which is at each `?`, unless a call does so.
+impl<K: Eq + Hash + Drop> Drop for SipSet<K> {
+    fn drop(self) {
+        let SipSet { set: _ } = self;
+    }
+}
+
+/// An empty set. It takes no memory until the first key is put in.
+pub fn new_set<K: Eq + Hash + Drop>(alloc: Global) -> SipSet<K>
+    ensures keys { result.keys ≡ [] }
+    ensures unique { IsDistinct K.eq result.keys }
+{
+    SipSet {
+        set: IndexSet::with_hasher(alloc, BuildHasherDefault::new()),
+    }
+}
+
+/// An empty set, with memory for so many keys.
+pub fn set_with_capacity<K: Eq + Hash + Drop>(
+    alloc: Global,
+    n: usize,
+) -> Result<SipSet<K>, AllocError>
+    ensures keys { IfOk result (λ s. s.keys ≡ []) }
+    ensures unique { IfOk result (λ s. IsDistinct K.eq s.keys) }
+{
+    let set = IndexSet::with_capacity_and_hasher(alloc, n, BuildHasherDefault::new())?;
+    Ok(SipSet { set })
+}
+
+impl<K: Eq + Hash + Drop> SipSet<K> {
+    /// Takes memory for so many keys more, so that none is moved as they come.
+    pub fn reserve(&mut self, n: usize) -> Result<(), AllocError>
+        ensures keys { self.new.keys ≡ self.old.keys }
+    {
+        self.set.reserve(n)
+    }
+
+    /// Puts a key last, and gives `true`. Where an equal key is there, that one stays and the answer is `false`. Only a new key can be
+    /// refused, for want of memory: then the set's keys are as they were, and the new one is let go. The time is that of a look-up, on
+    /// average over many keys.
+    #[inline]
+    pub fn insert(&mut self, key: K) -> Result<bool, AllocError>
+        ensures added { IfOk result (λ new. new ≡ not (list_any (K.eq key) self.old.keys)) }
+        ensures keys { OnOk result (self.new.keys ≡ insert_key K.eq self.old.keys key) }
+        ensures err { OnErr result (self.new.keys ≡ self.old.keys) }
+        ensures absent { OnErr result (list_any (K.eq key) self.old.keys ≡ false) }
+        ensures unique { IsDistinct K.eq self.new.keys }
+    {
+        let (_, new) = self.insert_full(key)?;
+        Ok(new)
+    }
+
+    /// Puts a key in as `insert` does, and gives the index of it or of the equal one that was there, and whether it is new.
+    #[inline]
+    pub fn insert_full(&mut self, key: K) -> Result<(usize, bool), AllocError>
+        ensures added { IfOk result (λ r. r.1 ≡ not (list_any (K.eq key) self.old.keys)) }
+        ensures keys { OnOk result (self.new.keys ≡ insert_key K.eq self.old.keys key) }
+        ensures index { IfOk result (λ r. r.0 ≡ position_or_len (K.eq key) self.old.keys) }
+        ensures within { IfOk result (λ r. r.0 < length self.new.keys) }
+        ensures err { OnErr result (self.new.keys ≡ self.old.keys) }
+        ensures absent { OnErr result (list_any (K.eq key) self.old.keys ≡ false) }
+        ensures unique { IsDistinct K.eq self.new.keys }
+    {
+        let placed = self.set.insert_full(key)?;
+        Ok(placed)
+    }
+
+    /// The index of a key.
+    #[inline]
+    pub fn get_index_of(&self, key: &K) -> Option<usize>
+        ensures index { result ≡ position (K.eq key.now) self.now.keys }
+        ensures found { is_some result ≡ list_any (K.eq key.now) self.now.keys }
+        ensures within { IfSome result (λ i. i < length self.now.keys) }
+    {
+        self.set.get_index_of(key)
+    }
+
+    /// The key at an index.
+    #[inline]
+    pub fn get_index(&self, index: usize) -> Option<&K>
+        ensures key { option_copied result ≡ slice_get self.now.keys index }
+    {
+        self.set.get_index(index)
+    }
+
+    /// The keys, in the order in which they were put in.
+    #[inline]
+    pub fn as_slice(&self) -> &[K]
+        ensures keys { result.now ≡ self.now.keys }
+        ensures unique { IsDistinct K.eq self.now.keys }
+    {
+        self.set.as_slice()
+    }
+
+    /// How many keys there are.
+    #[inline]
+    pub fn len(&self) -> usize
+        ensures len { result ≡ length self.now.keys }
+        ensures unique { IsDistinct K.eq self.now.keys }
+    {
+        self.set.len()
+    }
+
+    /// Whether there are none.
+    #[inline]
+    pub fn is_empty(&self) -> bool
+        ensures { result ≡ nat_eq (length self.now.keys) 0 }
+    {
+        self.len() == 0
+    }
+
+    /// Keeps so many of the first keys, and lets the others go. The memory stays.
+    #[inline]
+    pub fn truncate(&mut self, len: usize)
+        ensures keys { self.new.keys ≡ take len self.old.keys }
+        ensures unique { IsDistinct K.eq self.new.keys }
+    {
+        self.set.truncate(len);
+    }
+}
+
+impl SipSet<String> {
+    /// Whether a text is one of the keys.
+    #[inline]
+    pub fn contains(&self, text: &str) -> bool
+        ensures { result ≡ list_any (λ k. bytes_eq text.now (string_bytes k)) self.now.keys }
+    {
+        self.set.contains(text)
+    }
+
+    /// The index of the key that is this text.
+    #[inline]
+    pub fn index_of_text(&self, text: &str) -> Option<usize>
+        ensures index { result ≡ position (λ k. bytes_eq text.now (string_bytes k)) self.now.keys }
+        ensures found { is_some result ≡ list_any (λ k. bytes_eq text.now (string_bytes k)) self.now.keys }
+        ensures within { IfSome result (λ i. i < length self.now.keys) }
+    {
+        self.set.get_index_of(text)
+    }
+}

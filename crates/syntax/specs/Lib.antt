@@ -1,0 +1,14 @@
+pub mod Expressions
+pub mod ExpressionTree
+pub mod Form
+pub mod Grammar
+pub mod Laws
+pub mod Outcome
+pub mod Parsed
+pub mod Parts
+pub mod Reading
+pub mod ReadingExpressions
+pub mod ReadingStatements
+pub mod Statements
+pub mod Tree
+pub mod lexer

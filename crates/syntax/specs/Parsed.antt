@@ -1,0 +1,74 @@
+-- What a source reads as.
+use Rattle.std.specs.Prelude.{◌≡◌, ℕ, ◌+◌, ◌-◌, ◌≤◌, List, [], ◌∷◌, length, drop, Result, Ok, Err}
+use Rattle.syntax.specs.lexer.Bytes.{newlines}
+use Rattle.syntax.specs.lexer.Lexeme.{Lexeme}
+use Rattle.syntax.specs.Tree.{FileTree}
+use Rattle.syntax.specs.lexer.Tokens.{AreTokens, IsUnreadable}
+use Rattle.syntax.specs.lexer.Lexing.{lexed}
+use Rattle.syntax.specs.Grammar.{file, most_levels}
+use Rattle.syntax.specs.Outcome.{BeginsBy, IsUnexpected, IsTooDeep}
+use Rattle.syntax.specs.Reading.{all_of}
+use Rattle.syntax.specs.ReadingStatements.{file_at}
+use Rattle.syntax.specs.declared.stop.Stop.{Stop}
+use Rattle.syntax.specs.declared.stop.Stop.TheVariants.{Unexpected, TooDeep}
+use Rattle.syntax.specs.declared.lexer.fault.SyntaxFault.{SyntaxFault}
+use Rattle.syntax.specs.declared.lexer.fault.FaultKind.{FaultKind}
+use Rattle.syntax.specs.declared.lexer.fault.FaultKind.TheVariants as Faults
+
+-- ---- as a function of the source
+
+abbrev pub first_line : ℕ → List Lexeme → ℕ
+first_line end [] = end
+first_line end (t ∷ ts) = t.line
+
+-- the line of the token with this index, or of the end
+abbrev pub line_of : List ℕ → List Lexeme → ℕ → ℕ
+line_of source ts k = first_line (1 + newlines source) (drop k ts)
+
+-- the fault of a stop, with the line of its token
+abbrev pub located : List ℕ → List Lexeme → Stop → SyntaxFault
+located source ts (Unexpected left) = record { kind = Faults.Grammar; line = line_of source ts (length ts - left) }
+located source ts (TooDeep left) = record { kind = Faults.Nesting; line = line_of source ts (length ts - left) }
+
+abbrev pub in_source : List ℕ → List Lexeme → Result FileTree Stop → Result FileTree SyntaxFault
+in_source source ts (Ok f) = Ok f
+in_source source ts (Err s) = Err (located source ts s)
+
+abbrev pub parsed_tokens : List ℕ → Result (List Lexeme) SyntaxFault → Result FileTree SyntaxFault
+parsed_tokens source (Ok ts) = in_source source ts (all_of (file_at most_levels) ts)
+parsed_tokens source (Err e) = Err e
+
+-- the file that a source spells, or its fault
+unfoldable pub parsed : List ℕ → Result FileTree SyntaxFault
+parsed source = parsed_tokens source (lexed source)
+
+-- ---- as relations
+
+-- the tokens of the source spell the file, with at most so many levels
+pub record Spells (levels : ℕ) (source : List ℕ) (f : FileTree) : Type 0 where
+  pub tokens : List Lexeme
+  pub are_tokens : AreTokens source tokens
+  pub spelled : (file levels).spells f tokens []
+
+-- of the tokens of the source this holds at the one on this line
+pub record HoldsOn (holds : List Lexeme → ℕ → Type 0) (source : List ℕ) (line : ℕ) : Type 0 where
+  pub tokens : List Lexeme
+  pub are_tokens : AreTokens source tokens
+  pub index : ℕ
+  pub here : line ≡ line_of source tokens index
+  pub holding : holds tokens index
+
+-- no token begins on this line; or the tokens begin no file from the one on it on; or that is the first that opens a level too many
+abbrev pub FaultsBy : FaultKind → List ℕ → ℕ → Type 0
+FaultsBy Faults.Token source line = IsUnreadable source line
+FaultsBy Faults.Grammar source line = HoldsOn (IsUnexpected file most_levels) source line
+FaultsBy Faults.Nesting source line = HoldsOn (IsTooDeep file most_levels) source line
+
+-- the source has this fault
+abbrev pub HasFault : List ℕ → SyntaxFault → Type 0
+HasFault source f = FaultsBy f.kind source f.line
+
+-- where the first k tokens begin a file, so do fewer: what no front reaches, no longer one does
+abbrev pub FrontsAreShorter : List ℕ → Type 0
+FrontsAreShorter source = (n : ℕ) (ts : List Lexeme) (j k : ℕ) → AreTokens source ts → j ≤ k → BeginsBy (file n) ts k
+    → BeginsBy (file n) ts j

@@ -1,0 +1,207 @@
+-- Reading statements by their grammar, as functions: a value and the tokens after it, or where reading stops.
+use Rattle.std.specs.Prelude.{◌≡◌, ℕ, zero, suc, Bool, true, false, not, ◌||◌, List, [], ◌∷◌, ◌++◌, length, Result, Ok, Err, Option}
+use Rattle.std.specs.Prelude.{unwrap_or}
+use Rattle.syntax.specs.lexer.Lexeme.{Lexeme}
+use Rattle.syntax.specs.lexer.Kinds.{is}
+use Rattle.syntax.specs.declared.lexer.token.Kind.{Kind}
+use Rattle.syntax.specs.declared.lexer.token.Kind.TheVariants as Kinds
+use Rattle.syntax.specs.declared.stop.ReadError.{ReadError}
+use Rattle.syntax.specs.declared.stop.Stop.{Stop}
+use Rattle.syntax.specs.declared.stop.Stop.TheVariants.{Unexpected}
+use Rattle.syntax.specs.Parts.{here_at}
+use Rattle.syntax.specs.ExpressionTree.{ExpressionTree}
+use Rattle.syntax.specs.Tree.{StatementTree, AssignTree, AppendTree, ValueTree, BreakTree, ContinueTree, IfTree, ForeachTree, FileTree}
+use Rattle.syntax.specs.Tree.{statements, BranchTree, branches}
+use Rattle.syntax.specs.Statements.{given}
+use Rattle.syntax.specs.Reading.{Reader, ◌>>=◌, Fails, begins, token_at, many_at, or_at, optional_at, deep_at, two_begin}
+use Rattle.syntax.specs.ReadingExpressions.{expr_at}
+
+-- ---- statements of one line
+
+-- the sign that adds to what a name has, or that gives it a value, and the statement
+abbrev pub sign_of : Bool → Kind
+sign_of true = Kinds.PlusAssign
+sign_of false = Kinds.Assign
+
+abbrev pub set_tree : Bool → List ℕ → ℕ → ExpressionTree → StatementTree
+set_tree true = AppendTree
+set_tree false = AssignTree
+
+-- what gives a name a value, with the token of this kind after the name
+unfoldable pub set_at : Kind → (List ℕ → ℕ → ExpressionTree → StatementTree) → Reader ExpressionTree → Reader StatementTree
+set_at k tree r ts = do
+  t ← token_at Kinds.Name ts
+  q ← token_at k t.1
+  e ← r q.1
+  Ok (tree t.0.text t.0.line e.0, e.1)
+
+unfoldable pub plain_at : Reader ExpressionTree → Reader StatementTree
+plain_at r ts = do
+  line ← here_at ts
+  e ← r line.1
+  Ok (ValueTree e.0 line.0, e.1)
+
+-- the word that leaves a loop or that leaves its round, and the statement
+abbrev pub leave_word : Bool → Kind
+leave_word true = Kinds.Break
+leave_word false = Kinds.Continue
+
+abbrev pub leave_tree : Bool → ℕ → StatementTree
+leave_tree true = BreakTree
+leave_tree false = ContinueTree
+
+unfoldable pub leave_at : Kind → (ℕ → StatementTree) → Bool → Reader StatementTree
+leave_at k tree true ts = token_at k ts >>= λ t. Ok (tree t.0.line, t.1)
+leave_at k tree false ts = Err (Unexpected (length ts))
+
+unfoldable pub simple_at : Bool → ℕ → Reader StatementTree
+simple_at inside n ts =
+    or_at (begins Kinds.Break) (leave_at Kinds.Break BreakTree inside)
+    (or_at (begins Kinds.Continue) (leave_at Kinds.Continue ContinueTree inside)
+    (or_at (two_begin Kinds.Name Kinds.Assign) (set_at Kinds.Assign AssignTree (expr_at n))
+    (or_at (two_begin Kinds.Name Kinds.PlusAssign) (set_at Kinds.PlusAssign AppendTree (expr_at n))
+    (plain_at (expr_at n))))) ts
+
+-- ---- blocks
+
+-- no statement is left on this line
+abbrev pub ends_line : List Lexeme → Bool
+ends_line [] = true
+ends_line (t ∷ ts) = is t.kind Kinds.Newline
+
+abbrev pub in_line : List Lexeme → Bool
+in_line ts = not (ends_line ts)
+
+-- the word of a further part of a block, or its last word
+abbrev pub ends_body : Kind → Bool
+ends_body k = is k Kinds.EndForeach || (is k Kinds.EndIf || (is k Kinds.Elif || is k Kinds.Else))
+
+abbrev pub in_body : List Lexeme → Bool
+in_body [] = false
+in_body (t ∷ ts) = not (ends_body t.kind)
+
+-- [stmt]
+abbrev pub maybe_at : Reader StatementTree → Reader (Option StatementTree)
+maybe_at r = optional_at in_line r
+
+-- What a function that puts a line's statement behind the others returned, with the statements before and after it, and
+-- the tokens that it left are what reading gives, unless memory ran out.
+abbrev pub GivesLine : {X : Type 0} → List StatementTree → List StatementTree → Result X ReadError → List Lexeme
+    → Result (Option StatementTree × List Lexeme) Stop → Type 0
+GivesLine before after (Ok x) rest read = (o : Option StatementTree) × (read ≡ Ok (o, rest)) × (after ≡ before ++ given (o ∷ []))
+GivesLine before after (Err e) rest read = Fails e read
+
+-- [stmt] NL
+unfoldable pub ended_line_at : Reader StatementTree → Reader (Option StatementTree)
+ended_line_at r ts = do
+  s ← maybe_at r ts
+  t ← token_at Kinds.Newline s.1
+  Ok (s.0, t.1)
+
+unfoldable pub body_at : Reader StatementTree → Reader (List StatementTree)
+body_at r ts = do
+  lines ← many_at in_body (ended_line_at r) (length ts) ts
+  Ok (given lines.0, lines.1)
+
+-- "," NAME
+unfoldable pub second_at : Reader (List ℕ)
+second_at ts = do
+  c ← token_at Kinds.Comma ts
+  t ← token_at Kinds.Name c.1
+  Ok (t.0.text, t.1)
+
+unfoldable pub names_at : Reader (List ℕ × Option (List ℕ))
+names_at ts = do
+  a ← token_at Kinds.Name ts
+  b ← optional_at (begins Kinds.Comma) second_at a.1
+  c ← token_at Kinds.Colon b.1
+  Ok ((a.0.text, b.0), c.1)
+
+unfoldable pub branch_at : Reader ExpressionTree → Reader StatementTree → Reader BranchTree
+branch_at expr stmt ts = do
+  line ← here_at ts
+  e ← expr line.1
+  t ← token_at Kinds.Newline e.1
+  ss ← body_at stmt t.1
+  Ok ((e.0, line.0, statements ss.0), ss.1)
+
+unfoldable pub foreach_at : Reader ExpressionTree → Reader StatementTree → Reader StatementTree
+foreach_at expr stmt ts = do
+  w ← token_at Kinds.Foreach ts
+  x ← names_at w.1
+  b ← branch_at expr stmt x.1
+  end ← token_at Kinds.EndForeach b.1
+  Ok (ForeachTree w.0.line x.0.0 x.0.1 b.0.0 b.0.1 b.0.2, end.1)
+
+unfoldable pub elif_at : Reader ExpressionTree → Reader StatementTree → Reader BranchTree
+elif_at expr stmt ts = do
+  w ← token_at Kinds.Elif ts
+  branch_at expr stmt w.1
+
+unfoldable pub parts_at : Reader ExpressionTree → Reader StatementTree → Reader (List BranchTree)
+parts_at expr stmt ts = do
+  first ← branch_at expr stmt ts
+  others ← many_at (begins Kinds.Elif) (elif_at expr stmt) (length first.1) first.1
+  Ok (first.0 ∷ others.0, others.1)
+
+unfoldable pub last_part_at : Reader StatementTree → Reader (List StatementTree)
+last_part_at stmt ts = do
+  w ← token_at Kinds.Else ts
+  t ← token_at Kinds.Newline w.1
+  body_at stmt t.1
+
+unfoldable pub otherwise_at : Reader StatementTree → Reader (List StatementTree)
+otherwise_at stmt ts = do
+  last ← optional_at (begins Kinds.Else) (last_part_at stmt) ts
+  Ok (unwrap_or last.0 [], last.1)
+
+-- the parts of an `if` that have a condition, and what stands behind `else`, up to the end
+unfoldable pub alternatives_at : Reader ExpressionTree → Reader StatementTree → Reader (List BranchTree × List StatementTree)
+alternatives_at expr stmt ts = do
+  bs ← parts_at expr stmt ts
+  ss ← otherwise_at stmt bs.1
+  end ← token_at Kinds.EndIf ss.1
+  Ok ((bs.0, ss.0), end.1)
+
+unfoldable pub conditional_at : Reader ExpressionTree → Reader StatementTree → Reader StatementTree
+conditional_at expr stmt ts = do
+  w ← token_at Kinds.If ts
+  bs ← parts_at expr stmt w.1
+  ss ← otherwise_at stmt bs.1
+  end ← token_at Kinds.EndIf ss.1
+  Ok (IfTree w.0.line (branches bs.0) (statements ss.0), end.1)
+
+-- the word of a block
+abbrev pub opens_block : Kind → Bool
+opens_block k = is k Kinds.Foreach || is k Kinds.If
+
+abbrev pub begins_block : List Lexeme → Bool
+begins_block [] = false
+begins_block (t ∷ ts) = opens_block t.kind
+
+unfoldable pub block_at : Bool → ℕ → Reader StatementTree
+block_at inside zero ts = or_at (begins Kinds.Foreach) (deep_at Kinds.Foreach) (deep_at Kinds.If) ts
+block_at inside (suc n) ts =
+    or_at (begins Kinds.Foreach) (foreach_at (expr_at n) (or_at begins_block (block_at true n) (simple_at true n)))
+    (conditional_at (expr_at n) (or_at begins_block (block_at inside n) (simple_at inside n))) ts
+
+unfoldable pub stmt_at : Bool → ℕ → Reader StatementTree
+stmt_at inside n ts = or_at begins_block (block_at inside n) (simple_at inside n) ts
+
+-- ---- files
+
+-- [stmt]
+abbrev pub line_at : ℕ → Reader (Option StatementTree)
+line_at n = maybe_at (stmt_at false n)
+
+-- NL [stmt]
+unfoldable pub next_line_at : ℕ → Reader (Option StatementTree)
+next_line_at n ts = do
+  t ← token_at Kinds.Newline ts
+  line_at n t.1
+
+unfoldable pub file_at : ℕ → Reader FileTree
+file_at n ts = do
+  first ← line_at n ts
+  others ← many_at (begins Kinds.Newline) (next_line_at n) (length first.1) first.1
+  Ok (given (first.0 ∷ others.0), others.1)

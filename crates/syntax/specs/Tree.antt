@@ -1,0 +1,71 @@
+-- The tree of a file without where it lies in memory.
+use Rattle.std.specs.Prelude.{ℕ, List, [], ◌∷◌, map, Option}
+use Rattle.std.specs.Option.{option_map}
+use Rattle.syntax.specs.ExpressionTree.{ExpressionTree, expression_of}
+use Rattle.syntax.specs.declared.tree.Statement.{Statement}
+use Rattle.syntax.specs.declared.tree.Statement.TheOpen.{Statement-F, Branch-F, Assign, Append, Break, Continue, If, Foreach}
+use Rattle.syntax.specs.declared.tree.Statement.TheOpen as opened
+use Rattle.syntax.specs.declared.tree.Statement.TheFolds.{fold-Statement, fold-Branch}
+use Rattle.syntax.specs.declared.tree.Branch.{Branch}
+use Rattle.syntax.specs.declared.tree.File.{File}
+
+mutual
+  -- A statement. Each has the line of its first token, and so have a condition and the list of a `foreach`.
+  pub data StatementTree : Type 0 where
+    -- a name, the line, and the value that it is given
+    AssignTree : List ℕ → ℕ → ExpressionTree → StatementTree
+    -- a name, the line, and the value that is added to what it has
+    AppendTree : List ℕ → ℕ → ExpressionTree → StatementTree
+    -- an expression, and the line of its first token
+    ValueTree : ExpressionTree → ℕ → StatementTree
+    BreakTree : ℕ → StatementTree
+    ContinueTree : ℕ → StatementTree
+    -- the line, the parts with a condition, and what stands behind `else`
+    IfTree : ℕ → Branches → Statements → StatementTree
+    -- the line, the first name, the second, the list and its line, and the statements of a round
+    ForeachTree : ℕ → List ℕ → Option (List ℕ) → ExpressionTree → ℕ → Statements → StatementTree
+
+  pub data Statements : Type 0 where
+    NoStatement : Statements
+    MoreStatements : StatementTree → Statements → Statements
+
+  -- parts of an `if`: a condition, its line, and the statements behind it
+  pub data Branches : Type 0 where
+    NoBranch : Branches
+    MoreBranches : ExpressionTree → ℕ → Statements → Branches → Branches
+
+abbrev pub BranchTree : Type 0
+BranchTree = ExpressionTree × ℕ × Statements
+
+abbrev pub FileTree : Type 0
+FileTree = List StatementTree
+
+abbrev pub statements : List StatementTree → Statements
+statements [] = NoStatement
+statements (s ∷ ss) = MoreStatements s (statements ss)
+
+abbrev pub branches : List BranchTree → Branches
+branches [] = NoBranch
+branches (b ∷ bs) = MoreBranches b.0 b.1 b.2 (branches bs)
+
+abbrev pub statement_step : Statement-F StatementTree BranchTree → StatementTree
+statement_step (Assign name line value) = AssignTree name.now line (expression_of value.value)
+statement_step (Append name line value) = AppendTree name.now line (expression_of value.value)
+statement_step (opened.Expression value line) = ValueTree (expression_of value) line
+statement_step (Break line) = BreakTree line
+statement_step (Continue line) = ContinueTree line
+statement_step (If line parts otherwise) = IfTree line (branches parts.items) (statements otherwise.items)
+statement_step (Foreach line first second round) =
+    ForeachTree line first.now (option_map (λ name. name.now) second) round.value.0 round.value.1 round.value.2
+
+abbrev pub branch_step : Branch-F StatementTree BranchTree → BranchTree
+branch_step b = (expression_of b.condition, b.line, statements b.body.items)
+
+abbrev pub statement_of : Statement → StatementTree
+statement_of = fold-Statement StatementTree BranchTree statement_step branch_step
+
+abbrev pub branch_of : Branch → BranchTree
+branch_of = fold-Branch StatementTree BranchTree statement_step branch_step
+
+abbrev pub file_of : File → FileTree
+file_of f = map statement_of f.statements.items

@@ -1,0 +1,14 @@
+-- What an answer says of a source.
+use Rattle.std.specs.Prelude.{◌≡◌, Result, Ok, Err}
+use Rattle.syntax.specs.declared.lexer.fault.SyntaxFault.{SyntaxFault}
+use Rattle.syntax.specs.declared.lexer.fault.SyntaxError.{SyntaxError}
+use Rattle.syntax.specs.declared.lexer.fault.SyntaxError.TheVariants as errors
+
+-- what a function returned, seen by view, is this, unless memory ran out
+abbrev pub Refuses : {Y : Type 0} → SyntaxError → Result Y SyntaxFault → Type 0
+Refuses errors.Memory read = Unit {0}
+Refuses (errors.Fault f) read = read ≡ Err f
+
+abbrev pub Answers : {X Y : Type 0} → (X → Y) → Result X SyntaxError → Result Y SyntaxFault → Type 0
+Answers view (Ok x) read = read ≡ Ok (view x)
+Answers view (Err e) read = Refuses e read

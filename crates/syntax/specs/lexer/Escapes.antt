@@ -1,0 +1,108 @@
+-- What a backslash and what follows it stand for in a string that is not raw.
+use Rattle.std.specs.Prelude.{◌≡◌, ℕ, zero, suc, ◌+◌, ◌*◌, ◌<◌, ◌≤◌, Bool, true, false, ◌==◌, ◌||◌, not, nat_lt, if◌then◌else◌, List, []}
+use Rattle.std.specs.Prelude.{◌∷◌, ◌++◌, length, fold, Option, Some, None}
+use Rattle.std.specs.Char.{digit_value, is_digit}
+use Rattle.std.specs.Int.{is_in_range}
+use Rattle.std.specs.List.{list_all}
+use Rattle.syntax.specs.lexer.Bytes.{quote, backslash, lower_f}
+use Rattle.syntax.specs.lexer.Numbers.{lower_b, lower_x, is_octal_digit}
+
+abbrev pub upper_u : ℕ
+upper_u = 85
+
+abbrev pub lower_a : ℕ
+lower_a = 97
+
+abbrev pub lower_n : ℕ
+lower_n = 110
+
+abbrev pub lower_r : ℕ
+lower_r = 114
+
+abbrev pub lower_t : ℕ
+lower_t = 116
+
+abbrev pub lower_u : ℕ
+lower_u = 117
+
+abbrev pub lower_v : ℕ
+lower_v = 118
+
+-- the character that a backslash and this byte alone stand for
+abbrev pub control : ℕ → Option ℕ
+control b =
+    if b == backslash then Some backslash
+    else (if b == quote then Some quote
+    else (if b == lower_a then Some 7
+    else (if b == lower_b then Some 8
+    else (if b == lower_t then Some 9
+    else (if b == lower_n then Some 10
+    else (if b == lower_v then Some 11
+    else (if b == lower_f then Some 12
+    else (if b == lower_r then Some 13
+    else None))))))))
+
+-- how many hexadecimal digits this byte wants behind it
+abbrev pub digit_count : ℕ → Option ℕ
+digit_count b = if b == lower_x then Some 2 else (if b == lower_u then Some 4 else (if b == upper_u then Some 8 else None))
+
+-- the number that `value` and n hexadecimal digits at the front write; nothing where they are fewer
+abbrev pub hexadecimal : ℕ → ℕ → List ℕ → Option ℕ
+hexadecimal zero value bs = Some value
+hexadecimal (suc n) value [] = None
+hexadecimal (suc n) value (b ∷ bs) = if is_digit b 16 then hexadecimal n (16 * value + digit_value b) bs else None
+
+-- the number that `value` and the octal digits at the front write, n of them at most, and how many digits that are, `size` the first
+abbrev pub octal : ℕ → ℕ → ℕ → List ℕ → ℕ × ℕ
+octal zero value size bs = (value, size)
+octal (suc n) value size [] = (value, size)
+octal (suc n) value size (b ∷ bs) = if is_octal_digit b then octal n (8 * value + digit_value b) (size + 1) bs else (value, size)
+
+abbrev pub sized : ℕ → Option ℕ → Option (ℕ × ℕ)
+sized n None = None
+sized n (Some code) = Some (code, n)
+
+abbrev pub named : ℕ → Option ℕ → List ℕ → Option (ℕ × ℕ)
+named b None bs = sized 1 (control b)
+named b (Some n) bs = sized (n + 1) (hexadecimal n 0 bs)
+
+-- The number that an escape names, of which this comes behind the backslash, and how many bytes it has there. There is none
+-- where the backslash stands for itself: each of them wants all of its digits, but the octal one, which wants one to three.
+unfoldable pub escape_at : List ℕ → Option (ℕ × ℕ)
+escape_at [] = None
+escape_at (b ∷ bs) = if is_octal_digit b then Some (octal 3 0 0 (b ∷ bs)) else named b (digit_count b) bs
+
+-- a character's number: at most 10FFFF, and no surrogate
+abbrev pub is_character : ℕ → Bool
+is_character code = nat_lt code 0xD800 || is_in_range 0xE000 0x10FFFF code
+
+abbrev pub names_none : Option (ℕ × ℕ) → Bool
+names_none None = false
+names_none (Some (code, n)) = not (is_character code)
+
+-- an escape that names no character, of which this comes behind the backslash
+abbrev pub is_bad_escape : List ℕ → Bool
+is_bad_escape bs = names_none (escape_at bs)
+
+-- ---- the same as a relation
+
+-- the number that these digits write in a base
+abbrev pub number_of : ℕ → List ℕ → ℕ
+number_of base digits = fold (λ value d. base * value + digit_value d) 0 digits
+
+abbrev pub begins_octal : List ℕ → Bool
+begins_octal [] = false
+begins_octal (b ∷ rest) = is_octal_digit b
+
+-- The text behind a backslash is an escape and names the number, where `rest` comes directly after it: one character; a
+-- letter and as many hexadecimal digits as it wants; or one to three octal digits, and fewer than three only where no other follows.
+pub data IsEscape : ℕ → List ℕ → List ℕ → Type 0 where
+  alone : (b code : ℕ) (rest : List ℕ) → control b ≡ Some code → IsEscape code (b ∷ []) rest
+  sixteen : (b : ℕ) (digits rest : List ℕ) → digit_count b ≡ Some (length digits) → list_all (λ d. is_digit d 16) digits ≡ true
+      → IsEscape (number_of 16 digits) (b ∷ digits) rest
+  eight : (digits rest : List ℕ) → 0 < length digits → length digits ≤ 3 → list_all is_octal_digit digits ≡ true
+      → (length digits < 3 → begins_octal rest ≡ false) → IsEscape (number_of 8 digits) digits rest
+
+-- each escape that begins here, behind a backslash, names a character
+abbrev pub NamesCharacters : List ℕ → Type 0
+NamesCharacters bs = (code : ℕ) (written rest : List ℕ) → bs ≡ written ++ rest → IsEscape code written rest → is_character code ≡ true

@@ -1,0 +1,78 @@
+-- What a token stands for.
+use Rattle.std.specs.Prelude.{◌≡◌, ℕ, zero, suc, ◌+◌, ◌-◌, Bool, true, false, ◌==◌, ◌||◌, ◌&&◌, not, nat_le, if◌then◌else◌, List, [], ◌∷◌}
+use Rattle.std.specs.Prelude.{◌++◌, length, slice_index, slice_range, Option, Some, None, encode_utf8}
+use Rattle.syntax.specs.declared.lexer.token.Kind.{Kind}
+use Rattle.syntax.specs.declared.lexer.token.Kind.TheVariants as Kinds
+use Rattle.syntax.specs.lexer.Bytes.{quote, backslash, lower_f, three_quotes}
+use Rattle.syntax.specs.lexer.Escapes.{escape_at, is_character, IsEscape}
+use Rattle.syntax.specs.lexer.Kinds.{is}
+
+-- a string of any kind
+abbrev pub is_string : Kind → Bool
+is_string k = is k Kinds.String || (is k Kinds.FormatString || (is k Kinds.RawString || is k Kinds.RawFormatString))
+
+abbrev pub character : Option (ℕ × ℕ) → ℕ × ℕ
+character None = (backslash, 0)
+character (Some (code, n)) = if is_character code then (code, n) else (backslash, 0)
+
+-- The character that a backslash and what follows it stand for, and how many bytes belong to it there. A backslash that
+-- begins no escape, or one that names no character, stands for itself.
+unfoldable pub escaped_by : List ℕ → ℕ × ℕ
+escaped_by bs = character (escape_at bs)
+
+-- a byte that stands for itself
+abbrev pub is_no_backslash : ℕ → Bool
+is_no_backslash b = not (b == backslash)
+
+-- the text that stands behind the first `skip` bytes, which belong to an escape before them
+abbrev pub unescaped_behind : ℕ → List ℕ → List ℕ
+unescaped_behind skip [] = []
+unescaped_behind (suc n) (b ∷ bs) = unescaped_behind n bs
+unescaped_behind zero (b ∷ bs) =
+    if b == backslash then encode_utf8 (escaped_by bs).0 ++ unescaped_behind (escaped_by bs).1 bs
+    else b ∷ unescaped_behind zero bs
+
+-- the text that characters between quotes stand for, with each escape replaced by what it names
+unfoldable pub unescaped : List ℕ → List ℕ
+unescaped bs = unescaped_behind 0 bs
+
+-- whether the first `front` bytes end with a quote, and the last `back` ones, which are others, begin with one
+abbrev pub is_framed : ℕ → ℕ → List ℕ → Bool
+is_framed front back text =
+    nat_le (front + back) (length text) && ((slice_index text (front - 1) == quote) && (slice_index text (length text - back) == quote))
+
+-- what stands behind the first `front` bytes and before the last `back` ones; all of a text without quotes at these places
+unfoldable pub between : ℕ → ℕ → List ℕ → List ℕ
+between front back text = if is_framed front back text then slice_range text front (length text - back) else text
+
+-- The text of a string after its escapes, a raw one's as it stands between its quotes. Any other token's is the token itself.
+abbrev pub text_of : Kind → List ℕ → List ℕ
+text_of k text =
+    if is k Kinds.String then unescaped (between 1 1 text)
+    else (if is k Kinds.FormatString then unescaped (between 2 1 text)
+    else (if is k Kinds.RawString then between 3 3 text
+    else (if is k Kinds.RawFormatString then between 4 3 text
+    else text)))
+
+-- ---- the same as a relation
+
+-- no escape that names a character begins here, behind a backslash
+abbrev pub NoEscape : List ℕ → Type 0
+NoEscape bs = (code : ℕ) (written rest : List ℕ) → bs ≡ written ++ rest → IsEscape code written rest → is_character code ≡ true → ⊥
+
+-- The characters between quotes, and the text that they stand for.
+pub data StandsFor : List ℕ → List ℕ → Type 0 where
+  nothing : StandsFor [] []
+  itself : (b : ℕ) (bs text : List ℕ) → is_no_backslash b ≡ true → StandsFor bs text → StandsFor (b ∷ bs) (b ∷ text)
+  escape : (code : ℕ) (written bs text : List ℕ) → IsEscape code written bs → is_character code ≡ true → StandsFor bs text
+      → StandsFor (backslash ∷ (written ++ bs)) (encode_utf8 code ++ text)
+  kept : (bs text : List ℕ) → NoEscape bs → StandsFor bs text → StandsFor (backslash ∷ bs) (backslash ∷ text)
+
+-- The token of this kind and slice, and the text that it stands for.
+pub data TokenStandsFor : Kind → List ℕ → List ℕ → Type 0 where
+  quoted : (inside text : List ℕ) → StandsFor inside text → TokenStandsFor Kinds.String (quote ∷ (inside ++ quote ∷ [])) text
+  format : (inside text : List ℕ) → StandsFor inside text
+      → TokenStandsFor Kinds.FormatString (lower_f ∷ quote ∷ (inside ++ quote ∷ [])) text
+  raw : (inside : List ℕ) → TokenStandsFor Kinds.RawString (three_quotes ++ (inside ++ three_quotes)) inside
+  raw_format : (inside : List ℕ) → TokenStandsFor Kinds.RawFormatString (lower_f ∷ (three_quotes ++ (inside ++ three_quotes))) inside
+  other : (k : Kind) (text : List ℕ) → is_string k ≡ false → TokenStandsFor k text text

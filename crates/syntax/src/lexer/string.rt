@@ -1,0 +1,82 @@
+//! Strings.
+
+ghost use Rattle.std.specs.Prelude.{◌≡◌, ◌+◌, ◌<◌, ◌≤◌, false, length, IfSome};
+ghost use Rattle.syntax.specs.lexer.Kinds.{format_kind};
+ghost use Rattle.syntax.specs.lexer.Lexing.{inside, before_quotes, string_at, format_at};
+
+use crate::lexer::bytes::opens_raw;
+use crate::lexer::escape::is_bad_escape;
+use crate::lexer::token::Kind;
+
+// How many bytes stand before the quote that ends a string.
+#[tactic(auto, using(crate::proofs::Strings::inside_steps))]
+fn inside_length(bytes: &[u8]) -> Option<usize>
+    ensures found { result ≡ inside false bytes.now }
+    ensures within { IfSome result (λ n. n + 1 ≤ length bytes.now) }
+{
+    let mut escaped = false;
+    for (length, byte) in bytes.iter().enumerate() {
+        if escaped {
+            if is_bad_escape(&bytes[length..]) {
+                return None;
+            }
+            escaped = false;
+        } else if *byte == b'\'' {
+            return Some(length);
+        } else {
+            escaped = *byte == b'\\';
+        }
+    }
+    None
+}
+
+// How many bytes stand before the first three quotes.
+#[tactic(auto, using(crate::proofs::Strings::quotes_steps))]
+fn length_before_quotes(bytes: &[u8]) -> Option<usize>
+    ensures found { result ≡ before_quotes bytes.now }
+    ensures within { IfSome result (λ n. n + 3 ≤ length bytes.now) }
+{
+    for length in 0..bytes.len() {
+        if opens_raw(&bytes[length..]) {
+            return Some(length);
+        }
+    }
+    None
+}
+
+// The kind and length of the string at the front, which begins with a quote.
+#[tactic(auto, using(crate::proofs::Strings::string_cases))]
+pub(crate) fn string_at(bytes: &[u8]) -> Option<(Kind, usize)>
+    requires { 0 < length bytes.now }
+    ensures found { result ≡ string_at bytes.now }
+    ensures within { IfSome result (λ t. t.1 ≤ length bytes.now) }
+{
+    if opens_raw(bytes) {
+        let length = length_before_quotes(&bytes[3..])?;
+        Some((Kind::RawString, length + 6))
+    } else {
+        let length = inside_length(&bytes[1..])?;
+        Some((Kind::String, length + 2))
+    }
+}
+
+// The kind of a string of this kind with an `f` before it.
+fn format_kind(kind: Kind) -> Kind
+    ensures { result ≡ format_kind kind }
+{
+    match kind {
+        Kind::String => Kind::FormatString,
+        Kind::RawString => Kind::RawFormatString,
+        other => other,
+    }
+}
+
+// The kind and length of the f-string at the front, which begins with `f` and a quote.
+#[tactic(auto, using(crate::proofs::Strings::format_cases))]
+pub(crate) fn format_at(bytes: &[u8]) -> Option<(Kind, usize)>
+    requires { 1 < length bytes.now }
+    ensures { result ≡ format_at bytes.now }
+{
+    let (kind, length) = string_at(&bytes[1..])?;
+    Some((format_kind(kind), length + 1))
+}

@@ -1,0 +1,153 @@
+//! What tokens stand for.
+
+ghost use Rattle.std.specs.Prelude.{◌≡◌, ℕ, ◌<◌, List, IfOk, IfSome, string_bytes};
+ghost use Rattle.syntax.specs.lexer.Lexing.{run};
+ghost use Rattle.syntax.specs.lexer.Texts.{escaped_by, is_no_backslash, unescaped, is_framed, between, text_of, TokenStandsFor};
+ghost use Rattle.syntax.specs.lexer.Tokens.{IsToken};
+
+use crate::lexer::escape::escape_at;
+use crate::lexer::token::{Kind, Token};
+use std::alloc::{AllocError, Global};
+
+// The character that a backslash stands for, of which these come behind it, and how many of these belong to it.
+#[tactic(auto, using(crate::proofs::Texts::escaped_cases))]
+fn unescape_one(bytes: &[u8]) -> (char, usize)
+    ensures { result ≡ escaped_by bytes.now }
+{
+    let Some((code, size)) = escape_at(bytes) else {
+        return ('\\', 0);
+    };
+    match char::from_u32(code) {
+        Some(character) => (character, size),
+        None => ('\\', 0),
+    }
+}
+
+// How many bytes stand before the first backslash.
+#[tactic(auto, using(crate::proofs::Runs::run_steps))]
+fn plain_length(bytes: &[u8]) -> usize
+    ensures { result ≡ run is_no_backslash bytes.now }
+{
+    let mut length = 0;
+    while length < bytes.len() && bytes[length] != b'\\' {
+        length += 1;
+    }
+    length
+}
+
+// The text that characters between quotes stand for.
+fn unescape(alloc: Global, text: &str) -> Result<String, AllocError>
+    ensures { IfOk result (λ s. string_bytes s ≡ unescaped text.now) }
+{
+    let mut whole = String::new(alloc);
+    let mut rest = text;
+    loop {
+        let (plain, marked) = rest.split_at(plain_length(rest.as_bytes()));
+        whole.push_str(plain)?;
+        if marked.is_empty() {
+            return Ok(whole);
+        }
+        let (_, behind) = marked.split_at(1);
+        let (character, size) = unescape_one(behind.as_bytes());
+        whole.push(character)?;
+        let (_, after) = behind.split_at(size);
+        rest = after;
+    }
+}
+
+// Whether so many bytes in front end with a quote, and so many others behind begin with one.
+#[tactic(auto, using(crate::proofs::Frames::framed_cases))]
+fn is_framed(bytes: &[u8], front: usize, back: usize) -> bool
+    requires before { 0 < front }
+    requires few { front < 8 }
+    requires behind { 0 < back }
+    requires not_many { back < 8 }
+    ensures { result ≡ is_framed front back bytes.now }
+{
+    if bytes.len() < front + back {
+        return false;
+    }
+    bytes[front - 1] == b'\'' && bytes[bytes.len() - back] == b'\''
+}
+
+// What stands behind the first bytes and before the last ones, so many each; all of a text without quotes at these places.
+fn between(text: &str, front: usize, back: usize) -> &str
+    requires before { 0 < front }
+    requires few { front < 8 }
+    requires behind { 0 < back }
+    requires not_many { back < 8 }
+    ensures { result.now ≡ between front back text.now }
+{
+    if is_framed(text.as_bytes(), front, back) {
+        &text[front..text.len() - back]
+    } else {
+        text
+    }
+}
+
+// What a token of this kind and slice stands for.
+fn stood_for(alloc: Global, kind: Kind, text: &str) -> Result<String, AllocError>
+    ensures { IfOk result (λ s. string_bytes s ≡ text_of kind text.now) }
+{
+    match kind {
+        Kind::String => unescape(alloc, between(text, 1, 1)),
+        Kind::FormatString => unescape(alloc, between(text, 2, 1)),
+        Kind::RawString => String::from_str(alloc, between(text, 3, 3)),
+        Kind::RawFormatString => String::from_str(alloc, between(text, 4, 3)),
+        _ => String::from_str(alloc, text),
+    }
+}
+
+// The characters between quotes, where they stand for themselves.
+fn without_escapes(text: &str) -> Option<&str>
+    ensures { IfSome result (λ t. t.now ≡ unescaped text.now) }
+{
+    if plain_length(text.as_bytes()) == text.len() {
+        Some(text)
+    } else {
+        None
+    }
+}
+
+/// The part of its slice that a token of this kind stands for, as [`text_of_slice`] gives it; none where a backslash stands in a string
+/// that is not raw.
+pub fn text_in_slice(kind: Kind, slice: &str) -> Option<&str>
+    ensures { IfSome result (λ t. t.now ≡ text_of kind slice.now) }
+{
+    match kind {
+        Kind::String => without_escapes(between(slice, 1, 1)),
+        Kind::FormatString => without_escapes(between(slice, 2, 1)),
+        Kind::RawString => Some(between(slice, 3, 3)),
+        Kind::RawFormatString => Some(between(slice, 4, 3)),
+        _ => Some(slice),
+    }
+}
+
+/// The text that a token of this kind stands for, with its slice of the source: a string's after its escapes, as the Meson
+/// manual's page "Syntax" has them; of any other token the slice.
+///
+/// A raw string's text is what stands between its quotes. A slice that no source has as such a token has a text too: an
+/// escape that names no character stays with its backslash, and a string without its quotes is taken as it stands.
+pub fn text_of_slice(alloc: Global, kind: Kind, slice: &str) -> Result<String, AllocError>
+    // Unless memory runs out, it is this function of the kind and the slice, whatever they are.
+    ensures value { IfOk result (λ s. string_bytes s ≡ text_of kind slice.now) }
+
+    // It is what a token of a source stands for, and the only text that a token stands for.
+    ensures source { (rest : List ℕ) → IsToken kind slice.now rest → IfOk result (λ s. TokenStandsFor kind slice.now (string_bytes s)) }
+    ensures only { (text : List ℕ) → TokenStandsFor kind slice.now text → IfOk result (λ s. string_bytes s ≡ text) }
+{
+    stood_for(alloc, kind, slice)
+}
+
+/// The text that a token stands for, as [`text_of_slice`] gives it.
+pub fn text_of(alloc: Global, token: &Token<'_>) -> Result<String, AllocError>
+    // Unless memory runs out, it is this function of the token, whatever the token is.
+    ensures value { IfOk result (λ s. string_bytes s ≡ text_of token.now.kind token.now.text.now) }
+
+    // It is what a token of a source stands for, and the only text that a token stands for.
+    ensures source { (rest : List ℕ) → IsToken token.now.kind token.now.text.now rest
+        → IfOk result (λ s. TokenStandsFor token.now.kind token.now.text.now (string_bytes s)) }
+    ensures only { (text : List ℕ) → TokenStandsFor token.now.kind token.now.text.now text → IfOk result (λ s. string_bytes s ≡ text) }
+{
+    text_of_slice(alloc, token.kind, token.text)
+}

@@ -1,0 +1,90 @@
+//! The tokens of a source.
+
+ghost use Rattle.std.specs.Prelude.{◌≡◌};
+
+/// What a token is.
+#[derive(Clone, Copy, PartialEq, Eq)]
+pub enum Kind {
+    /// A name that is no keyword.
+    Name,
+    /// `'..'`
+    String,
+    True,
+    False,
+    If,
+    Elif,
+    Else,
+    EndIf,
+    And,
+    Or,
+    Not,
+    In,
+    Foreach,
+    EndForeach,
+    Break,
+    Continue,
+    /// `(`
+    OpenParenthesis,
+    /// `)`
+    CloseParenthesis,
+    /// `[`
+    OpenBracket,
+    /// `]`
+    CloseBracket,
+    /// `{`
+    OpenBrace,
+    /// `}`
+    CloseBrace,
+    Comma,
+    Colon,
+    Dot,
+    Question,
+    /// `=`
+    Assign,
+    /// `+=`
+    PlusAssign,
+    /// `==`
+    Equal,
+    /// `!=`
+    NotEqual,
+    Less,
+    LessOrEqual,
+    Greater,
+    GreaterOrEqual,
+    Plus,
+    Minus,
+    Times,
+    Divide,
+    Remainder,
+    /// The end of a line, where no bracket is open.
+    Newline,
+    /// A decimal number, or one that begins with `0x`, `0o` or `0b`.
+    Number,
+    /// `'''..'''`
+    RawString,
+    /// `f'..'`
+    FormatString,
+    /// `f'''..'''`
+    RawFormatString,
+}
+
+/// One token.
+#[derive(Clone, Copy)]
+pub struct Token<'a> {
+    pub kind: Kind,
+    /// The line, from 1, of its first byte.
+    pub line: usize,
+    /// As it stands in the source, a string with its quotes.
+    pub text: &'a str,
+}
+
+impl Token<'_> {
+    ghost use Rattle.syntax.specs.lexer.Kinds.{is};
+
+    /// Whether the token is of this kind.
+    pub fn is(&self, kind: Kind) -> bool
+        ensures { result ≡ is self.now.kind kind }
+    {
+        self.kind == kind
+    }
+}

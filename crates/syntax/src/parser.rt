@@ -1,0 +1,203 @@
+//! Reads the file that tokens spell, with one token in hand.
+
+ghost use Rattle.std.specs.Prelude.{◌≡◌, ℕ, ◌+◌, ◌++◌, ◌-◌, ◌<◌, ◌≤◌, length, map, OnOk, [], ◌∷◌, IfOk, MatchResult, ◌⊎◌};
+ghost use Rattle.syntax.specs.lexer.Lexeme.{lexeme_of, lexemes};
+ghost use Rattle.syntax.specs.lexer.Answers.{Answers};
+ghost use Rattle.syntax.specs.Parsed.{FrontsAreShorter, HasFault, Spells, line_of, located, parsed};
+ghost use Rattle.syntax.specs.Reading.{Gives, GivesAll, GoesOn, all_of, begins, first_of, tokens_left, token_at};
+ghost use Rattle.syntax.specs.ReadingStatements.{file_at};
+ghost use Rattle.syntax.specs.Tree.{FileTree, file_of, statement_of};
+
+mod atom;
+mod expression;
+mod postfix;
+mod statement;
+
+use crate::lexer::fault::{FaultKind, SyntaxError, SyntaxFault};
+use crate::lexer::token::{Kind, Token};
+use crate::lexer::{newlines, tokens};
+use crate::stop::{ReadError, Stop};
+use crate::tree::{File, Statement};
+use std::alloc::Global;
+
+/// How many levels may be open: brackets, blocks and prefix operators, one inside another.
+pub const LEVELS: u32 = 64;
+
+// What was read, or why reading stops.
+type Read<T> = Result<T, ReadError>;
+
+// The tokens that are still to be read, and where what they spell is put.
+#[derive(Drop)]
+struct Parser<'t, 'a> {
+    alloc: Global,
+    rest: &'t [Token<'a>],
+}
+
+// Puts what was read behind the others.
+fn put<T: Drop>(items: &mut Vec<T>, read: Read<T>) -> Read<()>
+    ensures { GoesOn (λ item _. items.new.items ≡ items.old.items ++ item ∷ []) read result }
+{
+    let item = read?;
+    items.push(item)?;
+    Ok(())
+}
+
+// What was read, on the heap.
+fn allocate<T: Drop>(alloc: Global, read: Read<T>) -> Read<Box<T>>
+    ensures { GoesOn (λ value b. b.value ≡ value) read result }
+{
+    let value = read?;
+    Ok(Box::new(alloc, value)?)
+}
+
+// The items, in no more memory than they need: a tree stands for long, and most of its lists are short.
+fn fit<T>(items: Vec<T>) -> Vec<T>
+    ensures { result.items ≡ items.items }
+{
+    let mut items = items;
+    items.shrink_to_fit();
+    items
+}
+
+impl<'t, 'a> Parser<'t, 'a> {
+    // Takes the first token, where it is of this kind.
+    #[tactic(auto, using(crate::proofs::Tails::token_cases))]
+    fn take(&mut self, kind: Kind) -> Read<Token<'a>>
+        ensures read { Gives lexeme_of result (lexemes self.new.rest.now) (token_at kind (lexemes self.old.rest.now)) }
+        ensures shorter { OnOk result (length self.new.rest.now < length self.old.rest.now) }
+    {
+        match self.rest {
+            [token, rest @ ..] if token.is(kind) => {
+                self.rest = rest;
+                Ok(*token)
+            }
+            _ => Err(self.unexpected()),
+        }
+    }
+
+    // What was read, once a token of this kind has closed it.
+    #[tactic(auto, using(crate::proofs::Tails::first_taken))]
+    fn close<T: Drop>(&mut self, kind: Kind, value: T) -> Read<T>
+        ensures read { Gives (λ v. first_of (lexemes self.old.rest.now)) result (lexemes self.new.rest.now)
+            (token_at kind (lexemes self.old.rest.now)) }
+        ensures same { IfOk result (λ v. v ≡ value) }
+        ensures shorter { OnOk result (length self.new.rest.now < length self.old.rest.now) }
+    {
+        self.take(kind)?;
+        Ok(value)
+    }
+
+    // Whether the first token is of this kind.
+    fn begins(&self, kind: Kind) -> bool
+        ensures { result ≡ begins kind (lexemes self.now.rest.now) }
+    {
+        match self.rest {
+            [token, ..] => token.is(kind),
+            [] => false,
+        }
+    }
+
+    // The first token does not go on with any file.
+    fn unexpected(&self) -> ReadError
+        ensures { result ≡ ReadError.Stop (Stop.Unexpected (length self.now.rest.now)) }
+    {
+        ReadError::Stop(Stop::Unexpected(self.rest.len()))
+    }
+
+    // The statements of the lines.
+    fn lines(&mut self, levels: u32) -> Read<Vec<Statement<'a>>>
+        ensures read { Gives (λ v. map statement_of v.items) result (lexemes self.new.rest.now)
+            (file_at levels (lexemes self.old.rest.now)) }
+    {
+        let mut statements = Vec::new(self.alloc);
+        self.line(false, levels, &mut statements)?;
+        while self.begins(Kind::Newline) {
+            self.take(Kind::Newline)?;
+            self.line(false, levels, &mut statements)?;
+        }
+        Ok(fit(statements))
+    }
+
+    // The file that all tokens spell.
+    #[tactic(auto, using(crate::proofs::Tails::all_cases))]
+    fn file(&mut self, levels: u32) -> Read<File<'a>>
+        ensures { GivesAll file_of result (all_of (file_at levels) (lexemes self.old.rest.now)) }
+    {
+        let statements = self.lines(levels)?;
+        if !self.rest.is_empty() {
+            return Err(self.unexpected());
+        }
+        Ok(File { statements })
+    }
+}
+
+// The line of the token from which on so many are left, or of the source's end.
+fn line_of(source: &str, tokens: &[Token<'_>], left: usize) -> usize
+    requires { left ≤ length tokens.now }
+    ensures { result ≡ line_of source.now (lexemes tokens.now) (length tokens.now - left) }
+{
+    if left > 0 {
+        tokens[tokens.len() - left].line
+    } else {
+        1 + newlines(source.as_bytes())
+    }
+}
+
+// The fault of a source whose tokens cannot be read on.
+fn locate(source: &str, tokens: &[Token<'_>], stop: Stop) -> SyntaxFault
+    requires { tokens_left stop ≤ length tokens.now }
+    ensures { result ≡ located source.now (lexemes tokens.now) stop }
+{
+    match stop {
+        Stop::Unexpected(left) => SyntaxFault {
+            kind: FaultKind::Grammar,
+            line: line_of(source, tokens, left),
+        },
+        Stop::TooDeep(left) => SyntaxFault {
+            kind: FaultKind::Nesting,
+            line: line_of(source, tokens, left),
+        },
+    }
+}
+
+/// The file that a source spells.
+///
+/// A file is lines with a statement each, or none, of the forms of the Meson manual's page "Syntax": `name = expression`,
+/// `name += expression`, an expression alone, `break` and `continue` inside a `foreach`, `if` with its `elif` and `else`
+/// parts up to `endif`, and `foreach` up to `endforeach`. Expressions are names, literals, lists, dictionaries, calls,
+/// methods, indexes, operators and ternaries. Two comparisons do not follow one another, no ternary stands inside the
+/// branches of another, and arguments with a name stand behind the others.
+///
+/// What is no file has a fault at the line of a token, where the end counts as one: E2 where the source has no tokens; E3
+/// at the first token up to which the tokens begin no file; E4 at the first that opens level 65, where that comes before.
+/// A bracket and a prefix operator open a level, and so does a block at its first word, with its condition or list
+/// inside; `elif` and `else` open none.
+pub fn parse(alloc: Global, source: &str) -> Result<File<'_>, SyntaxError>
+    // Unless memory runs out, it is this function of the source.
+    ensures reads { Answers file_of result (parsed source.now) }
+
+    // The file is spelled by the tokens of the source, and no other is, however many levels may be open.
+    ensures spelled { IfOk result (λ f. Spells LEVELS source.now (file_of f)) }
+    ensures complete { (f : FileTree) → Spells LEVELS source.now f
+        → MatchResult result (λ x. file_of x ≡ f) (λ e. e ≡ SyntaxError.Memory) }
+    ensures only { (n : ℕ) (f : FileTree) → Spells n source.now f → IfOk result (λ x. file_of x ≡ f) }
+
+    // Which fault the source has; it has no other, and none where it spells a file.
+    ensures refused { (f : SyntaxFault) → result ≡ Err (SyntaxError.Fault f) → HasFault source.now f }
+    ensures faulty { (f : SyntaxFault) → HasFault source.now f
+        → MatchResult result (λ x. ⊥) (λ e. (e ≡ SyntaxError.Fault f) ⊎ (e ≡ SyntaxError.Memory)) }
+
+    // A fault is the first: no longer front begins a file once a shorter one doesn't.
+    ensures fronts { FrontsAreShorter source.now }
+{
+    let tokens = tokens(alloc, source)?;
+    let mut parser = Parser {
+        alloc,
+        rest: &tokens,
+    };
+    match parser.file(LEVELS) {
+        Ok(file) => Ok(file),
+        Err(ReadError::Memory) => Err(SyntaxError::Memory),
+        Err(ReadError::Stop(stop)) => Err(SyntaxError::Fault(locate(source, &tokens, stop))),
+    }
+}

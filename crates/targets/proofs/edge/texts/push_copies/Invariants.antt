@@ -1,6 +1,0 @@
-use Rattle.std.proofs.Common.{◌≡◌, ◌++◌, take}
-use Rattle.targets.specs.edge.Texts.{texts}
-use Rattle.targets.proofs.edge.texts.push_copies.Given as goal
-
-abbrev pub invariant-loop-string : goal.invariant-loop-string
-invariant-loop-string l = texts l.to.items ≡ texts l.fn.to.items ++ texts (take l.string-index l.from)

@@ -1,6 +1,0 @@
-use Rattle.std.proofs.Common.{sym, ◌∙◌, bytes_eq, string_bytes}
-use Rattle.targets.proofs.TextLists.{list_any-map}
-use Rattle.targets.proofs.edge.texts.stands_in.Goals as goal
-
-pub returns : goal.returns
-returns c = c.is_one_of.ensures ∙ sym (list_any-map (bytes_eq c.args.text.now) string_bytes c.args.list.now)

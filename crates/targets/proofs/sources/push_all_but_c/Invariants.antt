@@ -1,8 +1,0 @@
-use Rattle.std.proofs.Common.{◌≡◌, ◌++◌, take}
-use Rattle.std.specs.Prelude.{flat_map}
-use Rattle.targets.specs.edge.Texts.{texts}
-use Rattle.targets.specs.Sources.{if_not_c}
-use Rattle.targets.proofs.sources.push_all_but_c.Given as goal
-
-abbrev pub invariant-loop-path : goal.invariant-loop-path
-invariant-loop-path l = texts l.paths.items ≡ texts l.fn.paths.items ++ flat_map if_not_c (texts (take l.path-index l.made))

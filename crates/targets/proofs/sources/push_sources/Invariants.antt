@@ -1,9 +1,0 @@
-use Rattle.std.proofs.Common.{◌≡◌, ◌++◌, map, take}
-use Rattle.std.specs.Prelude.{flat_map}
-use Rattle.targets.specs.Sources.{c_inputs_in}
-use Rattle.targets.specs.View.{source_view}
-use Rattle.targets.specs.Inputs.{input_view}
-use Rattle.targets.proofs.sources.push_sources.Given as goal
-
-abbrev pub invariant-loop-source : goal.invariant-loop-source
-invariant-loop-source l = map input_view l.inputs.items ≡ map input_view l.fn.inputs.items ++ flat_map (c_inputs_in l.depth) (map source_view (take l.source-index l.sources))

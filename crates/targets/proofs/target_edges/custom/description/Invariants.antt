@@ -1,8 +1,0 @@
-use Rattle.std.proofs.Common.{◌≡◌, ◌++◌, take, string_bytes, codes}
-use Rattle.std.specs.Prelude.{flat_map}
-use Rattle.targets.specs.edge.Texts.{texts}
-use Rattle.targets.specs.target_edges.Edges.{and_path}
-use Rattle.targets.proofs.target_edges.custom.description.Given as goal
-
-abbrev pub invariant-loop-path : goal.invariant-loop-path
-invariant-loop-path l = string_bytes l.text ≡ codes "Generating" ++ flat_map and_path (texts (take l.path-index l.paths))

@@ -1,6 +1,0 @@
-use Rattle.std.proofs.Common.{take}
-use Rattle.targets.specs.Marks.{AreMarks}
-use Rattle.targets.proofs.walk.mark_kept.Given as goal
-
-abbrev pub invariant-loop-place : goal.invariant-loop-place
-invariant-loop-place l = AreMarks l.marks.items (take l.place l.kept)

@@ -1,6 +1,0 @@
-use Rattle.std.proofs.Common.{◌≡◌, ◌++◌, map, take}
-use Rattle.targets.specs.declared.walk.Step.TheVariants.{Enter}
-use Rattle.targets.proofs.walk.push_steps.Given as goal
-
-abbrev pub invariant-loop-number : goal.invariant-loop-number
-invariant-loop-number l = l.steps.items ≡ l.fn.steps.items ++ map Enter (take l.number-index l.numbers)

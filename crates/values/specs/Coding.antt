@@ -1,0 +1,134 @@
+-- Plain data written as the steps that build it on a stack, and read back: what makes it a value that a type can be seen as.
+use Rattle.std.specs.Prelude.{◌≡◌, ℕ, ℤ, Bool, List, [], ◌∷◌, ◌++◌, refl, ◌⊎◌}
+use Rattle.std.proofs.Common.{append_assoc, ap, ◌∙◌, sym, inl, inr}
+use Rattle.std.proofs.lemmas.List.{append-nil}
+use Rattle.std.specs.Coded.{Coded, code_by, coded⊎, coded_ℕ, coded_ℤ, coded_bool, coded_list}
+use base.Stored.{coded_unit}
+use Rattle.values.specs.declared.object.Object.{Object}
+use Rattle.values.specs.contracts.object.Object.{the_row as object_row}
+use Rattle.values.specs.Data.{Data, boolean, integer, text, list, dictionary, object, Items, no_items, item, Entries, no_entries, entry}
+
+pub data Step : Type 0 where
+  make_boolean : Bool → Step
+  make_integer : ℤ → Step
+  make_text : List ℕ → Step
+  make_object : Object → Step
+  start_list : Step
+  put_item : Step
+  start_dictionary : Step
+  put_entry : List ℕ → Step
+
+abbrev pub Stored : Type 0
+Stored = ((Bool ⊎ ℤ) ⊎ (List ℕ ⊎ Object)) ⊎ ((Unit {0} ⊎ Unit {0}) ⊎ (Unit {0} ⊎ List ℕ))
+
+abbrev pub stored : Step → Stored
+stored (make_boolean b) = inl (inl (inl b))
+stored (make_integer z) = inl (inl (inr z))
+stored (make_text t) = inl (inr (inl t))
+stored (make_object o) = inl (inr (inr o))
+stored start_list = inr (inl (inl tt))
+stored put_item = inr (inl (inr tt))
+stored start_dictionary = inr (inr (inl tt))
+stored (put_entry k) = inr (inr (inr k))
+
+abbrev pub step_in : Stored → Step
+step_in (inl (inl (inl b))) = make_boolean b
+step_in (inl (inl (inr z))) = make_integer z
+step_in (inl (inr (inl t))) = make_text t
+step_in (inl (inr (inr o))) = make_object o
+step_in (inr (inl (inl u))) = start_list
+step_in (inr (inl (inr u))) = put_item
+step_in (inr (inr (inl u))) = start_dictionary
+step_in (inr (inr (inr k))) = put_entry k
+
+pub step_in_stored : (s : Step) → step_in (stored s) ≡ s
+step_in_stored (make_boolean b) = refl
+step_in_stored (make_integer z) = refl
+step_in_stored (make_text t) = refl
+step_in_stored (make_object o) = refl
+step_in_stored start_list = refl
+step_in_stored put_item = refl
+step_in_stored start_dictionary = refl
+step_in_stored (put_entry k) = refl
+
+abbrev pub step_code : Coded Step
+step_code = code_by Stored (coded⊎ (coded⊎ (coded⊎ coded_bool coded_ℤ) (coded⊎ (coded_list coded_ℕ) object_row.coded))
+    (coded⊎ (coded⊎ coded_unit coded_unit) (coded⊎ coded_unit (coded_list coded_ℕ)))) stored step_in step_in_stored
+
+abbrev mutual
+  pub steps : Data → List Step
+  steps (boolean b) = make_boolean b ∷ []
+  steps (integer z) = make_integer z ∷ []
+  steps (text t) = make_text t ∷ []
+  steps (list ds) = item_steps ds
+  steps (dictionary es) = entry_steps es
+  steps (object o) = make_object o ∷ []
+
+  pub item_steps : Items → List Step
+  item_steps no_items = start_list ∷ []
+  item_steps (item d ds) = steps d ++ (item_steps ds ++ put_item ∷ [])
+
+  pub entry_steps : Entries → List Step
+  entry_steps no_entries = start_dictionary ∷ []
+  entry_steps (entry k d es) = steps d ++ (entry_steps es ++ put_entry k ∷ [])
+
+abbrev pub taken : Step → List Data → List Data
+taken (make_boolean b) s = boolean b ∷ s
+taken (make_integer z) s = integer z ∷ s
+taken (make_text t) s = text t ∷ s
+taken (make_object o) s = object o ∷ s
+taken start_list s = list no_items ∷ s
+taken put_item (list ds ∷ d ∷ s) = list (item d ds) ∷ s
+taken put_item s = s
+taken start_dictionary s = dictionary no_entries ∷ s
+taken (put_entry k) (dictionary es ∷ d ∷ s) = dictionary (entry k d es) ∷ s
+taken (put_entry k) s = s
+
+abbrev pub built : List Step → List Data → List Data
+built [] s = s
+built (t ∷ ts) s = built ts (taken t s)
+
+mutual
+  pub built-steps : (d : Data) (ts : List Step) (s : List Data) → built (steps d ++ ts) s ≡ built ts (d ∷ s)
+  built-steps (boolean b) ts s = refl
+  built-steps (integer z) ts s = refl
+  built-steps (text t) ts s = refl
+  built-steps (list ds) ts s = built-item_steps ds ts s
+  built-steps (dictionary es) ts s = built-entry_steps es ts s
+  built-steps (object o) ts s = refl
+
+  pub built-item_steps : (ds : Items) (ts : List Step) (s : List Data) → built (item_steps ds ++ ts) s ≡ built ts (list ds ∷ s)
+  built-item_steps no_items ts s = refl
+  built-item_steps (item d ds) ts s =
+      ap (λ x. built x s) (append_assoc (steps d) (item_steps ds ++ put_item ∷ []) ts)
+      ∙ built-steps d ((item_steps ds ++ put_item ∷ []) ++ ts) s
+      ∙ ap (λ x. built x (d ∷ s)) (append_assoc (item_steps ds) (put_item ∷ []) ts)
+      ∙ built-item_steps ds (put_item ∷ ts) (d ∷ s)
+
+  pub built-entry_steps : (es : Entries) (ts : List Step) (s : List Data) → built (entry_steps es ++ ts) s ≡ built ts (dictionary es ∷ s)
+  built-entry_steps no_entries ts s = refl
+  built-entry_steps (entry k d es) ts s =
+      ap (λ x. built x s) (append_assoc (steps d) (entry_steps es ++ put_entry k ∷ []) ts)
+      ∙ built-steps d ((entry_steps es ++ put_entry k ∷ []) ++ ts) s
+      ∙ ap (λ x. built x (d ∷ s)) (append_assoc (entry_steps es) (put_entry k ∷ []) ts)
+      ∙ built-entry_steps es (put_entry k ∷ ts) (d ∷ s)
+
+abbrev pub items_of_top : List Data → Items
+items_of_top (list ds ∷ s) = ds
+items_of_top _ = no_items
+
+abbrev pub entries_of_top : List Data → Entries
+entries_of_top (dictionary es ∷ s) = es
+entries_of_top _ = no_entries
+
+pub items_back : (ds : Items) → items_of_top (built (item_steps ds) []) ≡ ds
+items_back ds = ap (λ x. items_of_top (built x [])) (sym (append-nil (item_steps ds))) ∙ ap items_of_top (built-item_steps ds [] [])
+
+pub entries_back : (es : Entries) → entries_of_top (built (entry_steps es) []) ≡ es
+entries_back es = ap (λ x. entries_of_top (built x [])) (sym (append-nil (entry_steps es))) ∙ ap entries_of_top (built-entry_steps es [] [])
+
+abbrev pub items_code : Coded Items
+items_code = code_by (List Step) (coded_list step_code) item_steps (λ ts. items_of_top (built ts [])) items_back
+
+abbrev pub entries_code : Coded Entries
+entries_code = code_by (List Step) (coded_list step_code) entry_steps (λ ts. entries_of_top (built ts [])) entries_back

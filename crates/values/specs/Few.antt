@@ -1,0 +1,12 @@
+-- How many items a value has.
+use Rattle.std.specs.Prelude.{ℕ}
+use Rattle.values.specs.Data.{Data, boolean, integer, text, list, dictionary, object, count, entry_count}
+
+-- the items of a list, the entries of a dictionary; anything else has none
+abbrev pub item_count : Data → ℕ
+item_count (boolean b) = 0
+item_count (integer z) = 0
+item_count (text t) = 0
+item_count (list ds) = count ds
+item_count (dictionary es) = entry_count es
+item_count (object o) = 0

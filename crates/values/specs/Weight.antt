@@ -1,0 +1,39 @@
+-- What a value weighs, and how deep its lists and dictionaries stand in one another.
+use Rattle.std.specs.Prelude.{ℕ, ◌+◌, max, length}
+use Rattle.values.specs.Data.{Data, boolean, integer, text, list, dictionary, object, Items, no_items, item, Entries, no_entries, entry}
+
+-- a text weighs its bytes and one, a list or a dictionary one and its items and keys, anything else one
+abbrev mutual
+  pub weight : Data → ℕ
+  weight (boolean b) = 1
+  weight (integer z) = 1
+  weight (text t) = length t + 1
+  weight (list ds) = items_weight ds + 1
+  weight (dictionary es) = entries_weight es + 1
+  weight (object o) = 1
+
+  pub items_weight : Items → ℕ
+  items_weight no_items = 0
+  items_weight (item d ds) = weight d + items_weight ds
+
+  pub entries_weight : Entries → ℕ
+  entries_weight no_entries = 0
+  entries_weight (entry k d es) = (length k + 1) + (weight d + entries_weight es)
+
+-- the levels of lists and dictionaries
+abbrev mutual
+  pub depth : Data → ℕ
+  depth (boolean b) = 0
+  depth (integer z) = 0
+  depth (text t) = 0
+  depth (list ds) = items_depth ds + 1
+  depth (dictionary es) = entries_depth es + 1
+  depth (object o) = 0
+
+  pub items_depth : Items → ℕ
+  items_depth no_items = 0
+  items_depth (item d ds) = max (depth d) (items_depth ds)
+
+  pub entries_depth : Entries → ℕ
+  entries_depth no_entries = 0
+  entries_depth (entry k d es) = max (depth d) (entries_depth es)

@@ -1,0 +1,71 @@
+-- The text that a value is printed as.
+use Rattle.std.specs.Prelude.{ℕ, Bool, true, false, ◌&&◌, List, [], ◌∷◌, ◌++◌, codes, Result, Err, if◌then◌else◌}
+use Rattle.std.specs.List.{flat_map}
+use Rattle.std.specs.Fmt.{signed_decimal}
+use Rattle.values.specs.declared.refusal.Refusal.{Refusal}
+use Rattle.values.specs.declared.refusal.Refusal.TheVariants as refusal
+use Rattle.values.specs.Limits.{within_bytes}
+use Rattle.values.specs.Data.{Data, boolean, integer, text, list, dictionary, object, Items, no_items, item, Entries, no_entries, entry}
+
+-- no object, and nothing that holds one
+abbrev mutual
+  pub is_printable : Data → Bool
+  is_printable (list ds) = are_printable ds
+  is_printable (dictionary es) = are_entries_printable es
+  is_printable (object o) = false
+  is_printable _ = true
+
+  pub are_printable : Items → Bool
+  are_printable no_items = true
+  are_printable (item d ds) = is_printable d && are_printable ds
+
+  pub are_entries_printable : Entries → Bool
+  are_entries_printable no_entries = true
+  are_entries_printable (entry k d es) = is_printable d && are_entries_printable es
+
+-- a boolean, an integer or a text
+abbrev pub is_plain : Data → Bool
+is_plain (boolean b) = true
+is_plain (integer z) = true
+is_plain (text t) = true
+is_plain _ = false
+
+abbrev pub boolean_text : Bool → List ℕ
+boolean_text true = codes "true"
+boolean_text false = codes "false"
+
+-- a text in single quotes; nothing in it is escaped
+abbrev pub quoted : List ℕ → List ℕ
+quoted t = codes "'" ++ (t ++ codes "'")
+
+-- texts with a comma and a space between each two
+abbrev pub listed : List (List ℕ) → List ℕ
+listed [] = []
+listed (t ∷ ts) = t ++ flat_map (λ next. codes ", " ++ next) ts
+
+-- what stands for a value inside a list or a dictionary
+abbrev mutual
+  pub inside : Data → List ℕ
+  inside (boolean b) = boolean_text b
+  inside (integer z) = signed_decimal z
+  inside (text t) = quoted t
+  inside (list ds) = codes "[" ++ (listed (item_texts ds) ++ codes "]")
+  inside (dictionary es) = codes "{" ++ (listed (entry_texts es) ++ codes "}")
+  inside (object o) = []
+
+  pub item_texts : Items → List (List ℕ)
+  item_texts no_items = []
+  item_texts (item d ds) = inside d ∷ item_texts ds
+
+  pub entry_texts : Entries → List (List ℕ)
+  entry_texts no_entries = []
+  entry_texts (entry k d es) = ((quoted k ++ codes " : ") ++ inside d) ∷ entry_texts es
+
+-- what stands for a value alone: a text stands for itself
+abbrev pub shown : Data → List ℕ
+shown (text t) = t
+shown d = inside d
+
+-- the text that a value is printed as, or why there is none
+abbrev pub printed : Data → Result (List ℕ) Refusal
+printed d = if is_printable d then within_bytes (shown d) else Err refusal.Arguments

@@ -1,0 +1,33 @@
+-- The ways to cut a text, as the code has them.
+use Rattle.std.specs.Prelude.{ℕ, ◌<◌, List, [], ◌∷◌, length, Option, Some, None, nat_eq, codes, ◌==◌, if◌then◌else◌}
+use Rattle.std.specs.List.{starts_with}
+use denote.Ref.{Bor}
+use Rattle.values.specs.declared.texts.cut.Cut.{Cut}
+use Rattle.values.specs.declared.texts.cut.Cut.TheVariants as cut
+use Rattle.values.specs.texts.Pieces.{parts, words, lines, lines_after}
+
+-- the pieces of a text
+abbrev pub pieces : Cut → List ℕ → List (List ℕ)
+pieces (cut.At separator) text = parts separator.now text
+pieces cut.Blanks text = words text
+pieces cut.Lines text = lines text
+
+-- the pieces of what is left of a text, if more follow
+abbrev pub left : (List ℕ → List (List ℕ)) → Option (Bor (List ℕ)) → List (List ℕ)
+left cut_up None = []
+left cut_up (Some rest) = cut_up rest.now
+
+-- the lines behind the end of a line with which a text begins
+abbrev pub lines_behind : List ℕ → List (List ℕ)
+lines_behind [] = []
+lines_behind (b ∷ bs) = lines_after (b == 13) bs
+
+-- how many bytes the end of a line has with which a text begins
+abbrev pub end_length : List ℕ → ℕ
+end_length text = if starts_with nat_eq text (codes "\r\n") then 2 else 1
+
+-- a separator is not empty
+abbrev pub CanCut : Cut → Type 0
+CanCut (cut.At separator) = 0 < length separator.now
+CanCut cut.Blanks = Unit {0}
+CanCut cut.Lines = Unit {0}

@@ -1,0 +1,74 @@
+-- A text with places, as `@0@` where it is formatted and `@name@` in an f-string.
+use Rattle.std.specs.Prelude.{ℕ, zero, suc, ◌+◌, ◌^◌, ◌&&◌, ◌||◌, Bool, List, [], ◌∷◌, ◌++◌, length, take, Option, Some, None}
+use Rattle.std.specs.Prelude.{slice_index, nat_lt, codes, ◌==◌, if◌then◌else◌}
+use Rattle.std.specs.Char.{is_ascii_digit, is_ascii_alphabetic, is_ascii_alphanumeric}
+use Rattle.std.specs.List.{prefix_len, list_all}
+use Rattle.std.specs.Str.Parse.{digits_value}
+use Rattle.values.specs.declared.texts.placed.Places.{Places}
+use Rattle.values.specs.declared.texts.placed.Places.TheVariants as places
+use Rattle.values.specs.declared.texts.placed.Segment.{Segment as SegmentOfText}
+use Rattle.values.specs.declared.texts.placed.Segment.TheVariants as segment
+
+-- what stands between places, or what stands between the two `@` of a place
+pub data Segment : Type 0 where
+  text : List ℕ → Segment
+  place : List ℕ → Segment
+
+-- the letters, digits and underscores of a name, which a digit does not begin
+abbrev pub is_name_start : ℕ → Bool
+is_name_start b = is_ascii_alphabetic b || b == 95
+
+abbrev pub is_name_byte : ℕ → Bool
+is_name_byte b = is_ascii_alphanumeric b || b == 95
+
+-- how many bytes of what names a place stand first
+abbrev pub name_length : Places → List ℕ → ℕ
+name_length places.Numbers bs = prefix_len is_ascii_digit bs
+name_length places.Names [] = 0
+name_length places.Names (b ∷ bs) = if is_name_start b then prefix_len is_name_byte (b ∷ bs) else 0
+
+-- how many bytes stand between the `@` with which a text begins and the next `@`; none where no place begins there
+abbrev pub place_length : Places → List ℕ → ℕ
+place_length kind [] = 0
+place_length kind (b ∷ bs) = if b == 64 && slice_index bs (name_length kind bs) == 64 then name_length kind bs else 0
+
+-- segments with a byte in front
+abbrev pub onto_text : ℕ → List Segment → List Segment
+onto_text b (text t ∷ ss) = text (b ∷ t) ∷ ss
+onto_text b ss = text (b ∷ []) ∷ ss
+
+-- the segments of what follows some bytes, which are passed over as they belong to a place
+abbrev pub segments_after : ℕ → Places → List ℕ → List Segment
+segments_after passed kind [] = []
+segments_after zero kind (b ∷ bs) =
+    if place_length kind (b ∷ bs) == 0 then onto_text b (segments_after zero kind bs)
+    else place (take (place_length kind (b ∷ bs)) bs) ∷ segments_after (place_length kind (b ∷ bs) + 1) kind bs
+segments_after (suc passed) kind (b ∷ bs) = segments_after passed kind bs
+
+-- the segments of a text: each place is found as far to the left as it can be and behind the one before
+abbrev pub segments : Places → List ℕ → List Segment
+segments kind t = segments_after zero kind t
+
+-- what stands between places, where something does
+abbrev pub text_segments : List ℕ → List Segment
+text_segments [] = []
+text_segments (b ∷ bs) = text (b ∷ bs) ∷ []
+
+-- how a segment is written
+abbrev pub spelled : Segment → List ℕ
+spelled (text t) = t
+spelled (place name) = codes "@" ++ (name ++ codes "@")
+
+-- one digit at least, and nothing else
+abbrev pub is_number : List ℕ → Bool
+is_number name = nat_lt 0 (length name) && list_all is_ascii_digit name
+
+-- the number that digits write, where a `usize` holds it
+abbrev pub number_of : List ℕ → Option ℕ
+number_of name = if is_number name && nat_lt (digits_value 10 name) (2 ^ 64) then Some (digits_value 10 name) else None
+
+-- ---- of what the code makes
+
+abbrev pub segment_data : SegmentOfText → Segment
+segment_data (segment.Text t) = text t.now
+segment_data (segment.Place name) = place name.now

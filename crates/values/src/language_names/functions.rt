@@ -1,0 +1,162 @@
+//! The functions by their names.
+ghost use Rattle.std.specs.Prelude.{◌≡◌, option_map};
+ghost use Rattle.values.specs.language_names.Functions.{function_named};
+ghost use Rattle.values.specs.declared.language_names.functions.Function.TheVariants as functions;
+
+use crate::Text;
+use crate::language_names::rows::named;
+use std::marker::Model;
+
+/// A function of the page "Reference manual".
+#[derive(Clone, Copy)]
+pub enum Function {
+    Assert,
+    Disabler,
+    Error,
+    GetVariable,
+    IsDisabler,
+    IsVariable,
+    JoinPaths,
+    Message,
+    /// One that says something of the project.
+    OfProject(ProjectFunction),
+    Project,
+    Range,
+    SetVariable,
+    Subdir,
+    SubdirDone,
+    UnsetVariable,
+    Warning,
+}
+
+/// A function that says something of the project: its targets and what they are made with, its options, and what is installed and
+/// tested.
+#[derive(Clone, Copy)]
+pub enum ProjectFunction {
+    AddProjectArguments,
+    AddProjectLinkArguments,
+    ConfigurationData,
+    ConfigureFile,
+    CustomTarget,
+    DeclareDependency,
+    Dependency,
+    Executable,
+    Files,
+    FindProgram,
+    GetOption,
+    IncludeDirectories,
+    InstallData,
+    InstallHeaders,
+    InstallMan,
+    Library,
+    SharedLibrary,
+    StaticLibrary,
+    Test,
+}
+
+// Those that say nothing of the project.
+const FUNCTIONS: [(&str, Function); 15] = [
+    ("assert", Function::Assert),
+    ("disabler", Function::Disabler),
+    ("error", Function::Error),
+    ("get_variable", Function::GetVariable),
+    ("is_disabler", Function::IsDisabler),
+    ("is_variable", Function::IsVariable),
+    ("join_paths", Function::JoinPaths),
+    ("message", Function::Message),
+    ("project", Function::Project),
+    ("range", Function::Range),
+    ("set_variable", Function::SetVariable),
+    ("subdir", Function::Subdir),
+    ("subdir_done", Function::SubdirDone),
+    ("unset_variable", Function::UnsetVariable),
+    ("warning", Function::Warning),
+];
+
+// The functions that say something of the project.
+const PROJECT_FUNCTIONS: [(&str, ProjectFunction); 19] = [
+    (
+        "add_project_arguments",
+        ProjectFunction::AddProjectArguments,
+    ),
+    (
+        "add_project_link_arguments",
+        ProjectFunction::AddProjectLinkArguments,
+    ),
+    ("configuration_data", ProjectFunction::ConfigurationData),
+    ("configure_file", ProjectFunction::ConfigureFile),
+    ("custom_target", ProjectFunction::CustomTarget),
+    ("declare_dependency", ProjectFunction::DeclareDependency),
+    ("dependency", ProjectFunction::Dependency),
+    ("executable", ProjectFunction::Executable),
+    ("files", ProjectFunction::Files),
+    ("find_program", ProjectFunction::FindProgram),
+    ("get_option", ProjectFunction::GetOption),
+    ("include_directories", ProjectFunction::IncludeDirectories),
+    ("install_data", ProjectFunction::InstallData),
+    ("install_headers", ProjectFunction::InstallHeaders),
+    ("install_man", ProjectFunction::InstallMan),
+    ("library", ProjectFunction::Library),
+    ("shared_library", ProjectFunction::SharedLibrary),
+    ("static_library", ProjectFunction::StaticLibrary),
+    ("test", ProjectFunction::Test),
+];
+
+/// The name by which a definition file calls a function. Which function it names was looked up when it was made. To whoever uses it, it is
+/// its text.
+#[derive(Drop)]
+pub struct FunctionName {
+    text: Text,
+    function: Option<Function>,
+}
+
+impl Model for FunctionName {
+    ghost use Rattle.std.specs.Prelude.{◌≡◌, List, ℕ};
+    ghost use Rattle.values.specs.language_names.Functions.{function_named};
+
+    ghost Value = { List ℕ };
+
+    ghost view = { λ n. n.text };
+
+    ghost invariant = { λ n. n.function ≡ function_named n.text };
+}
+
+impl FunctionName {
+    /// The name with this text.
+    pub fn new(text: Text) -> FunctionName
+        ensures { result ≡ text }
+    {
+        let function = function_named(text.as_str());
+        FunctionName { text, function }
+    }
+
+    /// Its text.
+    pub fn as_str(&self) -> &str
+        ensures { result.now ≡ self.now }
+    {
+        self.text.as_str()
+    }
+
+    /// The function with this name.
+    pub fn function(&self) -> Option<Function>
+        ensures { result ≡ function_named self.now }
+    {
+        self.function
+    }
+}
+
+// The function of a name.
+fn function_named(name: &str) -> Option<Function>
+    ensures { result ≡ function_named name.now }
+{
+    match named(&FUNCTIONS, name) {
+        Some(function) => Some(function),
+        None => of_project(named(&PROJECT_FUNCTIONS, name)),
+    }
+}
+
+fn of_project(function: Option<ProjectFunction>) -> Option<Function>
+    ensures { result ≡ option_map functions.OfProject function }
+{
+    Some(Function::OfProject(function?))
+}

@@ -1,0 +1,106 @@
+//! Values printed into texts.
+
+ghost use Rattle.std.specs.Prelude.{◌≡◌, true, false, IfOk, MatchOption, Ok};
+ghost use Rattle.values.specs.Prelude.{Appends, data_of};
+ghost use Rattle.values.specs.printing.Printed.{is_plain, printed, shown};
+ghost use Rattle.values.specs.printing.Pieces.{whole};
+ghost use Rattle.values.specs.printing.Parts.{piece_bytes};
+
+use crate::printing::pieces::{Piece, Printer};
+use crate::printing::printable::is_printable;
+use crate::{Refusal, Text, Value};
+use itoa::Buffer;
+use std::alloc::{AllocError, Global};
+
+/// The text that a value is printed as.
+///
+/// A text stands for itself, a boolean is `true` or `false`, an integer is decimal. A list is `[a, b]` and a
+/// dictionary `{'k' : v}`; in these a text stands in `'`, and nothing in it is escaped.
+///
+/// `Refusal::Arguments` where the value is an object or holds one, else `Refusal::Limit` where the text is longer
+/// than 16,777,216 bytes. No text is made that is longer.
+pub fn print(alloc: Global, value: &Value) -> Result<Result<Text, Refusal>, AllocError>
+    ensures { IfOk result (λ r. r ≡ printed (data_of value.now)) }
+{
+    if !is_printable(value) {
+        return Ok(Err(Refusal::Arguments));
+    }
+    let mut text = Text::empty();
+    match write(alloc, &mut text, value)? {
+        Ok(()) => Ok(Ok(text)),
+        Err(refusal) => Ok(Err(refusal)),
+    }
+}
+
+/// What a boolean, an integer or a text is printed as; none for others. The digits of an integer come to stand in the buffer.
+pub fn plain_text<'v>(value: &'v Value, digits: &'v mut Buffer) -> Option<&'v str>
+    ensures { MatchOption result (is_plain (data_of value.entry.now) ≡ false)
+        (λ t. (is_plain (data_of value.entry.now) ≡ true) × (printed (data_of value.entry.now) ≡ Ok t.now)
+        × (shown (data_of value.entry.now) ≡ t.now)) }
+{
+    match value {
+        Value::Boolean(true) => Some("true"),
+        Value::Boolean(false) => Some("false"),
+        Value::Integer(integer) => Some(digits.format(*integer)),
+        Value::Text(text) => Some(text.as_str()),
+        Value::List(_) | Value::Dictionary(_) | Value::Object(_) => None,
+    }
+}
+
+/// Puts what a value is printed as behind a text, or answers `Refusal::Limit` where it becomes longer than 16,777,216 bytes.
+///
+/// Of an object nothing is printed.
+pub fn write(
+    alloc: Global,
+    text: &mut Text,
+    value: &Value,
+) -> Result<Result<(), Refusal>, AllocError>
+    ensures { IfOk result (λ r. Appends text.old (shown (data_of value.now)) text.new r) }
+{
+    match plain_text(value, &mut Buffer::new()) {
+        Some(piece) => text.push(alloc, piece),
+        None => write_pieces(alloc, text, value),
+    }
+}
+
+// The same, piece by piece.
+fn write_pieces(
+    alloc: Global,
+    text: &mut Text,
+    value: &Value,
+) -> Result<Result<(), Refusal>, AllocError>
+    ensures { IfOk result (λ r. Appends text.old (shown (data_of value.now)) text.new r) }
+{
+    let mut printer = Printer::new(alloc, value)?;
+    write_left(alloc, text, &mut printer)
+}
+
+// Puts all that is left to be printed behind a text.
+fn write_left(
+    alloc: Global,
+    text: &mut Text,
+    printer: &mut Printer<'_>,
+) -> Result<Result<(), Refusal>, AllocError>
+    ensures { IfOk result (λ r. Appends text.old (whole printer.old) text.new r) }
+{
+    let _within = text.as_str();
+    while let Some(piece) = printer.next()? {
+        if let Err(refusal) = push_piece(alloc, text, piece)? {
+            return Ok(Err(refusal));
+        }
+    }
+    Ok(Ok(()))
+}
+
+fn push_piece(
+    alloc: Global,
+    text: &mut Text,
+    piece: Piece<'_>,
+) -> Result<Result<(), Refusal>, AllocError>
+    ensures { IfOk result (λ r. Appends text.old (piece_bytes piece.entry) text.new r) }
+{
+    match piece {
+        Piece::Text(piece) => text.push(alloc, piece),
+        Piece::Integer(integer) => text.push(alloc, Buffer::new().format(integer)),
+    }
+}

@@ -1,0 +1,307 @@
+//! Texts within the limit, and lists of texts.
+
+ghost use Rattle.std.specs.Prelude.{◌≡◌, ◌++◌, ◌∷◌, [], ◌≤◌, length, OnOk, OnErr, IfOk, IfSome, string_bytes};
+ghost use Rattle.values.specs.Limits.{within_bytes, Appends};
+ghost use Rattle.support.specs.Limits.{text_bytes};
+
+use crate::refusal::Refusal;
+use crate::short::{SHORT_BYTES, Short};
+use std::alloc::{AllocError, Global};
+use std::cmp::Ordering;
+use std::fmt::{self, Debug, Formatter, Write};
+use std::hash::{Hash, Hasher};
+use std::marker::Model;
+use std::rc::Rc;
+use support::limits::TEXT_BYTES;
+
+/// A text of at most 16,777,216 bytes, ordered by them. A short one lies in the value itself, a clone of a long one shares its bytes.
+pub struct Text {
+    kept: Kept,
+}
+
+// Where the bytes of a text lie.
+#[derive(Drop)]
+enum Kept {
+    Short(Short),
+    Long(Rc<String>),
+}
+
+impl Debug for Text {
+    fn fmt<W: Write>(&self, f: &mut Formatter<W>) -> fmt::Result {
+        Debug::fmt(self.as_str(), f)
+    }
+}
+
+impl Drop for Text {
+    fn drop(self) {
+        let Text { kept: _ } = self;
+    }
+}
+
+impl Model for Text {
+    ghost use Rattle.std.specs.Prelude.{◌≤◌, List, ℕ, length};
+    ghost use Rattle.support.specs.Limits.{text_bytes};
+    ghost use Rattle.values.specs.Kept.{bytes_of};
+
+    ghost Value = { List ℕ };
+
+    ghost view = { λ t. bytes_of t.kept };
+
+    ghost invariant = { λ t. length (bytes_of t.kept) ≤ text_bytes };
+}
+
+impl Text {
+    /// The text of a string, or `Refusal::Limit` where that is too long.
+    pub fn new(alloc: Global, string: String) -> Result<Result<Text, Refusal>, AllocError>
+        ensures { IfOk result (λ r. r ≡ within_bytes (string_bytes string)) }
+    {
+        if string.len() <= SHORT_BYTES {
+            return Ok(Ok(Text::short(string.as_str())));
+        }
+        if string.len() > TEXT_BYTES {
+            return Ok(Err(Refusal::Limit));
+        }
+        let kept = Kept::Long(Rc::new(alloc, string)?);
+        Ok(Ok(Text { kept }))
+    }
+
+    /// The text of a copy of some bytes, or `Refusal::Limit` where they are too many.
+    #[inline(always)]
+    pub fn of_str(alloc: Global, bytes: &str) -> Result<Result<Text, Refusal>, AllocError>
+        ensures { IfOk result (λ r. r ≡ within_bytes bytes.now) }
+    {
+        if bytes.len() <= SHORT_BYTES {
+            return Ok(Ok(Text::short(bytes)));
+        }
+        Text::new(alloc, String::from_str(alloc, bytes)?)
+    }
+
+    /// The text of a copy of some bytes, where they are so few that it needs no memory of its own.
+    #[inline(always)]
+    pub fn of_short(bytes: &str) -> Option<Text>
+        ensures { IfSome result (λ t. t ≡ bytes.now) }
+    {
+        let short = Short::of_str(bytes)?;
+        Some(Text::from_short(&short))
+    }
+
+    /// The same text.
+    #[inline(always)]
+    pub fn from_short(short: &Short) -> Text
+        ensures { result ≡ short.now }
+    {
+        Text {
+            kept: Kept::Short(short.copy()),
+        }
+    }
+
+    #[inline(always)]
+    fn short(bytes: &str) -> Text
+        requires { length bytes.now ≤ 22 }
+        ensures { result ≡ bytes.now }
+    {
+        let mut short = Short::new();
+        short.push(bytes);
+        Text {
+            kept: Kept::Short(short),
+        }
+    }
+
+    pub fn as_str(&self) -> &str
+        ensures text { result.now ≡ self.now }
+        ensures within { length self.now ≤ text_bytes }
+    {
+        match &self.kept {
+            Kept::Short(short) => short.as_str(),
+            Kept::Long(string) => string.as_str(),
+        }
+    }
+
+    /// The text without bytes.
+    pub fn empty() -> Text
+        ensures { result ≡ [] }
+    {
+        Text::short("")
+    }
+
+    /// Puts a piece behind the text, or answers `Refusal::Limit` where it becomes longer than 16,777,216 bytes; then the text is as it was.
+    ///
+    /// Where nobody else holds the text it grows in place, and the work is that of the piece.
+    #[inline(always)]
+    pub fn push(&mut self, alloc: Global, piece: &str) -> Result<Result<(), Refusal>, AllocError>
+        ensures pushed { IfOk result (λ r. Appends self.old piece.now self.new r) }
+        ensures same { IfOk result (λ r. OnErr r (self.new ≡ self.old)) }
+    {
+        if let Kept::Short(short) = &mut self.kept {
+            if short.as_str().len() + piece.len() <= SHORT_BYTES {
+                short.push(piece);
+                return Ok(Ok(()));
+            }
+        }
+        self.push_far(alloc, piece)
+    }
+
+    // The same, where the text may need memory of its own.
+    #[inline(never)]
+    fn push_far(&mut self, alloc: Global, piece: &str) -> Result<Result<(), Refusal>, AllocError>
+        ensures pushed { IfOk result (λ r. Appends self.old piece.now self.new r) }
+        ensures same { IfOk result (λ r. OnErr r (self.new ≡ self.old)) }
+    {
+        let count = self.as_str().len() + piece.len();
+        if count > TEXT_BYTES {
+            return Ok(Err(Refusal::Limit));
+        }
+        if let Kept::Long(string) = &mut self.kept {
+            if let Some(own) = Rc::get_mut(string) {
+                own.push_str(piece)?;
+                return Ok(Ok(()));
+            }
+        }
+        self.kept = Kept::Long(joined(alloc, count, self.as_str(), piece)?);
+        Ok(Ok(()))
+    }
+}
+
+// A string of two pieces, with room for so many bytes.
+fn joined(alloc: Global, count: usize, first: &str, second: &str) -> Result<Rc<String>, AllocError>
+    ensures { IfOk result (λ s. string_bytes s.value ≡ first.now ++ second.now) }
+{
+    let mut string = String::with_capacity(alloc, count)?;
+    push_both(&mut string, first, second)?;
+    Ok(Rc::new(alloc, string)?)
+}
+
+fn push_both(string: &mut String, first: &str, second: &str) -> Result<(), AllocError>
+    ensures { OnOk result (string_bytes string.new ≡ string_bytes string.old ++ (first.now ++ second.now)) }
+{
+    string.push_str(first)?;
+    string.push_str(second)
+}
+
+impl Clone for Text {
+    ghost use Rattle.std.specs.Prelude.{◌≡◌};
+
+    ghost is_clone = { λ t u. u ≡ t };
+
+    #[inline(always)]
+    fn clone(&self) -> Result<Text, AllocError> {
+        let kept = match &self.kept {
+            Kept::Short(short) => Kept::Short(short.copy()),
+            Kept::Long(string) => Kept::Long(string.clone()?),
+        };
+        Ok(Text { kept })
+    }
+}
+
+impl PartialEq for Text {
+    ghost use Rattle.std.specs.Prelude.{bytes_eq};
+    ghost use Rattle.std.specs.Cmp.{partial_equiv_from_equiv};
+    ghost use Rattle.std.specs.Cmp.Lexicographic.{nat_list_eq_equiv};
+
+    ghost eq = { bytes_eq };
+
+    ghost laws = { partial_equiv_from_equiv nat_list_eq_equiv };
+
+    fn eq(&self, other: &Text) -> bool {
+        self.as_str() == other.as_str()
+    }
+}
+
+impl Eq for Text {
+    ghost use Rattle.std.specs.Cmp.Lexicographic.{nat_list_eq_equiv};
+
+    ghost laws = { nat_list_eq_equiv };
+}
+
+impl PartialOrd for Text {
+    ghost use Rattle.std.specs.Prelude.{Some};
+    ghost use Rattle.std.specs.Ordering.{nat_cmp};
+    ghost use Rattle.std.specs.Cmp.Lexicographic.{slice_cmp, texts_po};
+
+    ghost partial_cmp = { λ t u. Some (slice_cmp nat_cmp t u) };
+
+    ghost laws = { texts_po };
+
+    fn partial_cmp(&self, other: &Text) -> Option<Ordering> {
+        Some(self.cmp(other))
+    }
+}
+
+impl Ord for Text {
+    ghost use Rattle.std.specs.Ordering.{nat_cmp};
+    ghost use Rattle.std.specs.Cmp.Lexicographic.{slice_cmp, nat_list_cmp_total, texts_ties};
+    ghost use Rattle.std.proofs.Common.{refl};
+
+    ghost cmp = { slice_cmp nat_cmp };
+
+    ghost total = { nat_list_cmp_total };
+
+    ghost matches_partial_cmp = { λ t u. refl };
+
+    ghost matches_eq = { λ t u. texts_ties t u };
+
+    fn cmp(&self, other: &Text) -> Ordering {
+        self.as_str().cmp(other.as_str())
+    }
+}
+
+impl Hash for Text {
+    ghost use Rattle.std.specs.Hash as fed;
+    ghost use Rattle.std.specs.Cmp.Lexicographic.{bytes_decides};
+    ghost use Rattle.std.proofs.Common.{ap};
+
+    ghost hash_input = { λ t. fed.str t };
+
+    ghost respects_eq = { λ t u h. ap fed.str ((bytes_decides t u).0 h) };
+
+    fn hash<H: Hasher>(&self, state: &mut H) {
+        self.as_str().hash(state);
+    }
+}
+
+/// A list of texts, which it shares.
+#[derive(Drop)]
+pub struct Texts {
+    items: Vec<Text>,
+}
+
+impl Model for Texts {
+    ghost use Rattle.std.specs.Prelude.{List, ℕ};
+
+    ghost Value = { List (List ℕ) };
+
+    ghost view = { λ t. t.items.items };
+}
+
+impl Texts {
+    pub fn new(alloc: Global) -> Texts
+        ensures { result ≡ [] }
+    {
+        Texts {
+            items: Vec::new(alloc),
+        }
+    }
+
+    pub fn push(&mut self, text: Text) -> Result<(), AllocError>
+        ensures { OnOk result (self.new ≡ self.old ++ text ∷ []) }
+    {
+        self.items.push(text)?;
+        Ok(())
+    }
+
+    /// Puts the texts of another list at the end. They are shared, and no byte is copied.
+    pub fn extend(&mut self, others: &[Text]) -> Result<(), AllocError>
+        ensures { OnOk result (self.new ≡ self.old ++ others.now) }
+    {
+        for text in others {
+            self.push(text.clone()?)?;
+        }
+        Ok(())
+    }
+
+    pub fn as_slice(&self) -> &[Text]
+        ensures { result.now ≡ self.now }
+    {
+        &self.items
+    }
+}

@@ -1,0 +1,80 @@
+//! Texts made of pieces, within the limit of a text.
+
+ghost use Rattle.std.specs.Prelude.{◌≡◌, ◌++◌, map, IfOk};
+ghost use Rattle.values.specs.texts.Joined.{joined, replaced};
+ghost use Rattle.values.specs.Prelude.{Appends, within_bytes};
+
+use crate::texts::cut::first_part;
+use crate::{Refusal, Text};
+use std::alloc::{AllocError, Global};
+
+/// The pieces in order, with `separator` between each two.
+///
+/// `Refusal::Limit` where the text is longer than 16,777,216 bytes.
+pub fn join(
+    alloc: Global,
+    separator: &str,
+    pieces: &[&str],
+) -> Result<Result<Text, Refusal>, AllocError>
+    ensures { IfOk result (λ r. r ≡ within_bytes (joined separator.now (map (λ p. p.now) pieces.now))) }
+{
+    let mut made = Text::empty();
+    let Some((first, others)) = pieces.split_first() else {
+        return Ok(Ok(made));
+    };
+    if let Err(refusal) = made.push(alloc, first)? {
+        return Ok(Err(refusal));
+    }
+    for piece in others {
+        if let Err(refusal) = push_both(alloc, &mut made, separator, piece)? {
+            return Ok(Err(refusal));
+        }
+    }
+    Ok(Ok(made))
+}
+
+/// The text with `new` at each place where `old` stands, looked for from the left and never inside the one before.
+///
+/// `Refusal::Arguments` where `old` is empty, and `Refusal::Limit` where the result is longer than 16,777,216 bytes.
+pub fn replace(
+    alloc: Global,
+    text: &str,
+    old: &str,
+    new: &str,
+) -> Result<Result<Text, Refusal>, AllocError>
+    ensures { IfOk result (λ r. r ≡ replaced text.now old.now new.now) }
+{
+    if old.is_empty() {
+        return Ok(Err(Refusal::Arguments));
+    }
+    let mut made = Text::empty();
+    let mut rest = text;
+    loop {
+        let (part, after) = first_part(rest, old);
+        let Some(after) = after else {
+            if let Err(refusal) = made.push(alloc, part)? {
+                return Ok(Err(refusal));
+            }
+            return Ok(Ok(made));
+        };
+        if let Err(refusal) = push_both(alloc, &mut made, part, new)? {
+            return Ok(Err(refusal));
+        }
+        rest = after;
+    }
+}
+
+// Two pieces behind the text, unless the text becomes too long.
+fn push_both(
+    alloc: Global,
+    made: &mut Text,
+    first: &str,
+    second: &str,
+) -> Result<Result<(), Refusal>, AllocError>
+    ensures { IfOk result (λ r. Appends made.old (first.now ++ second.now) made.new r) }
+{
+    if let Err(refusal) = made.push(alloc, first)? {
+        return Ok(Err(refusal));
+    }
+    made.push(alloc, second)
+}

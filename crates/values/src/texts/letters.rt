@@ -1,0 +1,34 @@
+//! Texts with other characters in place of their own.
+
+ghost use Rattle.std.specs.Prelude.{◌≡◌, IfOk, map, string_bytes};
+ghost use Rattle.std.specs.Char.{to_ascii_lowercase, to_ascii_uppercase};
+ghost use Rattle.values.specs.texts.Letters.{underscored, underscorified};
+
+use std::alloc::{AllocError, Global};
+
+/// The text with small ASCII letters in place of capital ones.
+pub fn to_lower(alloc: Global, text: &str) -> Result<String, AllocError>
+    ensures { IfOk result (λ s. string_bytes s ≡ map to_ascii_lowercase text.now) }
+{
+    text.to_ascii_lowercase(alloc)
+}
+
+/// The text with capital ASCII letters in place of small ones.
+pub fn to_upper(alloc: Global, text: &str) -> Result<String, AllocError>
+    ensures { IfOk result (λ s. string_bytes s ≡ map to_ascii_uppercase text.now) }
+{
+    text.to_ascii_uppercase(alloc)
+}
+
+/// The text with one `_` in place of each character that is neither an ASCII letter nor an ASCII digit.
+pub fn underscorify(alloc: Global, text: &str) -> Result<String, AllocError>
+    ensures { IfOk result (λ s. string_bytes s ≡ underscorified text.now) }
+{
+    text.chars().map(underscore).collect(alloc)
+}
+
+fn underscore(c: char) -> char
+    ensures { result ≡ underscored c }
+{
+    if c.is_ascii_alphanumeric() { c } else { '_' }
+}

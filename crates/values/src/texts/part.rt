@@ -1,0 +1,68 @@
+//! Parts of a text, by places that count characters.
+
+ghost use Rattle.std.specs.Prelude.{◌≡◌, ◌≤◌, length, drop, take};
+ghost use Rattle.std.specs.Str.{chars, encode_utf8_all};
+ghost use Rattle.values.specs.texts.Part.{part, place, place_or};
+
+/// The part of `text` from the character at `from` up to the one at `to`.
+///
+/// A negative index counts from the end, and both are cut into range. Without `from` the part begins at the start,
+/// without `to` it goes to the end. Where it would end before it begins, it is empty.
+pub fn substring(text: &str, from: Option<i128>, to: Option<i128>) -> &str
+    ensures { result.now ≡ part from to text.now }
+{
+    let count = char_count(text);
+    let start = place_or(from, count, 0);
+    let end = place_or(to, count, count);
+    let rest = without_chars(text, start);
+    first_chars(rest, end.saturating_sub(start))
+}
+
+fn place_or(index: Option<i128>, count: usize, other: usize) -> usize
+    ensures { result ≡ place_or index count other }
+{
+    match index {
+        Some(index) => place(index, count),
+        None => other,
+    }
+}
+
+// The place that an index names among `count`.
+fn place(index: i128, count: usize) -> usize
+    ensures { result ≡ place index count }
+{
+    let (back, steps) = (index < 0, index.unsigned_abs());
+    if steps > count as u128 {
+        return if back { 0 } else { count };
+    }
+    let steps = steps as usize;
+    if back { count - steps } else { steps }
+}
+
+fn char_count(text: &str) -> usize
+    ensures { result ≡ length (chars text.now) }
+{
+    text.chars().count()
+}
+
+// The text after its first `count` characters.
+fn without_chars(text: &str, count: usize) -> &str
+    ensures text { result.now ≡ encode_utf8_all (drop count (chars text.now)) }
+    ensures within { length result.now ≤ length text.now }
+{
+    let mut rest = text.chars();
+    'each: for _ in 0..count {
+        let Some(_) = rest.next() else {
+            break;
+        };
+    }
+    rest.as_str()
+}
+
+// The first `count` characters of a text.
+fn first_chars(text: &str, count: usize) -> &str
+    ensures { result.now ≡ encode_utf8_all (take count (chars text.now)) }
+{
+    let rest = without_chars(text, count);
+    &text[..text.len() - rest.len()]
+}

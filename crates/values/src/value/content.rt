@@ -1,0 +1,32 @@
+//! Values that are taken apart.
+ghost use Rattle.std.specs.Prelude.{◌≡◌};
+ghost use Rattle.values.specs.Content.{content_of};
+
+use crate::text::Text;
+use crate::value::{Dictionary, List, Value};
+use std::rc::Rc;
+
+/// What is taken out of a value: its text, its list or its dictionary.
+#[derive(Drop)]
+pub enum Content {
+    Text(Text),
+    List(Rc<List>),
+    Dictionary(Rc<Dictionary>),
+    /// It was none of these, and is let go.
+    Other,
+}
+
+impl Value {
+    /// The text, the list or the dictionary that it is.
+    #[inline(always)]
+    pub fn into_content(self) -> Content
+        ensures { result ≡ content_of self }
+    {
+        match self {
+            Value::Text(text) => Content::Text(text),
+            Value::List(list) => Content::List(list),
+            Value::Dictionary(dictionary) => Content::Dictionary(dictionary),
+            Value::Boolean(_) | Value::Integer(_) | Value::Object(_) => Content::Other,
+        }
+    }
+}

@@ -1,0 +1,87 @@
+"""Whether checks that are asked together get the answers of checks that are asked alone: tests/machine_files runs these too.
+
+Each compiler that is installed is asked both ways: names that are there and names that aren't, mixed with what a bundle can't settle, as a
+text before the checks that leaves something open.
+"""
+import os
+import shutil
+import sys
+import tempfile
+
+from workshop import CHECKOUT, check
+
+sys.path.insert(0, CHECKOUT)
+from tools.asking.bundles import Check, ask_together, bundles_of  # noqa: E402
+from tools.asking.checks import answer  # noqa: E402
+from tools.asking.compiler import Compiler, Flags  # noqa: E402
+from tools.asking.processes import end_all  # noqa: E402
+from tools.side_by_side import side_by_side  # noqa: E402
+
+STAT = "#include <sys/stat.h>"
+KEYS = {
+    "": ["has_header stdio.h", "has_header no/such.h", "has_header sys/param.h", "has_header a\"b.h", "has_header stdio.h>\n#error",
+         "check_header stdio.h", "check_header no/such.h", "has_type int", "has_type such_t", "has_type struct such",
+         "has_type unsigned such", "has_type int) + sizeof(int", "has_header_symbol stdio.h EOF", "has_header_symbol stdio.h such",
+         "has_header_symbol stdio.h printf",
+         "has_header_symbol stdio.h FILE", "has_header_symbol no/such.h X", "has_header_symbol limits.h INT_MAX",
+         "has_header_symbol limits.h 1x", "sizeof int", "sizeof such_t", "sizeof void", "sizeof char[4]", "sizeof char[3000000000]",
+         "sizeof struct such", "sizeof long double", "alignment int", "alignment such_t", "alignment char[4]", "alignment double",
+         "has_function memcpy", "has_function no_such", "has_function alloca", "has_function __builtin_expect", "has_function gets",
+         "has_function lchmod", "has_function revoke", "has_function int", "has_function main", "has_function strerror_such",
+         "has_function bswap_32", "has_function _exit", "has_function _GNU_SOURCE", "has_function clz",
+         "has_argument -Wall", "has_argument -Wno-such", "has_argument -Wsuch", "has_argument -Wnon-virtual-dtor", "has_argument -fno-rtti",
+         "has_argument -fno-such", "has_argument -Wformat-security", "has_argument -Wno-error=such", "has_argument -Wframe-larger-than",
+         "has_argument -Wno-frame-larger-than", "has_argument -fvisibility=such", "has_argument -Wlogical-op"],
+    STAT: ["has_member struct stat st_mtim", "has_member struct stat st_such", "has_member struct such st_mtim", "has_member such_t x",
+           "has_member struct stat st_mtim.tv_sec", "has_type mode_t", "has_type such_t", "has_function stat", "has_function no_such",
+           "has_function lchmod", "has_function S_ISREG", "has_function mode_t", "sizeof mode_t", "sizeof struct stat",
+           "has_header_symbol sys/stat.h S_ISREG", "has_header_symbol fcntl.h O_PATH"],
+    "#include <no/such.h>": ["has_type int", "has_type such_t", "has_function memcpy", "has_function alloca", "sizeof int", "sizeof long",
+                             "has_header stdio.h", "has_header no/such.h", "has_member struct stat st_mode"],
+    "#define FIRST int); (void) sizeof(int\n#define SECOND }\n#define such_t int": [
+        "has_type FIRST", "has_type SECOND", "has_type such_t", "has_type int", "has_type none_t", "sizeof SECOND", "sizeof such_t",
+        "has_function FIRST", "has_function memcpy", "has_function SECOND"],
+    "#define X \\": ["has_type int", "has_type long", "has_header stdio.h", "has_header no.h", "has_function memcpy", "has_function puts"],
+    "/*": ["has_type int", "has_type long", "has_header stdio.h", "has_header no.h", "has_function memcpy", "has_function puts"],
+    "#if 0": ["has_type int", "has_type such", "has_header stdio.h", "has_header no.h", "sizeof int", "sizeof such"],
+    "struct a {": ["has_type int", "has_type long", "sizeof int", "sizeof long"],
+    "#ifdef X\n#error\n#endif\n#include <math.h>": ["has_function sin", "has_function cos", "has_function isnan", "has_function such"]}
+# What no bundle settles, though it has a plain text before it.
+HARD = ("has_header a\"b.h", "has_header stdio.h>\n#error", "has_type unsigned such", "has_type int) + sizeof(int",
+        "has_header_symbol limits.h INT_MAX", "has_header_symbol limits.h 1x", "alignment char[4]", "has_function __builtin_expect",
+        "has_function int", "has_function main", "has_function _GNU_SOURCE", "has_function mode_t", "has_function revoke",
+        "has_argument -Wno-error=such", "has_argument -fvisibility=such", "has_header_symbol sys/stat.h S_ISREG",
+        "has_header_symbol fcntl.h O_PATH")
+FLAGS = (Flags(), Flags(("-Werror", "-Wall", "-ffunction-sections", "-Wl,--gc-sections")), Flags(("-O2", "-flto", "-Wfatal-errors")))
+
+
+def test_both_ways() -> None:
+    for name in filter(shutil.which, ("gcc", "clang")):
+        with tempfile.TemporaryDirectory() as scratch:
+            old, os.environ["CC"] = os.environ.get("CC"), name
+            compiler = Compiler(scratch, scratch)
+            os.environ.pop("CC")
+            if old is not None:
+                os.environ["CC"] = old
+            for flags in FLAGS:
+                ask_both_ways(name, compiler, flags)
+
+
+def ask_both_ways(name: str, compiler: Compiler, flags: Flags) -> None:
+    of_words = lambda key: key.startswith("has_argument ")
+    checks = [Check(key, prefix, Flags() if of_words(key) else flags) for prefix, keys in KEYS.items() for key in dict.fromkeys(keys)
+              if flags == Flags() or not of_words(key)]
+    bundles, _ = bundles_of(checks)
+    settled = {it: answered for some in side_by_side(lambda it: ask_together(compiler, it), bundles, None, end_all)
+               for it, answered in some.items()}
+    alone = side_by_side(lambda it: answer(compiler, it.key, it.prefix, it.flags), list(settled), None, end_all)
+    wrong = {it: answered for it, answered in zip(settled, alone) if settled[it] != answered}
+    what = f"machine files: {name} {' '.join(flags.args)}: {len(settled)} of {len(checks)} checks asked together"
+    check(f"{what} have the answers of checks alone", not wrong, wrong)
+    if flags == Flags():
+        is_plain = lambda it: it.prefix in ("", STAT) and it.key not in HARD
+        left = [it for it in checks if is_plain(it) and it not in settled]
+        check(f"{what}: what is plain is settled", not left, left)
+
+
+TESTS = (test_both_ways,)

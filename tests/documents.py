@@ -1,0 +1,104 @@
+"""Whether the documents are plain English: no sentence is too long, and house words are rare; whether their links lead somewhere.
+tests/scripts runs this too; `python3 -B tests/documents.py` alone prints the counts."""
+import glob
+import os
+import re
+
+from workshop import CHECKOUT, check
+
+# A sentence has at most so many words.
+LONGEST = 30
+# Each house word, with its forms, is in a document at most so often in a thousand words.
+OFTEN = 2
+HOUSE = {"tell": r"tell|tells|telling|told", "stand": r"stand|stands|standing|stood", "beside": r"beside|besides", "behind": r"behind"}
+# README has at most so many lines, so that it can be read at once.
+README_LINES = 150
+
+
+def documents() -> list[str]:
+    docs = sorted(os.path.relpath(it, CHECKOUT) for it in glob.glob(f"{CHECKOUT}/docs/*.md"))
+    return ["README.md", *docs, "tests/README.md", "tests/cases/README.md", "bench/README.md"]
+
+
+def text_of(name: str) -> str:
+    with open(os.path.join(CHECKOUT, name), encoding="utf-8") as it:
+        return it.read()
+
+
+def without_code(text: str) -> str:
+    """A document without its blocks of code, with `x` in place of code inside of a sentence."""
+    kept, is_code = [], False
+    for line in text.split("\n"):
+        if line.lstrip().startswith("```"):
+            is_code = not is_code
+        elif not is_code and not line.startswith("    "):
+            kept.append(line)
+    return re.sub(r"`[^`]*`", "x", "\n".join(kept))
+
+
+def sentences(text: str) -> list[str]:
+    """The sentences of a document; each item of a list is one of its own, and tables and headings have none."""
+    lines = ["" if line.startswith(("|", "#")) else re.sub(r"^ *([-*]|\d+\.) ", "\n\n", line) for line in without_code(text).split("\n")]
+    paragraphs = re.split(r"\n\s*\n", "\n".join(lines))
+    return [it for part in paragraphs for it in re.split(r"(?<=[.!?:;])[*_)]*\s+", " ".join(part.split())) if it]
+
+
+def long_sentences(text: str) -> list[str]:
+    return [it for it in sentences(text) if len(it.split()) > LONGEST]
+
+
+def house_words(text: str) -> dict[str, float]:
+    """Of each house word how often it is in a thousand words, tables and headings too."""
+    plain = without_code(text)
+    count = max(len(re.findall(r"[\w']+", plain)), 1)
+    return {word: 1000 * len(re.findall(rf"\b(?:{forms})\b", plain, re.I)) / count for word, forms in HOUSE.items()}
+
+
+def anchors(text: str) -> set[str]:
+    """The names by which links lead to the headings of a document."""
+    titles = re.findall(r"^#+ (.*)$", text, re.M)
+    return {re.sub(r"[^\w -]", "", it.lower()).replace(" ", "-") for it in titles}
+
+
+def broken_links(name: str) -> list[str]:
+    broken = []
+    for link in re.findall(r"\]\(([^)\s]+)\)", text_of(name)):
+        path, _, anchor = link.partition("#")
+        target = os.path.normpath(os.path.join(os.path.dirname(name), path)) if path else name
+        if "://" in link or "`" in link:
+            continue
+        if not os.path.exists(os.path.join(CHECKOUT, target)) or anchor and anchor not in anchors(text_of(target)):
+            broken.append(link)
+    return broken
+
+
+def test_counting() -> None:
+    """What is counted, in a document of a few lines."""
+    long = " ".join(["word"] * 31)
+    page = f"# {long}\n\n| {long} |\n\n{long}.\n\n- {long} `a b`; short.\n\n```\n{long}\n```\n\n    {long}\n"
+    check("documents: long sentences are found", [len(it.split()) for it in long_sentences(page)] == [31, 32], long_sentences(page))
+    found = house_words("It stands `behind` it.\nHe told her; | beside | Tell |\n```\ntells\n```\n" + "word " * 91)
+    wanted = {"tell": 20.0, "stand": 10.0, "beside": 10.0, "behind": 0.0}
+    check("documents: house words are found", found == wanted, found)
+
+
+def test_documents() -> None:
+    for name in documents():
+        text = text_of(name)
+        found = long_sentences(text)
+        check(f"documents: {name}: no sentence over {LONGEST} words", not found, "\n".join(found))
+        often = {word: round(it, 1) for word, it in house_words(text).items() if it >= OFTEN}
+        check(f"documents: {name}: house words", not often, often)
+        broken = broken_links(name)
+        check(f"documents: {name}: links", not broken, broken)
+    lines = text_of("README.md").count("\n")
+    check("documents: README.md is short", lines <= README_LINES, lines)
+
+
+TESTS = [test_counting, test_documents]
+
+
+if __name__ == "__main__":
+    for document in documents():
+        words = " ".join(f"{word} {it:.1f}" for word, it in house_words(text_of(document)).items())
+        print(f"{document}: {len(long_sentences(text_of(document)))} long sentences, in a thousand words {words}")

@@ -1,0 +1,160 @@
+"""Whether the answers that `meson machine-file` keeps are good, and only while everything is as it was: tests/machine_files runs these too.
+
+The commands that a run starts are counted, which shows whether a question was asked again.
+"""
+import json
+import os
+import shutil
+import subprocess
+import sys
+from collections.abc import Callable
+
+from workshop import WORK, check, environment, put, read, run, words_of
+
+PROJECT = """project('kept', 'c')
+cc = meson.get_compiler('c')
+cc.has_header('own.h')
+cc.has_header('later.h')
+cc.has_type('later_t', prefix: '#include <own.h>')
+cc.sizeof('struct own', prefix: '#include <own.h>')
+cc.find_library('own', required: false)
+cc.find_library('later', required: false)
+cc.has_function('own_function', args: '-lown')
+cc.has_function('memcpy')
+cc.has_function('later_function')
+cc.has_argument('-Wall')
+dependency('threads')
+"""
+PACKAGES = "dependency('own', required: false)\ndependency('later', required: false)\n"
+HAS_PACKAGES = shutil.which("pkg-config") is not None
+PACKAGE = "Name: it\nDescription: it\nVersion: %s\nLibs: -l%s\nRequires: %s\n"
+
+
+# Runs a script that tells each command which it starts.
+COUNTING = """import os, runpy, subprocess, sys
+begin, log = subprocess.Popen, os.environ.pop('COUNTED')
+def counted(words, **how):
+    with open(log, 'a') as it:
+        it.write(' '.join(words) + '\\n')
+    return begin(words, **how)
+subprocess.Popen = counted
+sys.argv = sys.argv[1:]
+runpy.run_path(sys.argv[0], run_name='__main__')
+"""
+
+
+def library(name: str, function: str) -> None:
+    """A library with one function."""
+    source = put(f"kept/{name}.c", f"int {function}(void) {{ return 0; }}\n")
+    subprocess.run(["cc", "-shared", "-fPIC", source, "-o", f"{WORK}/kept/lib/lib{name}.so"], check=True)
+
+
+def variables() -> dict[str, str]:
+    return {"CC": f"{WORK}/kept/other-cc", "CPPFLAGS": f"-I{WORK}/kept/first -I{WORK}/kept/second", "LDFLAGS": f"-L{WORK}/kept/lib",
+            "PKG_CONFIG_PATH": f"{WORK}/kept/packages"}
+
+
+class Asked:
+    """What a run of `meson machine-file` gave, and how often it has called the compiler."""
+
+    def __init__(self, *words: str, env: dict[str, str] | None = None) -> None:
+        log = put("kept/log", "")
+        command = words_of(["meson", "machine-file", *words, "kept/project"])
+        done = run([sys.executable, "-c", COUNTING, *command], {**variables(), "COUNTED": log, **(env or {})})
+        is_question = lambda line: line.startswith(variables()["CC"]) and "--version" not in line and "-print-search-dirs" not in line
+        self.calls = [it for it in read(log).splitlines() if is_question(it)]
+        self.said, self.status = done.stderr, done.returncode
+        self.lines = set(done.stdout.splitlines())
+
+
+def begin() -> None:
+    shutil.rmtree(f"{WORK}/kept", ignore_errors=True)
+    shutil.rmtree(environment()["XDG_CACHE_HOME"], ignore_errors=True)
+    put("kept/project/meson.build", PROJECT + PACKAGES * HAS_PACKAGES)
+    put("kept/second/own.h", "#include <inner.h>\nstruct own { char a[5]; };\n")
+    put("kept/second/inner.h", "\n")
+    put("kept/packages/own.pc", PACKAGE % ("1.0", "own", "needed"))
+    put("kept/packages/needed.pc", PACKAGE % ("1.0", "needed", ""))
+    put("kept/other-cc", "#!/bin/sh\nexec cc \"$@\"\n", 0o755)
+    os.makedirs(f"{WORK}/kept/first")
+    os.makedirs(f"{WORK}/kept/lib")
+    library("own", "own_function")
+
+
+def test_kept() -> None:
+    begin()
+    first = Asked()
+    check("kept answers: the first run asks", first.status == 0 and first.said == "" and len(first.calls) > 5, first.said)
+    second = Asked()
+    check("kept answers: the second run asks nothing", second.calls == [], second.calls)
+    check("kept answers: the second run says the same", second.lines == first.lines, second.lines ^ first.lines)
+    anew = Asked("--no-cache")
+    check("kept answers: --no-cache asks again", len(anew.calls) > 5 and anew.lines == first.lines, anew.calls)
+    alone = Asked("--alone")
+    check("kept answers: of bundles and alone are one", alone.calls == [] and alone.lines == first.lines, alone.calls)
+    other = Asked(env={"CPPFLAGS": "-DX " + variables()["CPPFLAGS"]})
+    check("kept answers: other words are asked for", len(other.calls) > 5, other.calls)
+    other = Asked(env={"CPATH": f"{WORK}/kept"})
+    check("kept answers: with another environment it asks", len(other.calls) > 5, other.calls)
+
+
+# What changes on the machine, and a line of the machine file that comes of it.
+CHANGES: dict[str, tuple[Callable[[], object], str]] = {
+    "a header that was read": (lambda: put("kept/second/own.h", "struct own { char a[77]; };\n"), "sizeof struct own = 77"),
+    "a header that a header reads": (lambda: put("kept/second/inner.h", "typedef int later_t;\n"), "has_type later_t = true"),
+    "a header that was missing": (lambda: put("kept/first/later.h", ""), "has_header later.h = true"),
+    "a header in front of one": (lambda: put("kept/first/own.h", "struct own { char a[99]; };\n"), "sizeof struct own = 99"),
+    "a header in front of an inner one": (lambda: put("kept/first/inner.h", "typedef int later_t;\n"), "has_type later_t = true"),
+    "a header that is gone": (lambda: os.remove(f"{WORK}/kept/second/own.h"), "has_header own.h = false"),
+    "a library that was missing": (lambda: library("later", "later_function"), "find_library later = true"),
+    "a library that is another": (lambda: library("own", "other_function_than_it_was"), "has_function own_function = false"),
+    "a library that is gone": (lambda: os.remove(f"{WORK}/kept/lib/libown.so"), "find_library own = false"),
+    "a package that was missing": (lambda: put("kept/packages/later.pc", PACKAGE % ("3.5", "later", "")), "version = '3.5'"),
+    "a package that is another": (lambda: put("kept/packages/own.pc", PACKAGE % ("7.77", "own", "")), "version = '7.77'"),
+    "a package that a package needs": (lambda: put("kept/packages/needed.pc", PACKAGE % ("1.0", "needed2", "")),
+                                       "link_args = ['-lown', '-lneeded2']"),
+    "a compiler that is another": (lambda: put("kept/other-cc", "#!/bin/sh\nexec cc -Dlater_t=int \"$@\"\n", 0o755),
+                                   "has_type later_t = true")}
+
+
+def test_changes() -> None:
+    for name, (change, line) in CHANGES.items():
+        if "package" in name and not HAS_PACKAGES:
+            print(f"scripts: kept answers: {name}: skipped: there is no pkg-config (Debian's package pkgconf has it)")
+            continue
+        begin()
+        before = Asked()
+        change()
+        after = Asked()
+        is_good = line in after.lines - before.lines and after.status == 0
+        check(f"kept answers: {name}", is_good, f"{after.said} {after.lines ^ before.lines}")
+        check(f"kept answers: {name}: kept again", Asked().calls == [])
+
+
+def test_damage() -> None:
+    """A file of answers that says nothing, or what it shouldn't, is made anew."""
+    begin()
+    first = Asked()
+    path = os.path.join(environment()["XDG_CACHE_HOME"], "hawkottoman", "answers.json")
+    whole = read(path)
+    form, names, stamps, lists, answers = json.loads(whole)
+    for name, text in (("empty", ""), ("cut", whole[:len(whole) // 2]), ("no JSON", "\0" * 100), ("deep", "[" * 100000), ("other", "{}"),
+                       ("no numbers", json.dumps([form, names, stamps, lists, {it: ["true", "x"] for it in answers}])),
+                       ("no lists", json.dumps([form, names, stamps, [[10**9]], answers])),
+                       ("another form", json.dumps([form + 1, names, stamps, lists, answers]))):
+        put(path, text)
+        again = Asked()
+        check(f"kept answers: damaged: {name}", again.lines == first.lines and again.status == 0 and again.said == "", again.said)
+        check(f"kept answers: damaged: {name}: made anew", Asked().calls == [])
+    os.remove(path)
+    other = put("kept/of another", "text")
+    os.symlink(other, path)
+    check("kept answers: a link is not followed", Asked().lines == first.lines and read(other) == "text")
+    shutil.rmtree(os.path.dirname(path))
+    put(os.path.dirname(path), "a file")
+    check("kept answers: where nothing can be kept", Asked().lines == first.lines)
+    check("kept answers: without a place", Asked(env={"XDG_CACHE_HOME": "relative", "HOME": ""}).lines == first.lines)
+    os.remove(os.path.dirname(path))
+
+
+TESTS = (test_kept, test_changes, test_damage)

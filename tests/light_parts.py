@@ -1,0 +1,87 @@
+"""The parts that stand for slower ones of the standard library: the words of a command, and records; tests/scripts runs this too."""
+import sys
+
+from workshop import CHECKOUT, check
+
+sys.path.insert(0, CHECKOUT)
+from tools import records  # noqa: E402
+from tools.ending import Stop  # noqa: E402
+from tools.words import Parser  # noqa: E402
+
+
+def parsed(*words: str) -> dict[str, object] | str:
+    """What a command with some options gets from these words; or what is said of bad ones."""
+    parser = Parser("meson x", "Does it.", 4)
+    parser.add_folder()
+    parser.add_argument("names", metavar="NAME", nargs="*", help="a name")
+    parser.add_argument("-j", "--jobs", type=int, default=2, help="a number")
+    parser.add_argument("-v", "--verbose", action="store_true", help="more")
+    parser.add_argument("--suite", action="append", default=[], help="a suite")
+    parser.add_argument("--no-suite", action="append", default=[], help="no suite")
+    try:
+        return vars(parser.parse_args(list(words)))
+    except Stop as stop:
+        return f"{stop.status} {stop.why}"
+
+
+PLAIN = {"help": None, "folder": ".", "names": [], "jobs": 2, "verbose": False, "suite": [], "no_suite": []}
+WORDS = {
+    "": {}, "a -v b": {"names": ["a", "b"], "verbose": True}, "-j3": {"jobs": 3}, "-vj 3": {"jobs": 3, "verbose": True},
+    "-vj3 -Cb": {"jobs": 3, "verbose": True, "folder": "b"}, "--jobs=3 a": {"jobs": 3, "names": ["a"]}, "--jo 3": {"jobs": 3},
+    "--suite a --suite=b": {"suite": ["a", "b"]}, "-- -v --such": {"names": ["-v", "--such"]}, "-": {"names": ["-"]},
+    "--no a": {"no_suite": ["a"]}}
+BAD = {
+    "--such": "4 unrecognized arguments: --such", "-x a": "4 unrecognized arguments: -x",
+    "-j": "4 argument -j/--jobs: expected one argument", "-j x": "4 argument -j/--jobs: invalid int value: 'x'",
+    "--verbose=1": "4 argument -v/--verbose: takes no value, and got '1'"}
+
+
+def test_words() -> None:
+    wrong = {text: got for text, wanted in WORDS.items() if (got := parsed(*text.split())) != {**PLAIN, **wanted}}
+    check("words: good ones", not wrong, wrong)
+    wrong = {text: got for text, wanted in BAD.items() if (got := parsed(*text.split())) != f"{wanted} (--help says more)"}
+    check("words: bad ones are told in one line", not wrong, wrong)
+
+
+@records.dataclass(eq=False)
+class Base:
+    start: int
+
+
+@records.dataclass(eq=False)
+class Derived(Base):
+    name: str
+    items: list[int] = records.field(default_factory=list)
+
+
+@records.dataclass(frozen=True)
+class Frozen:
+    a: int
+    b: str = "b"
+
+
+def raises(kind: type[Exception], *values: object, **named: object) -> bool:
+    try:
+        Frozen(*values, **named)
+    except kind:
+        return True
+    return False
+
+
+def test_records() -> None:
+    one, other = Derived(1, "n"), Derived(1, name="n", items=[2])
+    check("records: fields, those of the class above first", (one.start, one.name, one.items, other.items) == (1, "n", [], [2]), one)
+    one.items.append(1)
+    check("records: a default of its own for each", Derived(1, "n").items == [] and one != Derived(1, "n"))
+    check("records: equal ones", Frozen(1) == Frozen(1, "b") and hash(Frozen(1)) == hash(Frozen(1)) and Frozen(1) != Frozen(2))
+    check("records: replace", records.replace(Frozen(1), b="c") == Frozen(1, "c") and repr(Frozen(1)) == "Frozen(a=1, b='b')")
+    is_told = raises(TypeError) and raises(TypeError, 1, 2, 3) and raises(TypeError, 1, a=1) and raises(TypeError, 1, c=1)
+    check("records: wrong values are refused", is_told)
+    try:
+        Frozen(1).a = 2
+        check("records: a frozen one is not changed", False)
+    except AttributeError:
+        check("records: a frozen one is not changed", True)
+
+
+TESTS = (test_words, test_records)

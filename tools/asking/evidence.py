@@ -1,0 +1,128 @@
+"""What an answer of the machine rests on: files that were read, and paths at which nothing was found.
+
+While a thread answers a question, `gathered` collects for it each file that the compiler, the linker and pkg-config have read, and each
+path that would have been read in its place. An answer is good as long as all of these are as they were.
+"""
+import contextlib
+import os
+import re
+import threading
+from collections.abc import Iterator
+
+from tools.files import read_bytes
+
+MOST_BYTES = 1 << 24  # of a header or a package
+Stamp = list[int] | None
+INCLUDE = re.compile(r"#\s*include\s*[<\"]([^>\"\n]+)[>\"]|__has_include(?:_next)?\s*\(\s*[<\"]([^>\"\n]+)[>\"]")
+MISSING = re.compile(r"fatal error: '?([^:'\n]+)'?(?:: No such file or directory| file not found)")
+OPENED = re.compile(r"^attempt to open (/.*) (succeeded|failed)$", re.M)
+LINKER_RAN = re.compile(r"ld returned \d+ exit status|linker command failed")
+BAD_OPTION = re.compile(r"\bld(?:\.\w+)?: unrecognized option ")  # with which it opens no file
+HERE = threading.local()  # `gathers`: the evidence of the question that this thread answers
+
+
+class Evidence:
+    """Paths, and whether these are all that an answer rests on."""
+
+    def __init__(self) -> None:
+        self.paths: set[str] = set()
+        self.is_whole = True
+
+
+@contextlib.contextmanager
+def gathered() -> Iterator[Evidence]:
+    HERE.gathers = Evidence()
+    try:
+        yield HERE.gathers
+    finally:
+        HERE.gathers = None
+
+
+def at_work() -> Evidence | None:
+    """What this thread gathers; none where its answers aren't kept."""
+    return getattr(HERE, "gathers", None)
+
+
+def stamp_of(path: str) -> Stamp:
+    """The time and the size of what is at a path; none where nothing is."""
+    try:
+        found = os.stat(path)
+    except (OSError, ValueError):
+        return None
+    return [found.st_mtime_ns, found.st_size]
+
+
+def cut_headers(said: str) -> tuple[str, list[tuple[int, str]]]:
+    """What the compiler says beside the headers that it names as it reads them, and these with their depths."""
+    said = said.partition("Multiple include guards may be useful for:\n")[0]
+    headers = [(len(dots), path) for dots, path in re.findall(r"^(\.+) (.*)$", said, re.M) if path != os.devnull]
+    return re.sub(r"^\.+ .*\n?", "", said, flags=re.M), headers
+
+
+def folders_in(said: str) -> list[str] | None:
+    """The folders that `cc -v` searches for headers, those that aren't there among them; none where it doesn't say so."""
+    match = re.search(r"search starts here:\n(.*?)End of search list\.", said, re.S)
+    if not match:
+        return None
+    missing = re.findall(r"^ignoring nonexistent directory \"(.*)\"$", said, re.M)
+    return [it.strip() for it in match[1].split("\n") if it.startswith(" ")] + missing
+
+
+def add_headers(evidence: Evidence, source: str, said: str, headers: list[tuple[int, str]], folders: list[str] | None) -> None:
+    """The headers that a source has read, and where each of them, or one that is missing, would be found before."""
+    if folders is None:
+        evidence.is_whole = False
+        return
+    names = {name for pair in INCLUDE.findall(source) for name in pair if name} | set(MISSING.findall(said))
+    above: list[str] = []
+    for depth, path in headers:
+        del above[depth - 1:]
+        folder = max((it for it in folders if path.startswith(it + "/")), key=len, default="")
+        name = path[len(folder) + 1:] if folder else path
+        names |= {name, *of_conditions(path)}
+        evidence.paths |= {path, *(os.path.join(os.path.dirname(above[-1]), it) for it in (name, os.path.basename(name)) if above)}
+        above.append(path)
+    evidence.paths |= {os.path.join(folder, it) for folder in folders for it in names}
+
+
+CONDITIONS: dict[str, set[str]] = {}  # by header
+
+
+def of_conditions(path: str) -> set[str]:
+    """The headers of which a header asks whether they are there."""
+    if path not in CONDITIONS:
+        text = text_of(path)
+        CONDITIONS[path] = {name for _, name in INCLUDE.findall(text) if name} if "__has_include" in text else set()
+    return CONDITIONS[path]
+
+
+def text_of(path: str) -> str:
+    """The text of a file that a compiler or pkg-config has read; none of what is no file, as a device, or too great to be one of these."""
+    try:
+        return read_bytes(path, MOST_BYTES).decode(errors="replace")
+    except OSError:
+        return ""
+
+
+def add_linked(evidence: Evidence, is_good: bool, printed: str, said: str) -> None:
+    """What the linker has opened, or has looked for in vain; a linker that doesn't say so leaves the evidence with a gap."""
+    opened = OPENED.findall(printed)
+    if not opened and (is_good or LINKER_RAN.search(said)) and not BAD_OPTION.search(said):
+        evidence.is_whole = False
+    # What was opened and is gone was made for this link.
+    evidence.paths |= {path for path, how in opened if how == "failed" or os.path.exists(path)}
+
+
+def add_packages(name: str, folders: list[str]) -> None:
+    """The files of pkg-config that a package is made of, and where they would be found before."""
+    evidence = at_work()
+    names, known = [name], set()
+    while evidence and names:
+        one = names.pop()
+        if one in known:
+            continue
+        known.add(one)
+        places = [os.path.join(folder, one + ending) for folder in folders for ending in ("-uninstalled.pc", ".pc")]
+        evidence.paths |= set(places)
+        for line in re.findall(r"^Requires(?:\.private)?:(.*)$", "\n".join(map(text_of, places)), re.M):
+            names += re.findall(r"[A-Za-z][\w.+-]*", line)

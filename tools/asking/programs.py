@@ -1,0 +1,74 @@
+"""Which files a compiler and pkg-config execute: the commands themselves, the compiler's own programs, and what loads them."""
+import os
+import re
+import shutil
+import struct
+
+from tools.asking.processes import run
+from tools.elf import Elf
+
+# The programs that GCC and Clang call.
+CALLED = ("cc1", "collect2", "lto1", "lto-wrapper", "as", "ld", "ld.bfd", "ld.gold", "ld.lld", "ld.mold", "nm", "objcopy")
+# Commands that run the compiler that is named after them.
+LAUNCHERS = ("ccache", "sccache", "distcc", "icecc")
+INTERPRETER = 3  # the kind of an ELF file's segment that names the loader
+MOST_BYTES = 1 << 20  # of a program that are read
+DEEPEST = 4  # scripts that call scripts
+
+
+def after_launchers(words: list[str]) -> list[str]:
+    """Returns the words of the compiler without those that cache or distribute its work."""
+    while len(words) > 1 and os.path.basename(words[0]) in LAUNCHERS and not words[1].startswith("-"):
+        words = words[1:]
+    return words
+
+
+def path_folders() -> list[str]:
+    """Returns the folders of PATH, without those that are relative to the present folder, which may be the project's."""
+    return [it for it in os.get_exec_path() if os.path.isabs(it)]
+
+
+def files_named(name: str, folders: list[str]) -> list[str]:
+    """Returns each executable file of a name in these folders, as the system has it."""
+    found = [shutil.which(name)] if "/" in name else [shutil.which(name, path=folder) for folder in folders]
+    return [os.path.realpath(it) for it in found if it]
+
+
+def programs_of(compiler: list[str], others: list[str], folder: str) -> tuple[str, ...]:
+    """Returns the files that these commands may execute; the compiler is asked in an empty folder where it has its own."""
+    found: dict[str, None] = {}
+    on_path = path_folders()
+    for word in (*compiler, *others):
+        if not word.startswith("-"):
+            # All of its name: a command that stands in for a compiler calls the next one on PATH.
+            add_all(found, [*files_named(word, on_path), *files_named(os.path.basename(word), on_path)], DEEPEST)
+    listed = re.search(r"^programs: =?(.*)$", run([*compiler, "-print-search-dirs"], folder).printed, re.M)
+    own = [it for it in (listed[1].split(":") if listed else []) if os.path.isabs(it)]
+    for name in CALLED:
+        add_all(found, files_named(name, [*own, *on_path]), DEEPEST)
+    return tuple(found)
+
+
+def add_all(found: dict[str, None], paths: list[str], deepest: int) -> None:
+    """Adds files and what they are run by; of a script also the programs that its text names."""
+    for path in paths:
+        if path in found:
+            continue
+        found[path] = None
+        with open(path, "rb") as it:
+            head = it.read(MOST_BYTES)
+        if head.startswith(b"\x7fELF"):
+            add_all(found, files_named(loader_of(head), []), 0)
+        elif head.startswith(b"#!") and deepest:
+            named = dict.fromkeys(re.findall(r"[\w.+/-]*\w", head.decode(errors="replace")))
+            whole = [it for it in named if os.path.isabs(it) or "/" not in it]
+            add_all(found, [it for word in whole for it in files_named(word, path_folders())], deepest - 1)
+
+
+def loader_of(head: bytes) -> str:
+    """Returns the path of the program that loads an ELF file, or of none that is there."""
+    try:
+        places = [(at, size) for kind, at, _, size in Elf(bytearray(head)).segments if kind == INTERPRETER]
+    except (IndexError, OverflowError, ValueError, struct.error):
+        places = []
+    return "".join(os.fsdecode(head[at:at + size].rstrip(b"\0")) for at, size in places) or "/"

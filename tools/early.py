@@ -1,0 +1,33 @@
+"""Ends a script that is asked to end before it has begun; each script imports this first.
+
+Nothing is there yet that would have to be cleaned up, so the script ends at once, with one line and the status of one that was interrupted.
+Later `run_script` takes the signals over.
+"""
+from __future__ import annotations
+
+import os
+import signal
+import sys
+
+TYPE_CHECKING = False
+if TYPE_CHECKING:
+    from types import FrameType
+    from typing import NoReturn
+
+SIGNALS = (signal.SIGINT, signal.SIGTERM, signal.SIGHUP)
+INTERRUPTED = 130
+
+
+def end_at_once(number: int, frame: FrameType | None) -> NoReturn:
+    try:
+        called = os.environ.get("HAWKOTTOMAN_CALLED", "meson")
+        os.write(2, f"{called} {os.path.basename(sys.argv[0])}: interrupted\n".encode(errors="backslashreplace"))
+    except OSError:
+        pass  # nobody can read it
+    os._exit(INTERRUPTED)
+
+
+# Where a signal is ignored, as `nohup` has it, it stays so.
+for it in SIGNALS:
+    if signal.getsignal(it) in (signal.SIG_DFL, signal.default_int_handler):
+        signal.signal(it, end_at_once)

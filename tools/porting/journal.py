@@ -1,0 +1,207 @@
+"""Puts new texts in the place of a project's files: all of them or none, whatever interrupts that.
+
+The new texts are written below SOURCE-DIR/.meson-port first, then a journal that says where each belongs, then each is renamed to its
+place. Without a journal nothing has been renamed, and the folder is taken away; with one, the rest is renamed. An interrupted run is
+finished so by the next one. No place is outside of SOURCE-DIR, and no file changes its owner, its mode or its other names.
+"""
+from __future__ import annotations
+
+import contextlib
+import fcntl
+import hashlib
+import json
+import os
+import re
+import stat
+from collections.abc import Iterator
+
+from tools import records as dataclasses
+from tools.ending import Stop
+from tools.files import read_bytes, read_text
+
+FOLDER, JOURNAL, UNFINISHED = ".meson-port", "journal.json", "journal.new"
+WAITING = re.compile(r"[0-9]{1,9}")  # the name of a text that waits in the folder
+MOST_JOURNAL = 1 << 24
+
+
+@dataclasses.dataclass(frozen=True)
+class Entry:
+    """A file's place below the root, the name under which its new text waits, and the digest of what it is before; empty of a new file."""
+    place: str
+    waiting: str
+    before: str
+
+
+def place_of(root: str, path: str) -> str | None:
+    """Returns where a path of a project leads, by what is below the root alone; none where it leads out of it."""
+    if os.path.isabs(path) or ".." in path.split("/") or "\0" in path:
+        return None
+    top = os.path.realpath(root)
+    real = os.path.realpath(os.path.join(top, path))
+    return os.path.relpath(real, top) if real.startswith(top.rstrip("/") + "/") else None
+
+
+def digest(data: bytes) -> str:
+    return hashlib.sha256(data).hexdigest()
+
+
+@contextlib.contextmanager
+def locked(root: str) -> Iterator[None]:
+    """Keeps other runs away from the files of a project; where there is no such folder nothing is kept."""
+    if not os.path.isdir(root):
+        yield
+        return
+    number = os.open(root, os.O_RDONLY | os.O_DIRECTORY | os.O_CLOEXEC)
+    try:
+        fcntl.flock(number, fcntl.LOCK_EX | fcntl.LOCK_NB)
+        yield
+    except BlockingIOError:
+        raise Stop(f"{root}: another `meson port` is at work there") from None
+    finally:
+        os.close(number)
+
+
+class Journal:
+    def __init__(self, root: str) -> None:
+        self.root = os.path.realpath(root)
+        self.folder = os.path.join(self.root, FOLDER)
+
+    def path(self, name: str) -> str:
+        return os.path.join(self.folder, name)
+
+    def recover(self) -> str:
+        """Finishes or takes back what an interrupted run has begun, and says which; empty where nothing was begun."""
+        if not os.path.lexists(self.folder):
+            return ""
+        if os.path.islink(self.folder) or not os.path.isdir(self.folder):
+            raise Stop(f"{self.folder}: is not the folder of `meson port`; move it away")
+        if not os.path.lexists(self.path(JOURNAL)):
+            self.clear()
+            return "an interrupted run is taken back: it had changed nothing"
+        entries = self.entries()
+        self.check_unchanged(entries)
+        self.finish(entries)
+        return "an interrupted run is finished: its changes are made"
+
+    def entries(self) -> list[Entry]:
+        """Reads the journal; each of its places is below the root."""
+        try:
+            rows = json.loads(read_text(self.path(JOURNAL), MOST_JOURNAL))
+            found = [Entry(*it) for it in rows]
+            is_good = isinstance(rows, list) and all(isinstance(text, str) for it in found for text in dataclasses.astuple(it)) and all(
+                WAITING.fullmatch(it.waiting) and place_of(self.root, it.place) == it.place for it in found)
+        except (OSError, ValueError, TypeError, RecursionError):
+            is_good = False
+        if not is_good:
+            raise Stop(f"{self.path(JOURNAL)}: is no journal of `meson port`; take {FOLDER} away if you don't need what is in it")
+        return found
+
+    def check_unchanged(self, entries: list[Entry]) -> None:
+        """Stops where a file that still waits for its new text is not what it was."""
+        for it in entries:
+            if os.path.lexists(self.path(it.waiting)) and self.before(it.place) != it.before:
+                raise Stop(f"{it.place}: was changed after `meson port` was interrupted; its new text is {FOLDER}/{it.waiting}: "
+                           f"move both where you want them, and take {FOLDER} away")
+
+    def before(self, place: str) -> str:
+        path = os.path.join(self.root, place)
+        return digest(read_bytes(path)) if os.path.lexists(path) else ""
+
+    def finish(self, entries: list[Entry]) -> None:
+        """Renames the texts that wait, and takes the folder away."""
+        for it in entries:
+            try:
+                self.make_folder(os.path.dirname(it.place))
+                os.replace(self.path(it.waiting), os.path.join(self.root, it.place))
+            except FileNotFoundError:
+                if os.path.lexists(self.path(it.waiting)):
+                    raise
+        self.clear()
+
+    def make_folder(self, place: str) -> None:
+        """Makes the folder of a new file, where it isn't there; it belongs to whom the project belongs."""
+        folder = os.path.join(self.root, place)
+        if os.path.isdir(folder):
+            return
+        self.make_folder(os.path.dirname(place))
+        os.mkdir(folder)
+        owner = os.stat(self.root)
+        if os.geteuid() == 0:
+            os.chown(folder, owner.st_uid, owner.st_gid)
+
+    def clear(self) -> None:
+        """Takes away what a run has left in the folder, the journal first, and the folder."""
+        names = os.listdir(self.folder)
+        for name in sorted(names, key=lambda it: it != JOURNAL):
+            if name in (JOURNAL, UNFINISHED) or WAITING.fullmatch(name):
+                os.unlink(self.path(name))
+        try:
+            os.rmdir(self.folder)
+        except OSError as error:
+            raise Stop(f"{self.folder}: has files that are not of `meson port`; move them away") from error
+
+    def put(self, texts: dict[str, tuple[bytes | None, bytes]]) -> None:
+        """Puts texts in their places: by its path of each the bytes before, none of a new file, and its new ones."""
+        entries = []
+        owners = [self.checked(path, before) for path, (before, _) in texts.items()]
+        os.mkdir(self.folder, 0o700)
+        try:
+            for number, ((path, (before, after)), old) in enumerate(zip(texts.items(), owners)):
+                self.write(str(number), after, old)
+                entries.append(Entry(place_of(self.root, path) or "", str(number), digest(before) if before is not None else ""))
+            self.commit(entries)
+        except BaseException as error:
+            self.clear()
+            if isinstance(error, OSError) and not error.filename:
+                raise Stop(f"{self.folder}: {error.strerror}; nothing is changed") from error
+            raise
+        try:
+            self.finish(entries)
+        except KeyboardInterrupt:
+            self.finish(entries)
+            raise
+
+    def checked(self, path: str, before: bytes | None) -> os.stat_result | None:
+        """What stands at a path; stops where that can't be another file without being more than its bytes."""
+        place = place_of(self.root, path)
+        if place is None:
+            raise Stop(f"{path}: is outside of {self.root}, or a link leads there; nothing is changed")
+        real = os.path.join(self.root, place)
+        if before is None:
+            if os.path.lexists(real):
+                raise Stop(f"{path}: is there meanwhile; nothing is changed")
+            return None
+        old = os.stat(real, follow_symlinks=False)
+        if read_bytes(real) != before:
+            raise Stop(f"{path}: was changed meanwhile; nothing is changed")
+        if old.st_nlink > 1:
+            raise Stop(f"{path}: has {old.st_nlink} names (hard links), which would be two files then; nothing is changed")
+        if not old.st_mode & 0o222:
+            raise Stop(f"{path}: is write-protected; nothing is changed")
+        return old
+
+    def write(self, name: str, data: bytes, old: os.stat_result | None) -> None:
+        """Writes a text that waits, with the owner and the mode of the file that it replaces; a new one has those of the project."""
+        made = os.open(self.path(name), os.O_WRONLY | os.O_CREAT | os.O_EXCL | os.O_NOFOLLOW | os.O_CLOEXEC, 0o666)
+        with open(made, "wb") as it:
+            it.write(data)
+            it.flush()
+            own, wanted = os.fstat(made), old or os.stat(self.root)
+            if (own.st_uid, own.st_gid) != (wanted.st_uid, wanted.st_gid) and (old or os.geteuid() == 0):
+                os.fchown(made, wanted.st_uid, wanted.st_gid)
+            if old:
+                os.fchmod(made, stat.S_IMODE(old.st_mode))
+            os.fsync(made)
+
+    def commit(self, entries: list[Entry]) -> None:
+        """Writes the journal: from here on the run is finished, whatever interrupts it."""
+        with open(self.path(UNFINISHED), "x", encoding="utf-8") as it:
+            json.dump([dataclasses.astuple(entry) for entry in entries], it)
+            it.flush()
+            os.fsync(it.fileno())
+        os.rename(self.path(UNFINISHED), self.path(JOURNAL))
+        number = os.open(self.folder, os.O_RDONLY | os.O_DIRECTORY | os.O_CLOEXEC)
+        try:
+            os.fsync(number)
+        finally:
+            os.close(number)
