@@ -13,11 +13,11 @@
 #![tactic(auto)]
 
 mod answering;
-mod calls;
 mod ending;
+mod entry_points;
 mod given;
 mod running;
 
-pub use calls::{fault, questions, setup};
 pub use ending::Ending;
+pub use entry_points::{fault, questions, setup};
 pub use given::Given;

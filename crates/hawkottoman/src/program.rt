@@ -150,7 +150,10 @@ fn perform_on_disk<'o, R: Files<File = File> + AllocGlobal, L: Write + Drop, F: 
     if matches!(line.task, Task::Setup) {
         out.claim()?;
     }
-    Ok(perform_over(rt.alloc(), line, place, &mut tree, out))
+    let status = perform_over(rt.alloc(), line, place, &mut tree, out);
+    // The status says how the run ended, also if what it left unfinished can't be removed.
+    let _ = out.clean_up();
+    Ok(status)
 }
 
 // Whether there is a `meson.build` in the folder below this root.

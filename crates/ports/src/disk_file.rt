@@ -143,3 +143,11 @@ pub(crate) fn finish_output<R: Files<File = File>>(
     output.file.get_ref().sync_data()?;
     fs::rename(disk.files, beside, place)
 }
+
+/// Removes what was written of an output that is given up. The file in its place stays.
+pub(crate) fn remove_output<R: Files<File = File>>(
+    disk: &DiskFolder<'_, R>,
+    output: &DiskOutput<File>,
+) -> io::Result<()> {
+    fs::remove_file(disk.files, output.paths.beside.as_str())
+}

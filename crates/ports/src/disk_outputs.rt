@@ -2,7 +2,7 @@ ghost use Rattle.std.specs.Prelude.{◌≡◌, ◌≤◌, ◌<◌, Some, length,
 ghost use Rattle.std.specs.Option.{option_map};
 ghost use Rattle.ports.specs.DiskOutputs.{disk_state, name_of};
 
-use crate::disk_file::{DiskOutput, begin_output, finish_output};
+use crate::disk_file::{DiskOutput, begin_output, finish_output, remove_output};
 use crate::disk_folder::DiskFolder;
 use crate::{DeviceFault, Outputs};
 use std::alloc::{AllocError, Global};
@@ -181,6 +181,15 @@ impl<'a, R: Files<File = File>, L: Write + Drop, F: Write + Drop> DiskOutputs<'a
         ensures { ⟦<DiskOutputs<'a, R, L, F> as Outputs>⟧.seen self.new ≡ ⟦<DiskOutputs<'a, R, L, F> as Outputs>⟧.seen self.old }
     {
         self.disk.claim(&mut self.faults)
+    }
+
+    /// Removes what was written of the open output, if one is open, from the folder. A run that ends before an output is whole calls this
+    /// last.
+    pub fn clean_up(&self) -> io::Result<()> {
+        match &self.current {
+            Some(output) => remove_output(&self.disk, output),
+            None => Ok(()),
+        }
     }
 }
 

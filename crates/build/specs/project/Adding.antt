@@ -103,10 +103,17 @@ length_of which t = length_in which t.own + sum_by (length_in which) t.dependenc
 abbrev pub is_short : ListOf → BuildData → Bool
 is_short which t = nat_le (length_of which t) items
 
+-- how many paths a source names
+abbrev pub paths_in : SourceData → ℕ
+paths_in (Tree path) = 1
+paths_in (Built path) = 1
+paths_in (Made paths) = length paths
+
+-- the words of its command and the paths that have to be there are lists of a custom target, like those that it is declared with
 abbrev pub is_within : TargetData → Bool
 is_within (Build t) =
     is_short OfSources t && (is_short OfFolders t && (is_short OfCompileArgs t && (is_short OfLinkArgs t && is_short OfLibraries t)))
-is_within (Custom t) = nat_le t.longest items
+is_within (Custom t) = nat_le t.longest items && (nat_le (length t.words) items && nat_le (sum_by paths_in t.needs) items)
 
 -- ---- a target
 

@@ -1,6 +1,6 @@
 //! What a target may be.
 ghost use Rattle.std.specs.Prelude.{◌≡◌, ◌+◌, min, IfOk, ◌&&◌, ◌||◌, string_bytes, option_map};
-ghost use Rattle.std.specs.List.{list_any, list_all};
+ghost use Rattle.std.specs.List.{list_any, list_all, sum_by};
 ghost use Rattle.support.specs.Limits.{items};
 ghost use Rattle.build.specs.edge.Texts.{texts, holds as is_held};
 ghost use Rattle.support.specs.paths.Names.{has_slash, is_file_name};
@@ -11,7 +11,8 @@ ghost use Rattle.build.specs.project.World.{reserved, is_made_in};
 ghost use Rattle.build.specs.project.Adding.{begins_with_dash, is_folder, sources_of, is_made_source, is_present};
 ghost use Rattle.build.specs.project.Adding.{is_target_name};
 ghost use Rattle.build.specs.project.Adding.{has_c_in, has_c, names_fit, optional_file_name, build_fits, custom_fits, length_in, length_of};
-ghost use Rattle.build.specs.project.Adding.{is_short, is_within, is_build};
+ghost use Rattle.build.specs.Data.{Custom};
+ghost use Rattle.build.specs.project.Adding.{is_short, is_within, is_build, paths_in};
 
 use crate::edge::{holds, is_upward};
 use crate::{
@@ -324,6 +325,36 @@ fn is_short(target: &BuildTarget, which: ListOf) -> bool
     length_up_to(target, which) <= support::limits::ITEMS
 }
 
+fn paths_in(source: &Source) -> usize
+    ensures { result ≡ paths_in (source_view source.now) }
+{
+    match source {
+        Source::Tree(_) => 1,
+        Source::Built(_) => 1,
+        Source::Made(paths) => paths.len(),
+    }
+}
+
+// How many paths have to be there for the command, at most one more than there may be.
+fn needs_up_to(target: &CustomTarget) -> usize
+    ensures { result ≡ min (items + 1) (sum_by paths_in (custom_view target.now).needs) }
+{
+    let most = support::limits::ITEMS + 1;
+    let mut count = 0;
+    for source in &target.needs {
+        count = most.min(count + most.min(paths_in(source)));
+    }
+    count
+}
+
+fn is_short_custom(target: &CustomTarget) -> bool
+    ensures { result ≡ is_within (Custom (custom_view target.now)) }
+{
+    target.longest <= support::limits::ITEMS
+        && target.words.len() <= support::limits::ITEMS
+        && needs_up_to(target) <= support::limits::ITEMS
+}
+
 /// Whether no list of the target, those of its dependencies counted, has more than 65,536 items.
 pub fn is_within(target: &Target) -> bool
     ensures { result ≡ is_within (target_view target.now) }
@@ -336,6 +367,6 @@ pub fn is_within(target: &Target) -> bool
                 && is_short(target, ListOf::OfLinkArgs)
                 && is_short(target, ListOf::OfLibraries)
         }
-        Target::Custom(target) => target.longest <= support::limits::ITEMS,
+        Target::Custom(target) => is_short_custom(target),
     }
 }

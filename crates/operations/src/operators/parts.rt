@@ -63,10 +63,14 @@ pub fn indexed_item(list: &List, index: i128) -> Option<&Value>
     list.items().get(at)
 }
 
+// A place that counts from the front is found by a walk to it, any other by a walk over the whole text.
 fn indexed_char(text: &str, index: i128) -> Option<char>
     ensures { result ≡ indexed_char text.now index }
 {
-    let at = place(index, char_count(text))?;
+    let at = match usize::try_from(index) {
+        Ok(at) => at,
+        Err(_) => place(index, char_count(text))?,
+    };
     char_at(text, at)
 }
 

@@ -1,6 +1,6 @@
 //! Parts of a text, by places that count characters.
 
-ghost use Rattle.std.specs.Prelude.{◌≡◌, ◌≤◌, length, drop, take};
+ghost use Rattle.std.specs.Prelude.{◌≡◌, ◌≤◌, ℕ, IfSome, length, drop, min, take};
 ghost use Rattle.std.specs.Str.{chars, encode_utf8_all};
 ghost use Rattle.values.specs.texts.Part.{part, place, place_or};
 
@@ -11,7 +11,7 @@ ghost use Rattle.values.specs.texts.Part.{part, place, place_or};
 pub fn substring(text: &str, from: Option<i128>, to: Option<i128>) -> &str
     ensures { result.now ≡ part from to text.now }
 {
-    let count = char_count(text);
+    let count = count_for(text, from, to);
     let start = place_or(from, count, 0);
     let end = place_or(to, count, count);
     let rest = without_chars(text, start);
@@ -39,10 +39,40 @@ fn place(index: i128, count: usize) -> usize
     if back { count - steps } else { steps }
 }
 
+// How many characters from the front on decide both places: none where the whole text has to be counted.
+fn needed(from: Option<i128>, to: Option<i128>) -> Option<usize>
+    ensures { IfSome result (λ most. (count : ℕ) → (place_or from (min most count) 0 ≡ place_or from count 0)
+        × (place_or to (min most count) (min most count) ≡ place_or to count count)) }
+{
+    let end = usize::try_from(to?).ok()?;
+    match from {
+        None => Some(end),
+        Some(from) => Some(end.max(usize::try_from(from).ok()?)),
+    }
+}
+
+// The number of characters, or as many of them as decide both places: a walk goes no further than these.
+fn count_for(text: &str, from: Option<i128>, to: Option<i128>) -> usize
+    ensures start { place_or from result 0 ≡ place_or from (length (chars text.now)) 0 }
+    ensures end { place_or to result result ≡ place_or to (length (chars text.now)) (length (chars text.now)) }
+{
+    match needed(from, to) {
+        Some(most) => char_count_to(text, most),
+        None => char_count(text),
+    }
+}
+
 fn char_count(text: &str) -> usize
     ensures { result ≡ length (chars text.now) }
 {
     text.chars().count()
+}
+
+// The number of characters, or `most` where there are more.
+fn char_count_to(text: &str, most: usize) -> usize
+    ensures { result ≡ min most (length (chars text.now)) }
+{
+    char_count(first_chars(text, most))
 }
 
 // The text after its first `count` characters.

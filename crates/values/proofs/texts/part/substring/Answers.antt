@@ -11,11 +11,10 @@ returns c =
     let middle : chars c.without_chars-rest.result.now ≡ drop start (chars text) = sym
     (chars_from_encodes (drop start (chars text)) c.without_chars-rest.result.now c.without_chars-rest.utf8
     (sym c.without_chars-rest.ensures.text)) in
-    let count = c.char_count-count.ensures in
     let begins : start ≡ place_or c.args.from (length (chars text)) 0 = c.place_or-start.ensures
-    ∙ ap (λ n. place_or c.args.from n 0) count in
+    ∙ c.count_for-count.ensures.start in
     let ends : c.place_or-end.result ≡ place_or c.args.to (length (chars text)) (length (chars text)) = c.place_or-end.ensures
-    ∙ ap (λ n. place_or c.args.to n n) count in
+    ∙ c.count_for-count.ensures.end in
     c.first_chars.ensures
     ∙ ap (λ n. encode_utf8_all (take n (chars c.without_chars-rest.result.now))) c.saturating_sub.ensures
     ∙ ap (λ cs. encode_utf8_all (take (c.place_or-end.result - start) cs)) middle

@@ -1,4 +1,4 @@
-//! The calls: one for each task.
+//! One call for each task.
 ghost use Rattle.std.specs.Prelude.{ℕ, List};
 ghost use Rattle.command.specs.declared.line.Task.TheVariants as tasks;
 ghost use Rattle.interp.specs.Evaluation.{MachineSaid};
