@@ -126,8 +126,14 @@ fn are_same_files<R: Files>(files: &R, alloc: Global, left: &str, right: &str) -
     are_equal(alloc, &mut left, &mut right)
 }
 
-/// Writes out what waits for the output, and puts it into its place, once the disk has taken its bytes; or lets the old file stay where
-/// it has the same bytes.
+// Whether a run waits until the disk has the bytes of the output of this name. A wait for each generated header would make a run many
+// times as long.
+fn is_synced(name: &str) -> bool {
+    matches!(name, "build.ninja" | "meson-info/introspect.json")
+}
+
+/// Writes out what waits for the output and renames it to its place. `build.ninja` and the introspection document are synced first. An
+/// old file that has the same bytes stays.
 pub(crate) fn finish_output<R: Files<File = File>>(
     disk: &DiskFolder<'_, R>,
     output: &mut DiskOutput<File>,
@@ -140,7 +146,9 @@ pub(crate) fn finish_output<R: Files<File = File>>(
     if are_same_files(disk.files, disk.alloc, place, beside).unwrap_or(false) {
         return fs::remove_file(disk.files, beside);
     }
-    output.file.get_ref().sync_data()?;
+    if is_synced(output.paths.name.as_str()) {
+        output.file.get_ref().sync_data()?;
+    }
     fs::rename(disk.files, beside, place)
 }
 
