@@ -3,7 +3,7 @@ import dataclasses
 import os
 
 from form import FormError, written_out
-from judge import Expected, filled, result_parts, row_place
+from judge import UNENDED, Expected, filled, result_parts, row_place
 
 # The directives that ask for further runs.
 MODES = {"cut", "fail", "pieces"}
@@ -37,6 +37,14 @@ class Came:
     counts: dict = dataclasses.field(default_factory=dict)
     # The events in their order, each a word and its bytes; none where the run doesn't show it.
     order: list | None = None
+
+    def given_up(self):
+        """The outputs that were begun and not ended, where the run was traced: the disk has none of them."""
+        return [it for it in self.begun if it not in self.outputs]
+
+    def left_over(self):
+        """The outputs of which an unfinished file is left, which the run has to remove."""
+        return [it + UNENDED for it in self.begun if it + UNENDED in self.outputs]
 
 
 class Given:

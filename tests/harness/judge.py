@@ -202,7 +202,9 @@ class Expected:
         found += parts_differ("complaint", self.complaint_parts, self.complaint_lacks, came.complaint)
         for path, how, text in self.outputs:
             unended = came.outputs.get(path + UNENDED) if came.status != 0 else None
-            found += self.output_differs(path, how, text, came.outputs.get(path, unended))
+            if came.status == 0 or path not in came.given_up():
+                found += self.output_differs(path, how, text, came.outputs.get(path, unended))
+        found += [f"{it} is left" for it in came.left_over()]
         absent = self.absent + ["build.ninja"] * (self.status != 0 and not any(it[0] == "build.ninja" for it in self.outputs))
         found += [f"there is an output {it}" for it in absent if it in came.outputs]
         found += [f"there is a {came.others[it]} at the place of the output {it}" for it in self.absent if it in came.others]

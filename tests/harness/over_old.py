@@ -83,7 +83,9 @@ def why_not_kept(came, stamps: dict, old: dict, whole, kind: str) -> str | None:
         is_kept = came.outputs.get(name) == old[name] and stamps.get(name) == OLD_TIME
         if not is_kept and (name not in whole.outputs or came.outputs.get(name) != whole.outputs[name]):
             return f"the old output {name} is neither as it was nor the new one, whole:\n{shown(came.outputs.get(name, b'(nothing)'))}"
-    more = sorted(set(came.outputs) - set(old) - {name + UNENDED for name in whole.begun})
+    # One call fails: where that is the one that removes an unfinished output, this is left.
+    left = came.left_over() if came.failed in ("unlink", "unlinkat") else []
+    more = sorted(set(came.outputs) - set(old) - set(whole.begun) - set(left))
     return f"there is more than outputs: {more}" if more else None
 
 

@@ -11,7 +11,7 @@ from form import FormError
 from given import KINDS, OVER_OLD, Came, Given
 from in_memory import Memory
 from judge import DOCUMENT, FAULT_LINE, SAID, UNENDED, differing, shown
-from over_old import each_fails_over_old
+from over_old import each_fails_over_old, in_place
 from places import changes, kind_of, locked, make_thing, pipe_of, states_below, stream_changer
 
 # The most seconds that one run may take.
@@ -26,6 +26,9 @@ USUAL_KINDS = ("memory", "device")
 # The groups whose cases show the disk, the command line and whole runs of the program: they run by it too. So does each of so many others.
 OF_PROGRAM = ("command_line", "devices", "first_path")
 SAMPLE = 25
+
+# The calls that remove a file.
+REMOVALS = ("unlink", "unlinkat")
 
 # The ways in which a case is run.
 LIBRARY, PROGRAM = "through the library", "by the program"
@@ -233,13 +236,18 @@ def judged(part, room_of):
 
 
 def as_it_is(room):
-    came = room.run(traced=room.expected.looks is not None or room.expected.order is not None)
+    came = room.run(traced=is_traced(room.expected))
     found = room.expected.differences(came)
     if not found and came.status == 0 and DOCUMENT in came.outputs:
         found = over_present(room, came)
     if not found and room.expected.about is not None:
         found = told_otherwise(room, came)
     return found
+
+
+def is_traced(expected):
+    """Whether a run shows what is expected only if its calls are traced: looks, the order of events, and outputs that it gives up."""
+    return expected.looks is not None or expected.order is not None or (expected.status != 0 and expected.outputs != [])
 
 
 def told_otherwise(room, whole):
@@ -295,14 +303,14 @@ def each_fails(room, whole, kind, share, shares):
         why = differs_from_failing(came, whole, kind)
         if why:
             return [f"call {number} of {calls} ({came.failed or 'which did not come'}) fails: {why}"]
-        is_seen |= came.status in SAID and begun + UNENDED in came.outputs
+        is_seen |= came.status in SAID and begun in came.given_up()
     return [] if is_seen else [f"none of the {calls} runs ends while {begun} is begun"]
 
 
 def differs_from_failing(came, whole, kind):
     """Why what came is not what a run comes to in which a call of this kind fails, if it is not."""
-    same = (came.status, came.log, came.complaint, came.outputs) == (whole.status, whole.log, whole.complaint, whole.outputs)
-    if same and came.may_go_on:
+    said_the_same = (came.status, came.log, came.complaint) == (whole.status, whole.log, whole.complaint)
+    if said_the_same and in_place(came.outputs) == in_place(whole.outputs) and came.may_go_on:
         return None
     # Want of memory in a call of a device is a device fault.
     statuses = (3, 2) if kind == "memory" else (2,)
@@ -311,43 +319,40 @@ def differs_from_failing(came, whole, kind):
     more = [it for it in came.after if not is_of_the_end(it)]
     if more:
         return f"these calls came after it: {more}"
+    if came.left_over() and came.failed not in REMOVALS:
+        return f"these are left: {came.left_over()}"
     if not whole.log.startswith(came.log):
         return f"the log is no beginning of the whole one:\n{shown(came.log)}"
     said = came.complaint.removesuffix(SAID[came.status])
     if said == came.complaint or not whole.complaint.startswith(said):
         return f"it complained:\n{shown(came.complaint)}"
-    return why_no_beginning(begun_outputs(came), begun_outputs(whole), whole.begun)
+    return why_no_beginning(in_place(came.outputs), in_place(whole.outputs), whole.begun)
 
 
 def is_of_the_end(call):
-    """Whether a call, which is told with its path, may come after one that failed: what was taken before is written, the end is told, and
-    files are closed. Nothing is looked at, read, made, synced or renamed any more."""
-    return call.partition(" ")[0] in ("write", "close")
+    """Whether a call, which is told with its path, may come after one that failed: what was taken before is written, the end is told,
+    files are closed, and an unfinished one is removed. Nothing is looked at, read, made, synced or renamed any more."""
+    name, _, path = call.partition(" ")
+    return name in ("write", "close") or (name in REMOVALS and path.endswith(UNENDED))
 
 
 def order_of(came):
-    """The events of a run on a disk in their order: outputs as they were begun, then the fault. What the log stands between isn't seen."""
-    if came.log:
+    """The events of a run on a disk in their order: outputs as they were begun, then the fault. Where the log comes between isn't seen, nor
+    what was written of an output that was given up."""
+    if came.log or came.given_up():
         return None
     order = []
     for name in came.begun:
-        text = came.outputs.get(name, came.outputs.get(name + UNENDED, b""))
-        order += [("open", name.encode()), *[("bytes", text)][: len(text)], *[("close", name.encode())][: name in came.outputs]]
+        text = came.outputs[name]
+        order += [("open", name.encode()), *[("bytes", text)][: len(text)], ("close", name.encode())]
     fault = came.complaint.removesuffix(SAID.get(came.status, b""))
     return order + [("fault", fault)][: len(fault)]
 
 
-def begun_outputs(came):
-    """What was written of each output, in its place or beside it."""
-    return {name.removesuffix(UNENDED): text for name, text in came.outputs.items()}
-
-
 def why_no_beginning(came, whole, order):
-    """Why the outputs are no beginning of those of the whole run, which were begun in this order, if they are not."""
+    """Why the outputs in their places are no beginning of those of the whole run, which were begun in this order, if they are not."""
     for name, text in came.items():
-        if name not in order or not whole[name].startswith(text):
-            return f"the output {name} is no beginning of the whole one:\n{shown(text)}"
-    begun = [it for it in order if it in came]
-    if begun != list(order[: len(begun)]) or any(came[it] != whole[it] for it in begun[:-1]):
-        return f"outputs are left out, or not whole before the last: {begun}"
-    return None
+        if whole.get(name) != text:
+            return f"the output {name} is not that of the whole run:\n{shown(text)}"
+    ended = [it for it in order if it in came]
+    return None if ended == list(order[: len(ended)]) else f"outputs are left out: {ended}"
