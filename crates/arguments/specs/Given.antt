@@ -1,4 +1,4 @@
--- What is given to a call. Each of these is total: the row of the call sees to it that what is there is of the right type.
+-- Reads the arguments of a call. These definitions are total: the row of the call already makes sure that each argument has the right type.
 use Rattle.std.specs.Prelude.{ℕ, ℤ, Bool, true, false, List, [], codes, drop, slice_get, Option, Some, None, unwrap_or, option_and_then}
 use Rattle.values.specs.Data.{Data, boolean, boolean_in, integer_in, text_in, object}
 use Rattle.values.specs.declared.object.Feature.{Feature}
@@ -10,73 +10,78 @@ use Rattle.arguments.specs.Row.{value_named}
 use Rattle.arguments.specs.declared.given.Requirement.{Requirement}
 use Rattle.arguments.specs.declared.given.Requirement.TheVariants as requirements
 
--- the positional argument at a place
+-- Returns the positional argument at an index.
 abbrev pub argument : ℕ → ArgumentsData → Option Data
 argument i a = slice_get a.positional i
 
--- the value of a keyword
+-- Returns the value of a keyword.
 abbrev pub keyword : List ℕ → ArgumentsData → Option Data
 keyword name a = value_named name a.named
 
+-- Returns the text of a value, which is empty if there is none.
 abbrev pub text_or_none : Option Data → List ℕ
 text_or_none d = unwrap_or (option_and_then text_in d) []
 
+-- Returns the texts in a value, with lists flattened.
 abbrev pub texts_in : Option Data → List (List ℕ)
 texts_in None = []
 texts_in (Some d) = flat d
 
--- the text at a place
+-- Returns the text at an index, which is empty if there is none.
 abbrev pub text_at : ℕ → ArgumentsData → List ℕ
 text_at i a = text_or_none (argument i a)
 
--- the same, or this one where it is not given
+-- Returns the text at an index, and the default if there is none.
 abbrev pub text_or : ℕ → List ℕ → ArgumentsData → List ℕ
 text_or i default a = unwrap_or (option_and_then text_in (argument i a)) default
 
--- the boolean at a place, or this one
+-- Returns the boolean at an index, and the default if there is none.
 abbrev pub flag_at : ℕ → Bool → ArgumentsData → Bool
 flag_at i default a = unwrap_or (option_and_then boolean_in (argument i a)) default
 
--- the text of a keyword, empty where it is not given
+-- Returns the text of a keyword, which is empty if it is absent.
 abbrev pub text_of : List ℕ → ArgumentsData → List ℕ
 text_of name a = text_or_none (keyword name a)
 
--- the same, or none where it is not given
+-- Returns the text of a keyword, and none if it is absent.
 abbrev pub text_given : List ℕ → ArgumentsData → Option (List ℕ)
 text_given name a = option_and_then text_in (keyword name a)
 
--- the boolean of a keyword, or this one
+-- Returns the boolean of a keyword, and the default if it is absent.
 abbrev pub flag : List ℕ → Bool → ArgumentsData → Bool
 flag name default a = unwrap_or (option_and_then boolean_in (keyword name a)) default
 
+-- Returns the integer of a keyword, and the default if it is absent.
 abbrev pub integer_of : List ℕ → ℤ → ArgumentsData → ℤ
 integer_of name default a = unwrap_or (option_and_then integer_in (keyword name a)) default
 
--- the texts of a keyword, none where it is not given
+-- Returns the texts of a keyword, and none if it is absent.
 abbrev pub texts : List ℕ → ArgumentsData → List (List ℕ)
 texts name a = texts_in (keyword name a)
 
--- the texts that the positional arguments from a place on are
+-- Returns the texts in the positional arguments from an index on.
 abbrev pub texts_from : ℕ → ArgumentsData → List (List ℕ)
 texts_from i a = flat_all (drop i a.positional)
 
 -- ---- the keyword `required`
 
+-- Returns the requirement of a boolean.
 abbrev pub of_boolean : Bool → Requirement
 of_boolean true = requirements.Required
 of_boolean false = requirements.Optional
 
--- an enabled feature is required, an automatic one is not, and for a disabled one nothing is looked up
+-- Returns the requirement of a feature: an enabled one requires, an automatic one does not, and for a disabled one nothing is looked up.
 abbrev pub of_feature : Feature → Requirement
 of_feature features.Enabled = requirements.Required
 of_feature features.Auto = requirements.Optional
 of_feature features.Disabled = requirements.Disabled
 
+-- Returns the requirement of a boolean or a feature.
 abbrev pub requirement_in : Data → Option Requirement
 requirement_in (boolean b) = Some (of_boolean b)
 requirement_in (object (objects.Feature feature)) = Some (of_feature feature)
 requirement_in _ = None
 
--- what the keyword says, or this where it is not given
+-- Returns what the keyword `required` says, and the default if it is absent.
 abbrev pub requirement : Requirement → ArgumentsData → Requirement
 requirement default a = unwrap_or (option_and_then requirement_in (keyword (codes "required") a)) default

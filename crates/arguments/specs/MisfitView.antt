@@ -1,9 +1,10 @@
--- What a misfit is seen as.
+-- Defines the view of a misfit.
 use Rattle.values.specs.View.{data_of}
 use Rattle.arguments.specs.Misfits.{MisfitData, Twice, LeftOut, TooFew, TooMany, Place, Unknown, Keyword, Missing}
 use Rattle.arguments.specs.declared.misfit.Misfit.{Misfit}
 use Rattle.arguments.specs.declared.misfit.Misfit.TheVariants as misfits
 
+-- Returns the plain data of a misfit.
 abbrev pub misfit_data : Misfit → MisfitData
 misfit_data (misfits.Twice name) = Twice name.now
 misfit_data (misfits.LeftOut name) = LeftOut name.now

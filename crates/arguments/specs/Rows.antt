@@ -1,17 +1,17 @@
--- Rows without keywords.
+-- Defines rows without keywords.
 use Rattle.std.specs.Prelude.{ℕ, List, []}
 use Rattle.arguments.specs.declared.row.Kind.{Kind}
 use Rattle.arguments.specs.declared.row.Kind.TheVariants.{Any, Text}
 use Rattle.arguments.specs.Row.{RowData, row, with_others}
 
--- values of any type
+-- Returns a row of any number of values of any type.
 abbrev pub any_values : RowData
 any_values = with_others Any (row [] 0 [])
 
--- values of these kinds, of which so many are needed
+-- Returns a row of values of these kinds, of which the first `needed` are needed.
 abbrev pub values : List Kind → ℕ → RowData
 values kinds needed = row kinds needed []
 
--- one text at least
+-- Returns a row of at least one text.
 abbrev pub some_texts : RowData
 some_texts = with_others Text (row [] 1 [])

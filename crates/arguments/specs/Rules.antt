@@ -1,9 +1,9 @@
--- What a call asks of its arguments beside its row, and the words that say what breaks it.
+-- Defines rules for arguments that no row expresses, and the messages about what breaks them.
 use Rattle.std.specs.Prelude.{ℕ, List, [], ◌++◌, codes}
 use Rattle.arguments.specs.declared.rule.Rule.{Rule}
 use Rattle.arguments.specs.declared.rule.Rule.TheVariants as rules
 
--- what the text is the name of, where that is told, and what is said of it
+-- Returns what the text names, if the message says so, and what the message says about it.
 abbrev pub told_of : Rule → List ℕ × List ℕ
 told_of rules.NamesFile = ([], codes "names no file of the project")
 told_of rules.NamesFolder = ([], codes "names no folder of the project")
@@ -39,6 +39,6 @@ told_of rules.IsOption = (codes "option ", codes "there is none")
 told_of rules.IsBelow = (codes "folder ", codes "is none below the present one")
 told_of rules.IsNew = (codes "folder ", codes "was entered before")
 
--- a text, or a keyword by its name, breaks a rule
+-- Returns the message that a text, or the keyword with this name, breaks a rule.
 abbrev pub broken : Rule → List ℕ → List ℕ
 broken rule text = (told_of rule).0 ++ (codes "'" ++ (text ++ (codes "': " ++ (told_of rule).1)))

@@ -1,4 +1,4 @@
--- Kinds and values in words.
+-- Describes kinds and values in words.
 use Rattle.std.specs.Prelude.{ℕ, List, [], ◌∷◌, ◌++◌, length, codes, decimal}
 use Rattle.values.specs.Data.{Data, boolean, integer, text, list, dictionary, object}
 use Rattle.values.specs.declared.object.Object.{Object}
@@ -8,6 +8,7 @@ use Rattle.arguments.specs.declared.row.Kind.TheVariants as kinds
 use Rattle.arguments.specs.declared.row.Piece.{Piece}
 use Rattle.arguments.specs.declared.row.Piece.TheVariants as pieces
 
+-- Describes what may be in a list.
 abbrev pub piece_words : Piece → List ℕ
 piece_words pieces.Path = codes "texts and files"
 piece_words pieces.Source = codes "texts, files and custom targets"
@@ -18,7 +19,7 @@ piece_words pieces.Target = codes "targets"
 piece_words pieces.Word = codes "texts, files and targets"
 piece_words pieces.CommandWord = codes "texts, files, programs and targets"
 
--- what an argument has to be
+-- Describes what an argument must be.
 abbrev pub kind_words : Kind → List ℕ
 kind_words kinds.Any = codes "any value"
 kind_words kinds.Boolean = codes "a truth value"
@@ -36,6 +37,7 @@ kind_words kinds.File = codes "a file"
 kind_words kinds.Command = codes "a program, a target or a file"
 kind_words (kinds.Flat piece) = piece_words piece
 
+-- Describes an object.
 abbrev pub object_words : Object → List ℕ
 object_words (objects.Feature feature) = codes "a feature option"
 object_words (objects.Dependency dependency) = codes "a dependency"
@@ -51,7 +53,7 @@ object_words objects.Compiler = codes "a compiler"
 object_words (objects.ConfigurationData number) = codes "configuration data"
 object_words objects.Disabler = codes "a disabler"
 
--- what a value is
+-- Describes a value.
 abbrev pub value_words : Data → List ℕ
 value_words (boolean b) = codes "a truth value"
 value_words (integer z) = codes "an integer"
@@ -60,10 +62,11 @@ value_words (list ds) = codes "a list"
 value_words (dictionary es) = codes "a dictionary"
 value_words (object o) = object_words o
 
+-- Describes two values.
 abbrev pub pair_words : Data → Data → List ℕ
 pair_words d e = value_words d ++ (codes " and " ++ value_words e)
 
--- what the arguments of a call are: one or two by what they are, and more by their number
+-- Describes the arguments of a call: one or two by their values, more by their number.
 abbrev pub values_words : List Data → List ℕ
 values_words [] = codes "none"
 values_words (d ∷ []) = value_words d

@@ -1,4 +1,4 @@
-//! The evaluated arguments of a call.
+//! Defines the evaluated arguments of a call.
 ghost use Rattle.std.specs.Prelude.{◌≡◌, OnOk};
 ghost use Rattle.values.specs.Prelude.{data_of};
 ghost use Rattle.arguments.specs.Arguments.{arguments_data, no_arguments, with_argument};
@@ -6,14 +6,14 @@ ghost use Rattle.arguments.specs.Arguments.{arguments_data, no_arguments, with_a
 use std::alloc::{AllocError, Global};
 use values::{Text, Value};
 
-/// An argument that is given by a name.
+/// A keyword argument.
 #[derive(Drop)]
 pub struct Named {
     pub name: Text,
     pub value: Value,
 }
 
-/// The arguments of a call: those without a name, and those with one, each in order.
+/// The arguments of a call: positional ones, and keyword arguments, each in order.
 pub struct Arguments {
     pub positional: Vec<Value>,
     pub named: Vec<Named>,
@@ -28,7 +28,7 @@ impl Drop for Arguments {
     }
 }
 
-/// No argument.
+/// Returns empty arguments.
 pub fn no_arguments(alloc: Global) -> Arguments
     ensures { arguments_data result ≡ no_arguments }
 {
@@ -39,7 +39,7 @@ pub fn no_arguments(alloc: Global) -> Arguments
 }
 
 impl Arguments {
-    /// Lets go of all arguments; the memory of their lists stays.
+    /// Removes all arguments, but keeps the memory of their lists.
     pub fn clear(&mut self)
         ensures { arguments_data self.new ≡ no_arguments }
     {
@@ -48,7 +48,7 @@ impl Arguments {
     }
 }
 
-/// One argument more.
+/// Appends an argument, with its name if it has one.
 #[inline(always)]
 pub fn add_argument(
     arguments: &mut Arguments,

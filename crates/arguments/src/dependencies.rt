@@ -1,11 +1,11 @@
-//! Dependencies in lists of any depth.
+//! Decides whether dependencies in lists of any depth were found.
 ghost use Rattle.std.specs.Prelude.{◌≡◌};
 ghost use Rattle.arguments.specs.Dependencies.{all_found, are_found};
 ghost use Rattle.values.specs.Prelude.{data_of, items_of};
 
 use values::{Object, Value};
 
-/// Whether the dependencies that it is are all found.
+/// Returns whether all dependencies in a value were found. Any other value counts as found.
 #[cycle(found)]
 pub fn are_found(value: &Value) -> bool
     ensures { result ≡ are_found (data_of value.now) }

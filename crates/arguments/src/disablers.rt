@@ -1,4 +1,4 @@
-//! Disablers among arguments.
+//! Decides whether there are disablers among arguments.
 ghost use Rattle.std.specs.Prelude.{◌≡◌, map};
 ghost use Rattle.arguments.specs.Arguments.{arguments_data, named_data};
 ghost use Rattle.arguments.specs.Disablers.{gives_disabler, named_have_disabler, one_has_disabler};
@@ -29,7 +29,7 @@ fn named_have_disabler(named: &[Named]) -> bool
     false
 }
 
-/// Whether one of the arguments is a disabler, or a list with one at any depth of lists. Each list knows it of itself.
+/// Returns whether one of the arguments is a disabler, or a list that contains one at any depth of lists. Each list stores whether it does.
 pub fn gives_disabler(arguments: &Arguments) -> bool
     ensures { result ≡ gives_disabler (arguments_data arguments.now) }
 {

@@ -1,5 +1,5 @@
-//! What is given to a call. The row of the call has been checked before, so nothing here tests a type again: an argument of
-//! another type counts as one that is not given.
+//! Reads the arguments of a call. The row of the call was checked before, so nothing here checks a type again: an argument of another type
+//! counts as absent.
 ghost use Rattle.std.specs.Prelude.{◌≡◌, IfOk, drop, map, option_map, string_bytes};
 ghost use Rattle.values.specs.Data.{text_in};
 ghost use Rattle.values.specs.Prelude.{data_of};
@@ -15,10 +15,10 @@ use std::alloc::{AllocError, Global};
 use support::text_lists::strings;
 use values::{Feature, Object, Text, Value, flat, flat_all};
 
-/// What the keyword `required` says of a thing that is looked up.
+/// What the keyword `required` says about something to be found.
 #[derive(Clone, Copy)]
 pub enum Requirement {
-    /// It has to be found.
+    /// It must be found.
     Required,
     /// It may be absent.
     Optional,
@@ -59,7 +59,7 @@ fn requirement_of(value: &Value) -> Option<Requirement>
     }
 }
 
-/// The value of the first argument with a name.
+/// Returns the value of the first argument with this name, and `None` if there is none.
 pub fn value_named<'a>(name: &str, named: &'a [Named]) -> Option<&'a Value>
     ensures { option_map (λ v. data_of v.now) result ≡ value_named name.now (map named_data named.now) }
 {
@@ -71,7 +71,7 @@ pub fn value_named<'a>(name: &str, named: &'a [Named]) -> Option<&'a Value>
     None
 }
 
-// The bytes of a text.
+// Returns the bytes of a text, and `None` for any other value.
 fn bytes_of(value: &Value) -> Option<&str>
     ensures { option_map (λ t. t.now) result ≡ text_in (data_of value.now) }
 {
@@ -81,7 +81,7 @@ fn bytes_of(value: &Value) -> Option<&str>
     }
 }
 
-/// The values from a place on.
+/// Returns the values from an index on, and none past the last.
 pub fn behind(values: &[Value], place: usize) -> &[Value]
     ensures { result.now ≡ drop place values.now }
 {
@@ -93,21 +93,21 @@ pub fn behind(values: &[Value], place: usize) -> &[Value]
 }
 
 impl Arguments {
-    /// The positional argument at a place.
+    /// Returns the positional argument at an index, and `None` if there is none.
     pub fn argument(&self, place: usize) -> Option<&Value>
         ensures { option_map (λ v. data_of v.now) result ≡ argument place (arguments_data self.now) }
     {
         self.positional.get(place)
     }
 
-    /// The value of a keyword.
+    /// Returns the value of a keyword, and `None` if it is absent.
     pub fn keyword(&self, name: &str) -> Option<&Value>
         ensures { option_map (λ v. data_of v.now) result ≡ keyword name.now (arguments_data self.now) }
     {
         value_named(name, &self.named)
     }
 
-    /// The text at a place.
+    /// Returns the text at an index, and `""` if there is none.
     pub fn text_at(&self, place: usize) -> &str
         ensures { result.now ≡ text_at place (arguments_data self.now) }
     {
@@ -117,7 +117,7 @@ impl Arguments {
         }
     }
 
-    /// The text at a place, or this one.
+    /// Returns the text at an index, and the default if there is none.
     pub fn text_or<'s>(&'s self, place: usize, default: &'s str) -> &'s str
         ensures { result.now ≡ text_or place default.now (arguments_data self.now) }
     {
@@ -127,7 +127,7 @@ impl Arguments {
         }
     }
 
-    /// The boolean at a place, or this one.
+    /// Returns the boolean at an index, and the default if there is none.
     pub fn flag_at(&self, place: usize, default: bool) -> bool
         ensures { result ≡ flag_at place default (arguments_data self.now) }
     {
@@ -137,7 +137,7 @@ impl Arguments {
         }
     }
 
-    /// The text of a keyword, empty where it is not given.
+    /// Returns the text of a keyword, and `""` if it is absent.
     pub fn text(&self, name: &str) -> &str
         ensures { result.now ≡ text_of name.now (arguments_data self.now) }
     {
@@ -147,7 +147,7 @@ impl Arguments {
         }
     }
 
-    /// The text of a keyword, if it is given.
+    /// Returns the text of a keyword, and `None` if it is absent.
     pub fn text_given(&self, name: &str) -> Option<&Text>
         ensures { option_map (λ t. t.now) result ≡ text_given name.now (arguments_data self.now) }
     {
@@ -157,7 +157,7 @@ impl Arguments {
         }
     }
 
-    /// The boolean of a keyword, or this one.
+    /// Returns the boolean of a keyword, and the default if it is absent.
     pub fn flag(&self, name: &str, default: bool) -> bool
         ensures { result ≡ flag name.now default (arguments_data self.now) }
     {
@@ -167,7 +167,7 @@ impl Arguments {
         }
     }
 
-    /// The integer of a keyword, or this one.
+    /// Returns the integer of a keyword, and the default if it is absent.
     pub fn integer(&self, name: &str, default: i128) -> i128
         ensures { result ≡ integer_of name.now default (arguments_data self.now) }
     {
@@ -177,7 +177,7 @@ impl Arguments {
         }
     }
 
-    /// The texts of a keyword, none where it is not given.
+    /// Returns the texts of a keyword, with lists flattened, and none if it is absent.
     pub fn texts(&self, alloc: Global, name: &str) -> Result<Vec<String>, AllocError>
         ensures { IfOk result (λ v. map string_bytes v.items ≡ texts name.now (arguments_data self.now)) }
     {
@@ -187,21 +187,21 @@ impl Arguments {
         }
     }
 
-    /// The texts that the positional arguments are.
+    /// Returns the texts in the positional arguments, with lists flattened.
     pub fn all_texts(&self, alloc: Global) -> Result<Vec<&str>, AllocError>
         ensures { IfOk result (λ v. map (λ t. t.now) v.items ≡ flat_all (map data_of self.now.positional.items)) }
     {
         flat_all(alloc, &self.positional)
     }
 
-    /// The texts that the positional arguments from a place on are.
+    /// Returns the texts in the positional arguments from an index on, with lists flattened.
     pub fn texts_behind(&self, alloc: Global, place: usize) -> Result<Vec<&str>, AllocError>
         ensures { IfOk result (λ v. map (λ t. t.now) v.items ≡ texts_from place (arguments_data self.now)) }
     {
         flat_all(alloc, behind(&self.positional, place))
     }
 
-    /// What the keyword `required` says, or this where it is not given.
+    /// Returns what the keyword `required` says, and the default if it is absent.
     pub fn requirement(&self, default: Requirement) -> Requirement
         ensures { result ≡ requirement default (arguments_data self.now) }
     {

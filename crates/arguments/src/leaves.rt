@@ -1,4 +1,4 @@
-//! What stands in lists of any depth.
+//! Reads arguments with all lists flattened.
 ghost use Rattle.std.specs.Prelude.{◌≡◌, map, IfOk};
 ghost use Rattle.values.specs.Prelude.{data_of};
 ghost use Rattle.arguments.specs.Arguments.{arguments_data};
@@ -10,7 +10,7 @@ use std::alloc::{AllocError, Global};
 use values::{Value, open_all, open_up};
 
 impl Arguments {
-    /// What a keyword gives, with all lists opened, in order; nothing where it is not given.
+    /// Returns the value of a keyword with all lists flattened, in order, and nothing if the keyword is absent.
     pub fn leaves(&self, alloc: Global, name: &str) -> Result<Vec<&Value>, AllocError>
         ensures { IfOk result (λ found. map (λ v. data_of v.now) found.items ≡ leaves_named name.now (arguments_data self.now)) }
     {
@@ -20,7 +20,7 @@ impl Arguments {
         }
     }
 
-    /// What the positional arguments from a place on hold, with all lists opened, in order.
+    /// Returns the positional arguments from an index on, with all lists flattened, in order.
     pub fn leaves_behind(&self, alloc: Global, place: usize) -> Result<Vec<&Value>, AllocError>
         ensures { IfOk result (λ found. map (λ v. data_of v.now) found.items ≡ leaves_from place (arguments_data self.now)) }
     {

@@ -1,4 +1,4 @@
-//! The evaluated arguments of a call, and the rows that say what a call takes.
+//! Defines the evaluated arguments of a call, and the rows that say what a call takes.
 #![tactic(auto)]
 
 mod arguments;

@@ -1,4 +1,4 @@
-//! What is wrong with the arguments of a call, and the words that say so.
+//! Reports what is wrong with the arguments of a call.
 ghost use Rattle.std.specs.Prelude.{◌≡◌, IfOk, string_bytes};
 ghost use Rattle.arguments.specs.Refused.{refused_data};
 ghost use Rattle.values.specs.Prelude.{data_of};
@@ -13,35 +13,35 @@ use std::alloc::{AllocError, Global};
 use support::faults::Refusal;
 use values::Value;
 
-/// What a row does not take of the arguments that it is held against.
+/// The reasons why a row does not accept arguments.
 #[derive(Clone, Copy)]
 pub enum Misfit<'a> {
-    /// A keyword that stands twice.
+    /// A keyword occurs twice.
     Twice(&'a str),
-    /// A keyword that is left out.
+    /// A keyword is not supported.
     LeftOut(&'a str),
-    /// How many positional arguments are needed, and how many are given, which are fewer.
+    /// There are fewer positional arguments than needed: the first number is needed, the second given.
     TooFew(usize, usize),
-    /// How many positional arguments are taken, where more are given.
+    /// There are more positional arguments than this number, which the call takes.
     TooMany(usize),
-    /// The positional argument at a place is not of this kind.
+    /// The positional argument at an index has another type than this kind.
     Place(usize, Kind, &'a Value),
-    /// A keyword that the call does not take.
+    /// The call does not take a keyword with this name.
     Unknown(&'a str),
-    /// The value of a keyword is not of this kind.
+    /// The value of a keyword has another type than this kind.
     Keyword(&'a str, Kind, &'a Value),
-    /// A keyword that is needed and not given.
+    /// A required keyword is missing.
     Missing(&'a str),
 }
 
-// Of a keyword this is so.
+// Returns a message about a keyword.
 fn keyword_is(alloc: Global, name: &str, words: &str) -> Result<String, AllocError>
     ensures { IfOk result (λ text. string_bytes text ≡ keyword_is name.now words.now) }
 {
     format!(in alloc; "keyword '{name}': {words}")
 }
 
-// One kind is taken, and this value was given.
+// Returns the message that one kind is taken, and another value was given.
 fn takes(alloc: Global, kind: Kind, value: &Value) -> Result<String, AllocError>
     ensures { IfOk result (λ text. string_bytes text ≡ takes kind (data_of value.now)) }
 {
@@ -93,7 +93,7 @@ impl<'a> Misfit<'a> {
         }
     }
 
-    // What it is about.
+    // Returns the message about the misfit.
     fn words(&self, alloc: Global) -> Result<String, AllocError>
         ensures { IfOk result (λ text. string_bytes text ≡ words_of (misfit_data self.now)) }
     {
@@ -109,7 +109,7 @@ impl<'a> Misfit<'a> {
         }
     }
 
-    /// What a call is refused as that has it.
+    /// Returns the refusal of the call, with the message about the misfit.
     pub fn refuse(&self, alloc: Global) -> Result<Refused, AllocError>
         ensures { IfOk result (λ refused. refused_data refused ≡ refused_as (misfit_data self.now)) }
     {

@@ -1,4 +1,4 @@
-//! Things in lists of any depth.
+//! Decides whether values may be in a list of any depth.
 ghost use Rattle.std.specs.Prelude.{◌≡◌, ◌||◌};
 ghost use Rattle.arguments.specs.Pieces.{all_pieces, are_pieces, is_built, is_command, is_configuration, is_custom, is_feature, is_file};
 ghost use Rattle.arguments.specs.Pieces.{is_target, takes_object, takes_text};
@@ -7,21 +7,21 @@ ghost use Rattle.values.specs.Prelude.{data_of, items_of};
 use crate::row::Piece;
 use values::{Object, Value};
 
-/// Whether it is a file.
+/// Returns whether an object is a file.
 pub fn is_file(object: &Object) -> bool
     ensures { result ≡ is_file object.now }
 {
     matches!(object, Object::File { .. })
 }
 
-/// Whether it is the value of a feature option.
+/// Returns whether an object is the value of a feature option.
 pub fn is_feature(object: &Object) -> bool
     ensures { result ≡ is_feature object.now }
 {
     matches!(object, Object::Feature(_))
 }
 
-/// Whether it is configuration data.
+/// Returns whether an object is configuration data.
 pub fn is_configuration(object: &Object) -> bool
     ensures { result ≡ is_configuration object.now }
 {
@@ -49,7 +49,7 @@ fn is_target(object: &Object) -> bool
     is_built(object) || is_custom(object)
 }
 
-/// Whether it is what a test can run.
+/// Returns whether a test can run an object.
 pub fn is_command(object: &Object) -> bool
     ensures { result ≡ is_command object.now }
 {
@@ -80,7 +80,7 @@ fn takes_text(piece: Piece) -> bool
     )
 }
 
-/// Whether it is such a piece, or a list of such, of any depth.
+/// Returns whether a value is such a piece, or a list of such pieces of any depth.
 #[cycle(pieces)]
 pub fn are_pieces(piece: Piece, value: &Value) -> bool
     ensures { result ≡ are_pieces piece (data_of value.now) }

@@ -1,4 +1,4 @@
-//! Whether the arguments of a call are what its row says.
+//! Checks whether the arguments of a call fit its row.
 ghost use Rattle.std.specs.Prelude.{◌≡◌, ◌&&◌, ◌||◌, ◌++◌, ◌∷◌, [], IfOk, IsTrue, bytes_eq, false, not};
 ghost use Rattle.std.specs.Prelude.{flat_map, map, option_map, string_bytes};
 ghost use Rattle.std.specs.List.{list_any};
@@ -23,7 +23,7 @@ use support::tables::{SipSet, new_set};
 use support::text_lists::is_among;
 use values::{Value, is_texts};
 
-// A text, an integer or a boolean.
+// Returns whether a value is a text, an integer or a boolean.
 fn is_setting(value: &Value) -> bool
     ensures { result ≡ is_of Kind.Setting (data_of value.now) }
 {
@@ -57,7 +57,7 @@ fn is_of(kind: Kind, value: &Value) -> bool
     }
 }
 
-// What the positional argument at a place has to be.
+// Returns the kind of the positional argument at an index, and `None` if the row takes none there.
 fn kind_at(row: &Row, place: usize) -> Option<Kind>
     ensures { result ≡ kind_at (row_data row.now) place }
 {
@@ -77,7 +77,7 @@ fn at_place(place: usize, kind: Option<Kind>, value: &Value) -> Option<Misfit<'_
     }
 }
 
-// The first positional argument that is not what the row says.
+// Returns the first positional argument that does not fit the row.
 fn find_misplaced<'a>(row: &Row, values: &'a [Value]) -> Option<Misfit<'a>>
     ensures { option_map misfit_data result ≡ misplaced (row_data row.now) 0 (map data_of values.now) }
 {
@@ -113,7 +113,7 @@ fn of_keyword<'a>(name: &'a str, kind: Option<Kind>, value: &'a Value) -> Option
     }
 }
 
-// The first keyword that is not what the row says.
+// Returns the first keyword that does not fit the row.
 fn find_misnamed<'a>(lists: &[&[Keyword]], named: &'a [Named]) -> Option<Misfit<'a>>
     ensures { option_map misfit_data result
         ≡ misnamed (flat_map (λ ks. map keyword_data ks.now) lists.now) (map named_data named.now) }
@@ -128,7 +128,7 @@ fn find_misnamed<'a>(lists: &[&[Keyword]], named: &'a [Named]) -> Option<Misfit<
     None
 }
 
-// The first keyword that is needed and not given.
+// Returns the first required keyword that is missing.
 fn missing<'a>(lists: &[&[Keyword]], named: &[Named]) -> Option<Misfit<'a>>
     ensures { option_map misfit_data result
         ≡ missing (flat_map (λ ks. map keyword_data ks.now) lists.now) (map named_data named.now) }
@@ -143,7 +143,7 @@ fn missing<'a>(lists: &[&[Keyword]], named: &[Named]) -> Option<Misfit<'a>>
     None
 }
 
-// Puts a name behind the others; false where it stands among them.
+// Appends a name, and returns false if it is already among the names.
 fn put_new(names: &mut SipSet<String>, name: String) -> Result<bool, AllocError>
     ensures tested { IfOk result (λ new. new ≡ not (list_any (bytes_eq (string_bytes name)) (map string_bytes names.old.keys))) }
     ensures added { IfOk result (λ new. IsTrue new
@@ -153,7 +153,7 @@ fn put_new(names: &mut SipSet<String>, name: String) -> Result<bool, AllocError>
     Ok(new)
 }
 
-// Whether a name stands among these; else it is put behind them.
+// Returns whether a name is already among these, and appends it otherwise.
 fn comes_again(alloc: Global, names: &mut SipSet<String>, name: &str) -> Result<bool, AllocError>
     ensures tested { IfOk result (λ again. again ≡ list_any (bytes_eq name.now) (map string_bytes names.old.keys)) }
     ensures added { IfOk result (λ again. again ≡ false
@@ -164,7 +164,7 @@ fn comes_again(alloc: Global, names: &mut SipSet<String>, name: &str) -> Result<
     Ok(!new)
 }
 
-// So many keywords are held against one another; of more, each is looked up.
+// Up to this many keywords are compared with each other. If there are more, each is looked up.
 const FEW: usize = 8;
 
 fn is_named(name: &str, named: &[Named]) -> bool
@@ -173,7 +173,7 @@ fn is_named(name: &str, named: &[Named]) -> bool
     named.iter().any(|one| name == one.name.as_str())
 }
 
-// The first keyword that stands twice: each is held against those before it.
+// Returns the first keyword that occurs twice. Each is compared with those before it.
 fn twice_in_few<'a>(named: &'a [Named]) -> Option<Misfit<'a>>
     ensures { option_map misfit_data result ≡ twice (map named_data named.now) }
 {
@@ -185,7 +185,7 @@ fn twice_in_few<'a>(named: &'a [Named]) -> Option<Misfit<'a>>
     None
 }
 
-// The same by a set.
+// Returns the first keyword that occurs twice, by a set.
 fn twice_in_many<'a>(alloc: Global, named: &'a [Named]) -> Result<Option<Misfit<'a>>, AllocError>
     ensures { IfOk result (λ found. option_map misfit_data found ≡ twice (map named_data named.now)) }
 {
@@ -198,7 +198,7 @@ fn twice_in_many<'a>(alloc: Global, named: &'a [Named]) -> Result<Option<Misfit<
     Ok(None)
 }
 
-// The first keyword that stands twice.
+// Returns the first keyword that occurs twice.
 fn twice<'a>(alloc: Global, named: &'a [Named]) -> Result<Option<Misfit<'a>>, AllocError>
     ensures { IfOk result (λ found. option_map misfit_data found ≡ twice (map named_data named.now)) }
 {
@@ -209,14 +209,14 @@ fn twice<'a>(alloc: Global, named: &'a [Named]) -> Result<Option<Misfit<'a>>, Al
     }
 }
 
-// Whether no call takes a keyword of this name.
+// Returns whether no call supports a keyword with this name.
 fn is_common_left_out(name: &str) -> bool
     ensures { result ≡ is_among common_left_out name.now }
 {
     is_among(&["kwargs", "fallback", "deprecated"], name)
 }
 
-// The first keyword that is left out.
+// Returns the first keyword that is not supported.
 fn find_left_out<'a>(names: &[&str], named: &'a [Named]) -> Option<Misfit<'a>>
     ensures { option_map misfit_data result ≡ left_out (map (λ n. n.now) names.now) (map named_data named.now) }
 {
@@ -239,7 +239,7 @@ fn too_few<'a>(needed: usize, given: usize) -> Option<Misfit<'a>>
     }
 }
 
-// What does not fit, keywords that stand twice aside.
+// Returns the first misfit apart from repeated keywords.
 fn unfit<'a>(row: &Row, arguments: &'a Arguments) -> Option<Misfit<'a>>
     ensures { option_map misfit_data result ≡ unfit (row_data row.now) (arguments_data arguments.now) }
 {
@@ -271,9 +271,10 @@ fn misfit<'a>(
     Ok(unfit(row, arguments))
 }
 
-/// Checks the arguments against the row of the call: E11 for a keyword twice, else E23 for one that is left out, else E9 for a
-/// wrong count or type, a keyword that the call does not take, or one that it needs; and what of the arguments that is. The time is
-/// linear in their number.
+/// Checks the arguments by the row of the call, in time linear in their number.
+///
+/// Refuses a repeated keyword with E11, and otherwise an unsupported one with E23. Otherwise refuses with E9 a wrong count or type, a
+/// keyword that the call does not take, or the lack of one that it requires. The detail describes the bad argument.
 pub fn check(
     alloc: Global,
     row: &Row,

@@ -1,12 +1,12 @@
-//! What a test of arguments refuses.
+//! Defines refusals of arguments.
 use support::faults::Refusal;
 use thiserror::Error;
 
-/// What is refused, and what that is about.
+/// A refusal of arguments, with its detail.
 #[derive(Debug, Drop, Error)]
 #[error("{refusal}{}{detail}", if .detail.is_empty() {""} else {": "})]
 pub struct Refused {
     pub refusal: Refusal,
-    /// What the refusal is about, in words.
+    /// What is wrong, as a message.
     pub detail: String,
 }

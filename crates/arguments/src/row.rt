@@ -1,9 +1,9 @@
-//! What a call takes.
+//! Defines rows: the arguments that a call takes.
 ghost use Rattle.std.specs.Prelude.{◌≡◌, flat_map, map};
 ghost use Rattle.arguments.specs.Row.{leaving_out, row, with_others};
 ghost use Rattle.arguments.specs.RowView.{keyword_data, row_data};
 
-/// What an argument has to be.
+/// What an argument must be.
 #[derive(Clone, Copy)]
 pub enum Kind {
     Any,
@@ -11,58 +11,58 @@ pub enum Kind {
     Integer,
     Text,
     IntegerOrText,
-    /// A text, an integer or a boolean, which configuration data can hold.
+    /// A text, an integer or a boolean, which configuration data can contain.
     Setting,
     /// A feature or a boolean: the keyword `required`.
     Requirement,
-    /// A text, or a list of such, of any depth.
+    /// A text, or a list of texts of any depth.
     Texts,
     Dictionary,
-    /// A dictionary; or a text, or a list of such, of any depth.
+    /// A dictionary, a text, or a list of texts of any depth.
     TextsOrDictionary,
     ConfigurationData,
     /// Configuration data or a dictionary.
     Configuration,
     /// A file.
     File,
-    /// What a test can run: a program, a target, an output of one or a file.
+    /// Something that a test can run: a program, a target, an output of one or a file.
     Command,
-    /// One of these, or a list of such, of any depth.
+    /// One of these, or a list of them of any depth.
     Flat(Piece),
 }
 
-/// What stands in a list that may be of any depth.
+/// What may be in a list of any depth.
 #[derive(Clone, Copy)]
 pub enum Piece {
     /// A text or a file.
     Path,
     /// A text, a file, a custom target or an output of one.
     Source,
-    /// A text or what `include_directories` gives.
+    /// A text or an object of `include_directories`.
     Folder,
     /// An executable or a library.
     BuildTarget,
-    /// What `dependency` or `declare_dependency` gives.
+    /// An object of `dependency` or `declare_dependency`.
     Dependency,
-    /// A target, or an output of a custom one.
+    /// A target, or an output of a custom target.
     Target,
-    /// A text, a file, a target or an output of a custom one.
+    /// A text, a file, a target or an output of a custom target.
     Word,
-    /// The same, or a program.
+    /// A text, a file, a target, an output of a custom target or a program.
     CommandWord,
 }
 
-/// A keyword that a call takes: its name, and what its value has to be.
+/// A keyword that a call takes: its name, and what its value must be.
 #[derive(Clone, Copy)]
 pub enum Keyword {
-    /// It may be given.
+    /// A keyword that is optional.
     Optional(&'static str, Kind),
-    /// It has to be given.
+    /// A keyword that is required.
     Needed(&'static str, Kind),
 }
 
 impl Keyword {
-    /// Its name.
+    /// Returns the name.
     pub fn name(self) -> &'static str
         ensures { result.now ≡ (keyword_data self).name }
     {
@@ -71,7 +71,7 @@ impl Keyword {
         }
     }
 
-    /// What its value has to be.
+    /// Returns what the value must be.
     pub fn kind(self) -> Kind
         ensures { result ≡ (keyword_data self).kind }
     {
@@ -80,7 +80,7 @@ impl Keyword {
         }
     }
 
-    /// Whether it has to be given.
+    /// Returns whether the keyword is required.
     pub fn is_needed(self) -> bool
         ensures { result ≡ (keyword_data self).is_needed }
     {
@@ -88,23 +88,23 @@ impl Keyword {
     }
 }
 
-/// What a call takes: a line of the page "Reference manual".
+/// The arguments that a call takes, as in an entry of the page "Reference manual".
 #[derive(Clone, Copy)]
 pub struct Row {
-    /// The positional arguments.
+    /// The kinds of the positional arguments.
     pub positional: &'static [Kind],
     /// How many of them are needed.
     pub needed: usize,
-    /// What those behind them are, if there may be more.
+    /// The kind of further positional arguments, if there may be any.
     pub others: Option<Kind>,
-    /// The keywords: all that stand in one of these lists.
+    /// The keywords, in several lists.
     pub keywords: &'static [&'static [Keyword]],
-    /// The keywords that are left out, besides those that no call takes.
+    /// The keywords that are not supported, besides those that no call supports.
     pub left_out: &'static [&'static str],
 }
 
 impl Row {
-    /// These positional arguments, of which the first so many are needed, and the keywords of these lists.
+    /// Returns a row with these positional arguments, of which the first `needed` are needed, and the keywords of these lists.
     pub fn of(
         positional: &'static [Kind],
         needed: usize,
@@ -121,7 +121,7 @@ impl Row {
         }
     }
 
-    /// The same, with any number of others behind the positional arguments.
+    /// Returns a row that also takes any number of further arguments after the positional ones.
     pub fn with_others(self, kind: Kind) -> Row
         ensures { row_data result ≡ with_others kind (row_data self) }
     {
@@ -131,7 +131,7 @@ impl Row {
         }
     }
 
-    /// The same, with these keywords left out besides those that no call takes.
+    /// Returns a row in which these keywords are not supported, besides those that no call supports.
     pub fn leaving_out(self, names: &'static [&'static str]) -> Row
         ensures { row_data result ≡ leaving_out (map (λ n. n.now) names.now) (row_data self) }
     {

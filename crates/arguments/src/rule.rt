@@ -1,4 +1,4 @@
-//! What a call asks of its arguments beside its row, and the words that say what breaks it.
+//! Defines rules for arguments that no row expresses, and the messages about what breaks them.
 ghost use Rattle.std.specs.Prelude.{◌≡◌, IfOk, string_bytes};
 ghost use Rattle.arguments.specs.Refused.{breaks, refused_data};
 ghost use Rattle.arguments.specs.Rules.{broken, told_of};
@@ -7,79 +7,79 @@ use crate::refused::Refused;
 use std::alloc::{AllocError, Global};
 use support::faults::Refusal;
 
-/// A rule that a text or the value of a keyword breaks.
+/// A rule that a text or the value of a keyword may break.
 #[derive(Clone, Copy)]
 pub enum Rule {
-    /// A text names a file of the tree.
+    /// A text names a file in the source directory.
     NamesFile,
-    /// A text names a folder of the tree.
+    /// A text names a directory in the source directory.
     NamesFolder,
-    /// A target may have the name.
+    /// A name is valid for a target.
     IsTargetName,
-    /// A file may have the name.
+    /// A name is valid for a file.
     IsFileName,
-    /// A file is a source of C or a header.
+    /// A file is a C source or a header.
     IsSource,
-    /// The target of the name has a source of C.
+    /// The target with this name has a C source.
     HasSource,
-    /// A library may have the version.
+    /// A text is a valid version of a library.
     IsLibraryVersion,
-    /// A page of a manual may have the name.
+    /// A name is valid for a man page.
     IsManPage,
-    /// The definitions may set the variable.
+    /// Build files may assign the variable.
     IsSettable,
-    /// A variable may have the name.
+    /// A name is valid for a variable.
     IsVariableName,
-    /// The program was found whose path the method of this name gives.
+    /// The program was found whose path the method with this name returns.
     HasProgram,
-    /// The target has one output alone whose path the method of this name gives.
+    /// The target has exactly one output, whose path the method with this name returns.
     HasOneOutput,
     /// A language has a compiler.
     HasCompiler,
-    /// The function of this name goes up, from a start that is not negative.
+    /// The range goes up, from a start that is not negative.
     GoesUp,
-    /// Configuration data may have the name.
+    /// A name is valid for configuration data.
     IsValueName,
-    /// The name has a value that configuration data can hold.
+    /// The name has a value that configuration data can contain.
     IsSetting,
-    /// A text is a name and a value behind `=`.
+    /// A text is a name and a value with `=` between them.
     IsAssignment,
-    /// A keyword takes libraries alone.
+    /// A keyword takes only libraries.
     TakesLibraries,
-    /// A keyword takes the language C alone.
+    /// A keyword takes only the language C.
     TakesC,
     /// A keyword takes at least one item.
     HasItems,
-    /// A keyword takes one output alone.
+    /// A keyword takes exactly one output.
     TakesOneOutput,
-    /// A keyword has to be given.
+    /// A keyword is required.
     IsNeeded,
-    /// A keyword takes one file alone.
+    /// A keyword takes exactly one file.
     TakesOneFile,
-    /// A keyword takes a file of the tree, and none that is built.
+    /// A keyword takes a file in the source directory, and no built file.
     TakesTreeFile,
-    /// Each placeholder of a keyword stands for something, and each program in it was found.
+    /// Each placeholder of a keyword has a value, and each program in it was found.
     HasMeaning,
     /// The value of a name is a text.
     TakesText,
-    /// The test of the name has a program that was found.
+    /// The test with this name runs a program that was found.
     RunsProgram,
-    /// The test of the name runs no library.
+    /// The test with this name runs no library.
     RunsNoLibrary,
     /// The value of a name can be printed.
     IsPrinted,
     /// The language is C.
     IsC,
-    /// There is an option of the name.
+    /// There is an option with this name.
     IsOption,
     /// A text names a folder below the present one.
     IsBelow,
-    /// The folder was not entered.
+    /// The folder was not entered before.
     IsNew,
 }
 
 impl Rule {
-    // What the text is the name of, where that is told.
+    // Returns what the text names, and `""` if the message does not say so.
     fn thing(self) -> &'static str
         ensures { result.now ≡ (told_of self).0 }
     {
@@ -99,7 +99,7 @@ impl Rule {
         }
     }
 
-    // What is said of it.
+    // Returns what the message says about the text.
     fn words(self) -> &'static str
         ensures { result.now ≡ (told_of self).1 }
     {
@@ -140,7 +140,7 @@ impl Rule {
         }
     }
 
-    /// That this text breaks the rule, or the keyword of this name: `'../a.c': names no file of the project`.
+    /// Returns the message that this text, or the keyword with this name, breaks the rule, as in `'../a.c': names no file of the project`.
     pub fn tell_breach(self, alloc: Global, text: &str) -> Result<String, AllocError>
         ensures { IfOk result (λ words. string_bytes words ≡ broken self text.now) }
     {
@@ -148,7 +148,7 @@ impl Rule {
         format!(in alloc; "{thing}'{text}': {words}")
     }
 
-    /// The refusal of arguments of which this text breaks the rule, or the keyword of this name.
+    /// Returns the refusal of arguments (E9) in which this text, or the keyword with this name, breaks the rule.
     pub fn refuse(self, alloc: Global, text: &str) -> Result<Refused, AllocError>
         ensures { IfOk result (λ refused. refused_data refused ≡ breaks self text.now) }
     {

@@ -1,4 +1,4 @@
-//! Kinds and values in words.
+//! Describes kinds and values in words.
 ghost use Rattle.std.specs.Prelude.{◌≡◌, IfOk, map, string_bytes};
 ghost use Rattle.arguments.specs.Words.{kind_words, object_words, pair_words, piece_words, value_words, values_words};
 ghost use Rattle.values.specs.Prelude.{data_of};
@@ -23,7 +23,7 @@ fn piece_words(piece: Piece) -> &'static str
     }
 }
 
-/// What an argument has to be.
+/// Describes what an argument must be.
 pub fn kind_words(kind: Kind) -> &'static str
     ensures { result.now ≡ kind_words kind }
 {
@@ -66,7 +66,7 @@ fn object_words(object: &Object) -> &'static str
     }
 }
 
-/// What a value is.
+/// Describes a value.
 pub fn value_words(value: &Value) -> &'static str
     ensures { result.now ≡ value_words (data_of value.now) }
 {
@@ -80,7 +80,7 @@ pub fn value_words(value: &Value) -> &'static str
     }
 }
 
-// What two values are.
+// Describes two values.
 fn pair_words(alloc: Global, first: &Value, second: &Value) -> Result<String, AllocError>
     ensures { IfOk result (λ text. string_bytes text ≡ pair_words (data_of first.now) (data_of second.now)) }
 {
@@ -88,7 +88,7 @@ fn pair_words(alloc: Global, first: &Value, second: &Value) -> Result<String, Al
     format!(in alloc; "{first} and {second}")
 }
 
-/// What the arguments of a call are: one or two by what they are, and more by their number.
+/// Describes the arguments of a call: one or two by their values, more by their number.
 pub fn values_words(alloc: Global, values: &[Value]) -> Result<String, AllocError>
     ensures { IfOk result (λ text. string_bytes text ≡ values_words (map data_of values.now)) }
 {

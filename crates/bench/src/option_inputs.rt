@@ -1,8 +1,8 @@
-//! Files and words of so many items.
+//! Makes files and words of so many items.
 
 use std::alloc::{AllocError, Global};
 
-/// An option file of so many options.
+/// Returns an option file of so many options.
 pub fn option_file(alloc: Global, count: usize) -> Result<String, AllocError> {
     let mut text = String::new(alloc);
     for i in 0..count {
@@ -12,7 +12,7 @@ pub fn option_file(alloc: Global, count: usize) -> Result<String, AllocError> {
     Ok(text)
 }
 
-/// A machine file that gives so many options values.
+/// Returns a machine file that gives so many options values.
 pub fn keys(alloc: Global, count: usize) -> Result<String, AllocError> {
     let mut text = String::from_str(alloc, "[project options]\n")?;
     for i in 0..count {
@@ -22,7 +22,7 @@ pub fn keys(alloc: Global, count: usize) -> Result<String, AllocError> {
     Ok(text)
 }
 
-/// A machine file with so many dependencies.
+/// Returns a machine file with so many dependencies.
 pub fn sections(alloc: Global, count: usize) -> Result<String, AllocError> {
     let mut text = String::new(alloc);
     for i in 0..count {
@@ -32,7 +32,7 @@ pub fn sections(alloc: Global, count: usize) -> Result<String, AllocError> {
     Ok(text)
 }
 
-/// So many words of a command line, each for an option of its own.
+/// Returns so many words of a command line, each for an option of its own.
 pub fn words(alloc: Global, count: usize) -> Result<Vec<String>, AllocError> {
     let mut all = Vec::new(alloc);
     for i in 0..count {
@@ -41,7 +41,7 @@ pub fn words(alloc: Global, count: usize) -> Result<Vec<String>, AllocError> {
     Ok(all)
 }
 
-/// The names of so many things.
+/// Returns the names of so many things.
 pub fn names(alloc: Global, kind: &str, count: usize) -> Result<Vec<String>, AllocError> {
     let mut all = Vec::new(alloc);
     for i in 0..count {
@@ -50,7 +50,7 @@ pub fn names(alloc: Global, kind: &str, count: usize) -> Result<Vec<String>, All
     Ok(all)
 }
 
-/// An option file of one array with so many choices.
+/// Returns an option file of one array with so many choices.
 pub fn array_of_choices(alloc: Global, count: usize) -> Result<String, AllocError> {
     let mut text = String::from_str(
         alloc,
@@ -63,7 +63,7 @@ pub fn array_of_choices(alloc: Global, count: usize) -> Result<String, AllocErro
     Ok(text)
 }
 
-/// The word of a command line that gives this array all of them.
+/// Returns the word of a command line that gives this array all of its choices.
 pub fn all_choices(alloc: Global, count: usize) -> Result<String, AllocError> {
     let mut text = String::from_str(alloc, "array=choice0")?;
     for i in 1..count {

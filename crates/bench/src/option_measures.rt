@@ -1,10 +1,14 @@
-//! Calls on options and on machine files, of so many items, timed without what is made for them.
+//! Times calls on options and on machine files of so many items, without the time that making these takes. The measures are:
 //!
-//! The measures are `declare` (an option file of so many options), `words` (so many options resolved with as many words),
-//! `places` (the same with as many texts of `default_options` and keys of a machine file too), `choices` (one option of so many
-//! choices, declared, and given as many items by a word), `get` (each option looked up by its
-//! name), `at` (each looked up by its place, 100 times over, since one walk is too short to time), `sections` (a machine file with
-//! so many dependencies), `keys` (one with so many keys in a section) and `answers` (a key of each dependency looked up).
+//! - `declare`: an option file of so many options.
+//! - `words`: so many options resolved with as many words.
+//! - `places`: the same, with as many texts of `default_options` and keys of a machine file too.
+//! - `choices`: one option of so many choices, declared, and given as many items by a word.
+//! - `get`: each option looked up by its name.
+//! - `at`: each option looked up by its index, 100 times over, since one walk is too short to time.
+//! - `sections`: a machine file with so many dependencies.
+//! - `keys`: a machine file with so many keys in a section.
+//! - `answers`: a key of each dependency looked up.
 
 use crate::measured::{Measured, count_of};
 use crate::option_inputs::{
@@ -39,7 +43,7 @@ pub fn measure(rt: &HostRuntime, measure: &str, of: &str) -> Result<Measured, St
     }
 }
 
-// What the statements of an option file declare, where none is refused.
+// Returns what the statements of an option file declare, none of which may be refused.
 fn declare_all(alloc: Global, file: &File<'_>) -> Result<Declared, Stop> {
     match declare(alloc, file)? {
         Ok(declared) => Ok(declared),
@@ -47,7 +51,7 @@ fn declare_all(alloc: Global, file: &File<'_>) -> Result<Declared, Stop> {
     }
 }
 
-// So many options, declared.
+// Returns so many options, declared.
 fn options_declared(alloc: Global, count: usize) -> Result<Declared, Stop> {
     let source = option_file(alloc, count)?;
     let file = tree(alloc, source.as_str())?;
@@ -61,7 +65,7 @@ fn machine_of(alloc: Global, text: &str) -> Result<Machine, Stop> {
     }
 }
 
-// The options with their values, where none is refused.
+// Returns the options with their values, none of which may be refused.
 fn options_of(resolved: Resolved) -> Result<Options, Stop> {
     let Resolved { outcome, .. } = resolved;
     match outcome {
@@ -70,7 +74,7 @@ fn options_of(resolved: Resolved) -> Result<Options, Stop> {
     }
 }
 
-// So many options, each with its default.
+// Returns so many options, each with its default.
 fn options_resolved(alloc: Global, count: usize) -> Result<Options, Stop> {
     let declared = options_declared(alloc, count)?;
     let machine = Machine::empty(alloc);
@@ -86,7 +90,7 @@ fn measure_declare(rt: &HostRuntime, count: usize) -> Result<Measured, Stop> {
     Measured::since(rt, start, declared.len())
 }
 
-// Options resolved with these texts of `default_options`, this machine file and these words.
+// Resolves options with these texts of `default_options`, this machine file and these words.
 fn measure_resolve(
     rt: &HostRuntime,
     declared: &Declared,
@@ -119,7 +123,7 @@ fn measure_places(rt: &HostRuntime, count: usize) -> Result<Measured, Stop> {
     measure_resolve(rt, &declared, &defaults, &machine, &words)
 }
 
-// How many items the option of this name has.
+// Returns how many items the option of this name has.
 fn item_count(options: &Options, name: &str) -> usize {
     match options.get(name) {
         Some(OptionValue::Array(items)) => items.len(),
@@ -154,7 +158,7 @@ fn measure_get(rt: &HostRuntime, count: usize) -> Result<Measured, Stop> {
     Measured::since(rt, start, found)
 }
 
-// Whether there is an option at this place, with a name.
+// Returns whether there is an option at this index, with a name.
 fn has_name(options: &Options, i: usize) -> bool {
     match options.at(i) {
         Some((name, _)) => !name.is_empty(),
@@ -162,8 +166,8 @@ fn has_name(options: &Options, i: usize) -> bool {
     }
 }
 
-// `found`, and how many more of the first `count` places have an option with a name. A walk needs the answer of the one before, so that
-// no compiler makes one of several.
+// Returns `found`, plus how many of the first `count` indices have an option with a name. A walk needs the answer of the one before, so
+// that no compiler joins several walks.
 fn walk(options: &Options, count: usize, found: usize) -> usize {
     let mut found = found;
     for i in 0..count {
@@ -184,7 +188,7 @@ fn measure_at(rt: &HostRuntime, count: usize) -> Result<Measured, Stop> {
     Measured::since(rt, start, found)
 }
 
-// How many keys all sections have together.
+// Returns how many keys all sections have together.
 fn key_count(machine: &Machine) -> usize {
     let mut made: usize = 0;
     for i in 0..machine.len() {

@@ -1,9 +1,9 @@
-//! Why the program ends.
+//! Defines why the program ends.
 
 use std::alloc::{AllocError, AllocFailed};
 use std::io;
 
-/// Why the program ends before its last measure, in the words that are shown.
+/// Says why the program ends before its last measure, in the words that are shown.
 #[derive(Clone, Copy, Debug)]
 pub struct Stop(pub &'static str);
 

@@ -1,4 +1,4 @@
-//! A definition file parsed.
+//! Times the parsing of a definition file.
 
 use crate::measured::Measured;
 use crate::stop::Stop;
@@ -9,7 +9,7 @@ use syntax::fault::SyntaxError;
 use syntax::parse;
 use syntax::tree::File;
 
-/// The tree of a source that parses.
+/// Returns the tree of a source that parses.
 pub fn tree(alloc: Global, source: &str) -> Result<File<'_>, Stop> {
     match parse(alloc, source) {
         Ok(file) => Ok(file),
@@ -18,7 +18,7 @@ pub fn tree(alloc: Global, source: &str) -> Result<File<'_>, Stop> {
     }
 }
 
-/// How many statements this file has, by the one measure `statements`.
+/// Parses this file, and returns how many statements it has. The only measure is `statements`.
 pub fn measure(rt: &HostRuntime, measure: &str, file: &str) -> Result<Measured, Stop> {
     if measure != "statements" {
         return Err(Stop("the measure of syntax is statements"));

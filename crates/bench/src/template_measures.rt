@@ -1,4 +1,4 @@
-//! A template written.
+//! Times the writing of a template.
 
 ghost use Rattle.std.specs.Prelude.{◌≡◌, length, IfOk};
 
@@ -27,14 +27,14 @@ impl From<PassStop> for Stop {
     }
 }
 
-// So many bytes, each 0.
+// Returns so many bytes, each 0.
 fn zeros(alloc: Global, count: usize) -> Result<Vec<u8>, AllocError>
     ensures { IfOk result (λ zeros. length zeros.items ≡ count) }
 {
     vec![in alloc; 0u8; count]
 }
 
-// The data of these words, each a name, `=` and its text, with commas between them.
+// Returns the data of these words, each a name, `=` and its text, with commas between them.
 fn read_settings(alloc: Global, settings: &str) -> Result<ConfigData, SetStop> {
     let mut config = ConfigData::new(alloc);
     for word in settings.split(',') {
@@ -45,7 +45,7 @@ fn read_settings(alloc: Global, settings: &str) -> Result<ConfigData, SetStop> {
     Ok(config)
 }
 
-/// Writes one template of the folder, whose names stand for the texts of these settings.
+/// Writes one template of the folder, with the texts of these settings for its names.
 pub fn measure(rt: &HostRuntime, template: &str, settings: &str) -> Result<Measured, Stop> {
     let alloc = rt.alloc();
     let config = read_settings(alloc, settings)?;

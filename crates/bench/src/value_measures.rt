@@ -1,9 +1,14 @@
-//! So many operations of one kind on values.
+//! Times so many operations of one kind on values. The measures are:
 //!
-//! The measures are `append` (items put at the end of a list that is not shared), `characters` (characters put at the end of
-//! a text that is not shared), `double` (a text put after itself up to so many bytes), `entries` (entries put into a dictionary
-//! that is not shared), `replaced` (the same, and each replaced), `lookups` (the same, and each looked up), `format` (a text
-//! with so many places), `unused` (the same, with a long text that no place names) and `join` (so many texts).
+//! - `append`: items appended to a list that is not shared.
+//! - `characters`: characters appended to a text that is not shared.
+//! - `double`: a text appended to itself up to so many bytes.
+//! - `entries`: entries added to a dictionary that is not shared.
+//! - `replaced`: the same, and each replaced.
+//! - `lookups`: the same, and each looked up.
+//! - `format`: a text with so many places.
+//! - `unused`: the same, with a long text that no place names.
+//! - `join`: so many texts.
 
 use crate::measured::{Measured, count_of};
 use crate::stop::Stop;
@@ -22,7 +27,7 @@ pub fn measure(rt: &HostRuntime, measure: &str, of: &str) -> Result<Measured, St
     Measured::since(rt, start, made)
 }
 
-// The size of what so many operations make.
+// Returns the size of what so many operations make.
 fn make(alloc: Global, measure: &str, count: usize) -> Result<usize, Stop> {
     match measure {
         "append" => append(alloc, count),
@@ -38,7 +43,7 @@ fn make(alloc: Global, measure: &str, count: usize) -> Result<usize, Stop> {
     }
 }
 
-// The value of an operation that is not refused.
+// Returns the value of an operation that is not refused.
 fn accept<E: Drop>(answer: Result<Value, E>) -> Result<Value, Stop> {
     match answer {
         Ok(value) => Ok(value),
@@ -46,7 +51,7 @@ fn accept<E: Drop>(answer: Result<Value, E>) -> Result<Value, Stop> {
     }
 }
 
-// What the method with a name gives.
+// Returns what the method with a name gives.
 fn call(alloc: Global, receiver: &Value, name: &str, values: &[Value]) -> Result<Value, Stop> {
     let Ok(name) = Text::of_str(alloc, name)? else {
         return Err(Stop("the name of a method is too long"));
@@ -59,7 +64,7 @@ fn text(alloc: Global, string: String) -> Result<Value, Stop> {
     accept(Value::of_string(alloc, string)?)
 }
 
-// How many items a list has, entries a dictionary or bytes a text.
+// Returns how many items a list has, entries a dictionary or bytes a text.
 fn size(value: &Value) -> usize {
     match value {
         Value::List(list) => list.len(),
@@ -105,7 +110,7 @@ fn empty_table(alloc: Global) -> Result<Value, Stop> {
     accept(dictionary(alloc, Vec::new(alloc))?)
 }
 
-// A dictionary with so many entries put in one by one.
+// Returns a dictionary to which so many entries were added one by one.
 fn put_each(alloc: Global, table: Value, count: usize) -> Result<Value, Stop> {
     let mut table = table;
     for i in 0..count {
@@ -133,7 +138,7 @@ fn lookups(alloc: Global, count: usize) -> Result<usize, Stop> {
     Ok(size(&table))
 }
 
-// One piece again and again.
+// Returns one piece, repeated.
 fn repeat(alloc: Global, piece: &str, count: usize) -> Result<String, Stop> {
     let mut text = String::new(alloc);
     for _ in 0..count {

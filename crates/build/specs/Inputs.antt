@@ -1,4 +1,4 @@
--- Inputs without where they lie in memory.
+-- Defines inputs, without their place in memory.
 use Rattle.std.specs.Prelude.{string_bytes}
 use Rattle.build.specs.Sources.{InputData}
 use Rattle.build.specs.declared.sources.Input.{Input}

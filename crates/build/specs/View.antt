@@ -1,4 +1,4 @@
--- Facts and targets without where they lie in memory.
+-- Defines facts and targets, without their place in memory.
 use Rattle.std.specs.Prelude.{map, string_bytes, option_map}
 use Rattle.build.specs.edge.Texts.{texts}
 use Rattle.build.specs.Data as plain

@@ -1,4 +1,4 @@
-//! Edges of `build.ninja`: what they are, where their paths lie, and what Ninja's text can hold of them.
+//! Defines edges of `build.ninja`, their paths, and which of them Ninja's text can hold.
 
 mod edge;
 mod folders;

@@ -1,12 +1,12 @@
-/// What edges take from the options.
+/// Holds what edges take from the options.
 pub struct Flags {
     /// `warning_level`, 0 to 3.
     pub warning_level: usize,
     /// `werror`.
     pub is_werror: bool,
-    /// `c_std`, `none` where no standard is asked for.
+    /// `c_std`: `none` if no standard is asked for.
     pub c_std: String,
-    /// `optimization`, `plain` where no word says it.
+    /// `optimization`: `plain` if no argument sets it.
     pub optimization: String,
     /// `debug`.
     pub is_debug: bool,
@@ -28,7 +28,7 @@ impl Drop for Flags {
     }
 }
 
-/// The type of an option (the manual's page "Build options").
+/// Lists the types of options (Meson manual, page "Build options").
 #[derive(Clone, Copy)]
 pub enum OptionType {
     String,
@@ -39,7 +39,7 @@ pub enum OptionType {
     Feature,
 }
 
-/// The value of an option.
+/// Holds the value of an option.
 #[derive(Drop)]
 pub enum OptionValue {
     Text(String),
@@ -48,7 +48,7 @@ pub enum OptionValue {
     Texts(Vec<String>),
 }
 
-/// An option as it is listed.
+/// Holds an option as it is listed.
 #[derive(Drop)]
 pub struct OptionEntry {
     pub name: String,
@@ -56,23 +56,23 @@ pub struct OptionEntry {
     pub value: OptionValue,
 }
 
-/// What `project`, the options and the machine file say of a project.
+/// Holds what `project`, the options and the machine file say of a project.
 pub struct Facts {
     pub name: String,
     pub version: String,
     pub license: Vec<String>,
-    /// How many folders the build folder lies below the source root, at least one.
+    /// How many folders the build directory is below the source root, at least one.
     pub depth: usize,
     /// An absolute path.
     pub source_root: String,
     /// An absolute path.
     pub build_root: String,
-    /// The words of the compiler.
+    /// The words of the compiler's command.
     pub compiler: Vec<String>,
-    /// The words of the archiver.
+    /// The words of the archiver's command.
     pub archiver: Vec<String>,
     pub flags: Flags,
-    /// Every option: built in as listed, then declared.
+    /// Every option: the built-in ones in the order of their list, then the declared ones.
     pub options: Vec<OptionEntry>,
 }
 
@@ -93,7 +93,7 @@ impl Drop for Facts {
     }
 }
 
-/// What edges take from the project: its facts, and the words of `add_project_arguments` and `add_project_link_arguments`.
+/// Holds what edges take from the project: its facts, and the arguments of `add_project_arguments` and `add_project_link_arguments`.
 pub struct Surroundings {
     pub facts: Facts,
     pub arguments: Vec<String>,

@@ -1,4 +1,4 @@
-//! The files that a target makes.
+//! Names the files that a target makes.
 ghost use Rattle.std.specs.Prelude.{◌≡◌, [], ◌∷◌, ◌++◌, bytes_eq, map, IfOk, string_bytes, option_map, if◌then◌else◌};
 ghost use Rattle.build.specs.edge.Texts.{texts};
 ghost use Rattle.build.specs.edge.Paths.{object_path};
@@ -14,7 +14,7 @@ use crate::target::{BuildTarget, CustomTarget, Kind};
 use std::alloc::{AllocError, Global};
 use support::paths::path_in;
 
-// A name with something before it and something behind it.
+// Returns a name with a text before it and one after it.
 fn between(alloc: Global, front: &str, name: &str, end: &str) -> Result<String, AllocError>
     ensures { IfOk result (λ s. string_bytes s ≡ front.now ++ (name.now ++ end.now)) }
 {
@@ -26,7 +26,7 @@ fn between(alloc: Global, front: &str, name: &str, end: &str) -> Result<String, 
     Ok(whole)
 }
 
-// `1` of `1.2.3`.
+// Returns the first number of a version: `1` of `1.2.3`.
 fn first_number(version: &str) -> &str
     ensures { result.now ≡ first_number version.now }
 {
@@ -36,7 +36,7 @@ fn first_number(version: &str) -> &str
     }
 }
 
-// `soversion`, or the first number of `version`.
+// Returns `soversion`, or the first number of `version`.
 fn so_number(target: &BuildTarget) -> Option<&str>
     ensures { option_map (λ s. s.now) result
         ≡ so_number (option_map string_bytes target.now.version) (option_map string_bytes target.now.soversion) }
@@ -47,7 +47,7 @@ fn so_number(target: &BuildTarget) -> Option<&str>
     }
 }
 
-// `version`, or `soversion`.
+// Returns `version`, or `soversion`.
 fn file_number(target: &BuildTarget) -> Option<&str>
     ensures { option_map (λ s. s.now) result
         ≡ file_number (option_map string_bytes target.now.version) (option_map string_bytes target.now.soversion) }
@@ -58,7 +58,7 @@ fn file_number(target: &BuildTarget) -> Option<&str>
     }
 }
 
-// `libNAME.so`, and the number behind it.
+// Returns `libNAME.so`, with the number after it.
 fn with_number(alloc: Global, name: &str, number: Option<&str>) -> Result<String, AllocError>
     ensures { IfOk result (λ s. string_bytes s ≡ numbered_so name.now (option_map (λ n. n.now) number.entry)) }
 {
@@ -68,14 +68,14 @@ fn with_number(alloc: Global, name: &str, number: Option<&str>) -> Result<String
     }
 }
 
-/// The name by which a shared library is found when a program starts: `libNAME.so.S`, or `libNAME.so`.
+/// Returns the name by which a starting program finds a shared library: `libNAME.so.S`, or `libNAME.so`.
 pub fn so_name(alloc: Global, target: &BuildTarget) -> Result<String, AllocError>
     ensures { IfOk result (λ s. string_bytes s ≡ so_name (build_view target.now)) }
 {
     with_number(alloc, &target.name, so_number(target))
 }
 
-/// The name of the target's file.
+/// Returns the name of the target's file.
 pub fn file_name(alloc: Global, target: &BuildTarget) -> Result<String, AllocError>
     ensures { IfOk result (λ s. string_bytes s ≡ file_name (build_view target.now)) }
 {
@@ -87,7 +87,7 @@ pub fn file_name(alloc: Global, target: &BuildTarget) -> Result<String, AllocErr
     }
 }
 
-// The path of a file of the folder, whose name is no longer needed: in the root it is the name.
+// Returns the path of a file of this name in the folder. In the root it is the name, which this call takes.
 fn path_of(alloc: Global, folder: &str, name: String) -> Result<String, AllocError>
     ensures { IfOk result (λ s. string_bytes s ≡ path_in folder.now (string_bytes name)) }
 {
@@ -98,7 +98,7 @@ fn path_of(alloc: Global, folder: &str, name: String) -> Result<String, AllocErr
     }
 }
 
-/// The path of the target's file.
+/// Returns the path of the target's file.
 pub fn file_path(alloc: Global, target: &BuildTarget) -> Result<String, AllocError>
     ensures { IfOk result (λ s. string_bytes s ≡ file_path (build_view target.now)) }
 {
@@ -106,7 +106,7 @@ pub fn file_path(alloc: Global, target: &BuildTarget) -> Result<String, AllocErr
     path_of(alloc, &target.folder, name)
 }
 
-// Appends the name by which a shared library is found, where that isn't the file itself.
+// Appends the name by which a shared library is found, unless it is the file itself.
 fn push_so_name(names: &mut Vec<String>, target: &BuildTarget) -> Result<(), AllocError>
     ensures { let t = build_view target.now in
         let front = if bytes_eq (so_name t) (file_name t) then [] else so_name t ∷ [] in
@@ -120,7 +120,7 @@ fn push_so_name(names: &mut Vec<String>, target: &BuildTarget) -> Result<(), All
     Ok(())
 }
 
-// The names that lead to a shared library with a number.
+// Returns the names of the symbolic links to a shared library with a number.
 fn numbered_names(alloc: Global, target: &BuildTarget) -> Result<Vec<String>, AllocError>
     ensures { IfOk result (λ v. texts v.items
         ≡ numbered_names (so_number (option_map string_bytes target.now.version) (option_map string_bytes target.now.soversion))
@@ -134,7 +134,7 @@ fn numbered_names(alloc: Global, target: &BuildTarget) -> Result<Vec<String>, Al
     Ok(names)
 }
 
-/// The names of the symbolic links that lead to the target's file.
+/// Returns the names of the symbolic links to the target's file.
 pub fn link_names(alloc: Global, target: &BuildTarget) -> Result<Vec<String>, AllocError>
     ensures { IfOk result (λ v. texts v.items ≡ link_names (build_view target.now)) }
 {
@@ -144,7 +144,7 @@ pub fn link_names(alloc: Global, target: &BuildTarget) -> Result<Vec<String>, Al
     }
 }
 
-/// The paths of files of a folder.
+/// Returns the paths of files of these names in the folder.
 pub fn paths_in(alloc: Global, folder: &str, names: &[String]) -> Result<Vec<String>, AllocError>
     ensures { IfOk result (λ v. texts v.items ≡ map (path_in folder.now) (texts names.now)) }
 {
@@ -155,7 +155,7 @@ pub fn paths_in(alloc: Global, folder: &str, names: &[String]) -> Result<Vec<Str
     Ok(paths)
 }
 
-/// The paths of the symbolic links that lead to the target's file.
+/// Returns the paths of the symbolic links to the target's file.
 pub fn link_paths(alloc: Global, target: &BuildTarget) -> Result<Vec<String>, AllocError>
     ensures { IfOk result (λ v. texts v.items ≡ link_paths (build_view target.now)) }
 {
@@ -163,7 +163,7 @@ pub fn link_paths(alloc: Global, target: &BuildTarget) -> Result<Vec<String>, Al
     paths_in(alloc, &target.folder, &names)
 }
 
-/// The objects of the inputs, of the target whose file this is.
+/// Returns the objects of these inputs, for the target whose file is `file`.
 pub fn objects(alloc: Global, file: &str, inputs: &[Input]) -> Result<Vec<String>, AllocError>
     ensures { IfOk result (λ v. texts v.items ≡ map (λ i. object_path file.now i.name) (map input_view inputs.now)) }
 {
@@ -174,14 +174,14 @@ pub fn objects(alloc: Global, file: &str, inputs: &[Input]) -> Result<Vec<String
     Ok(objects)
 }
 
-/// The outputs of a custom target.
+/// Returns the outputs of a custom target.
 pub fn output_paths(alloc: Global, target: &CustomTarget) -> Result<Vec<String>, AllocError>
     ensures { IfOk result (λ v. texts v.items ≡ output_paths (custom_view target.now)) }
 {
     paths_in(alloc, &target.folder, &target.outputs)
 }
 
-/// Where the command of a custom target writes what it has read.
+/// Returns the path of the file in which the command of a custom target lists what it has read.
 pub fn depfile_path(alloc: Global, target: &CustomTarget) -> Result<Option<String>, AllocError>
     ensures { IfOk result (λ path. option_map string_bytes path ≡ depfile_path (custom_view target.now)) }
 {

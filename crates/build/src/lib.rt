@@ -1,4 +1,4 @@
-//! A project's targets as they are declared, the files that they make, the libraries that they link, and the edges that make them.
+//! Describes a project's targets: their declarations, the files that they make, the libraries that they link, and the edges that make them.
 #![tactic(auto)]
 
 pub mod edge;

@@ -1,4 +1,4 @@
-//! A target as a project keeps it.
+//! Holds a target as a project keeps it.
 ghost use Rattle.std.specs.Prelude.{◌≡◌};
 ghost use Rattle.build.specs.edge.Texts.{texts};
 ghost use Rattle.build.specs.Files.{default_paths};
@@ -6,10 +6,10 @@ ghost use Rattle.build.specs.View.{target_view};
 
 use crate::target::Target;
 
-/// A target with what is made of it once.
+/// Holds a target and its paths, which are computed once.
 pub struct Linked {
     pub target: Target,
-    /// What it is asked for, as the edge `all` names it: its outputs and the symbolic links.
+    /// The paths by which the edge `all` names the target: its outputs and the symbolic links.
     pub paths: Vec<String>,
     pub ghost paths_are: { texts paths.items ≡ default_paths (target_view target) },
 }

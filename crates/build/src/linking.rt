@@ -1,4 +1,4 @@
-//! The libraries that a target names.
+//! Looks up the libraries that a target names.
 ghost use Rattle.std.specs.Prelude.{◌≡◌, slice_get, option_map, ◌&&◌};
 ghost use Rattle.std.specs.List.{list_all};
 ghost use Rattle.build.specs.Files.{file_path};
@@ -9,7 +9,7 @@ ghost use Rattle.build.specs.View.{target_view, build_view};
 use crate::linked_target::Linked;
 use crate::target::{BuildTarget, Target};
 
-/// The target with a number.
+/// Returns the target with this number.
 pub fn target_at(earlier: &[Linked], number: usize) -> Option<&Target>
     ensures { option_map (λ t. target_view t.now) result ≡ option_map (λ l. l.target) (slice_get (linked_views earlier.now) number) }
 {
@@ -28,7 +28,7 @@ fn build_of(target: &Target) -> Option<&BuildTarget>
     }
 }
 
-/// The build target with a number, or none where that is a custom target or no target at all.
+/// Returns the build target with this number, or `None` if that is a custom target or no target.
 pub fn build_target_at(earlier: &[Linked], number: usize) -> Option<&BuildTarget>
     ensures { option_map (λ t. build_view t.now) result ≡ build_at (linked_views earlier.now) number }
 {
@@ -38,7 +38,7 @@ pub fn build_target_at(earlier: &[Linked], number: usize) -> Option<&BuildTarget
     }
 }
 
-// The path of the file of a build target, which is kept.
+// Returns the path of the file of a build target, which was computed before.
 fn file_of(linked: &Linked) -> Option<&str>
     ensures { option_map (λ f. f.now) result ≡ option_map file_path (build_of (target_view linked.now.target)) }
 {
@@ -51,7 +51,7 @@ fn file_of(linked: &Linked) -> Option<&str>
     }
 }
 
-/// The path of the file of the build target with a number, or none where that is a custom target or no target at all.
+/// Returns the path of the file of the build target with this number, or `None` if that is a custom target or no target.
 pub fn file_at(earlier: &[Linked], number: usize) -> Option<&str>
     ensures { option_map (λ f. f.now) result ≡ option_map file_path (build_at (linked_views earlier.now) number) }
 {
@@ -61,7 +61,7 @@ pub fn file_at(earlier: &[Linked], number: usize) -> Option<&str>
     }
 }
 
-/// Whether the number is that of a library.
+/// Returns whether the target with this number is a library.
 pub fn is_library_at(earlier: &[Linked], number: usize) -> bool
     ensures { result ≡ is_library_at (linked_views earlier.now) number }
 {
@@ -71,7 +71,7 @@ pub fn is_library_at(earlier: &[Linked], number: usize) -> bool
     }
 }
 
-/// Whether each of these numbers is that of an earlier library.
+/// Returns whether the target with each of these numbers is an earlier library.
 pub fn are_libraries(earlier: &[Linked], numbers: &[usize]) -> bool
     ensures { result ≡ list_all (is_library_at (linked_views earlier.now)) numbers.now }
 {
@@ -88,7 +88,7 @@ fn dependencies_link_libraries(earlier: &[Linked], target: &BuildTarget) -> bool
         .all(|lists| are_libraries(earlier, &lists.link_with))
 }
 
-/// Whether the target and its dependencies link earlier libraries alone.
+/// Returns whether the target and its dependencies link only earlier libraries.
 pub fn links_libraries(earlier: &[Linked], target: &BuildTarget) -> bool
     ensures { result ≡ links_libraries (linked_views earlier.now) (build_view target.now) }
 {

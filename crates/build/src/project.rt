@@ -1,4 +1,4 @@
-//! A project: its targets, what else was declared, and the edges that make it.
+//! Keeps a project: its targets, its other declarations, and the edges that build it.
 
 mod claims;
 mod fitting;

@@ -1,4 +1,4 @@
-//! The sources of a target, and which of them are compiled.
+//! Sorts the sources of a target, and finds those that are compiled.
 ghost use Rattle.std.specs.Prelude.{◌≡◌, ◌++◌, [], map, flat_map, IfOk, string_bytes};
 ghost use Rattle.std.specs.List.{list_any};
 ghost use Rattle.build.specs.edge.Texts.{texts};
@@ -12,11 +12,11 @@ use crate::target::{BuildTarget, Lists, Source};
 use std::alloc::{AllocError, Global};
 use support::tables::new_set;
 
-/// A source that is compiled.
+/// Holds a source that is compiled.
 pub struct Input {
-    /// As it is seen from the build folder.
+    /// Its path from the build directory.
     pub path: String,
-    /// As it is seen from its own root, the source root or the build folder.
+    /// Its path from its own root: the source root or the build directory.
     pub name: String,
 }
 
@@ -26,7 +26,7 @@ impl Drop for Input {
     }
 }
 
-/// Whether the path is that of a C source.
+/// Returns whether the path is that of a C source.
 #[tactic(auto, using(std::proofs::lemmas::Str::Pattern::ends_text))]
 pub fn is_c(path: &str) -> bool
     ensures { result ≡ is_c path.now }
@@ -88,7 +88,7 @@ fn push_sources(inputs: &mut Vec<Input>, depth: usize, sources: &[Source]) -> Re
     Ok(())
 }
 
-// Of inputs with equal paths the first is kept.
+// Returns the inputs without repetitions. The first of inputs with equal paths stays.
 fn first_inputs(alloc: Global, inputs: Vec<Input>) -> Result<Vec<Input>, AllocError>
     ensures { IfOk result (λ v. map input_view v.items ≡ put_inputs [] (map input_view inputs.items)) }
 {
@@ -105,7 +105,7 @@ fn first_inputs(alloc: Global, inputs: Vec<Input>) -> Result<Vec<Input>, AllocEr
     Ok(kept)
 }
 
-// All inputs, those of dependencies too.
+// Returns all inputs, with those of the dependencies.
 fn all_inputs(alloc: Global, depth: usize, target: &BuildTarget) -> Result<Vec<Input>, AllocError>
     ensures { IfOk result (λ v. map input_view v.items
         ≡ flat_map (c_inputs_in depth) (map source_view target.now.own.sources.items)
@@ -119,7 +119,7 @@ fn all_inputs(alloc: Global, depth: usize, target: &BuildTarget) -> Result<Vec<I
     Ok(inputs)
 }
 
-/// The sources that are compiled, in the order of first mention.
+/// Returns the sources that are compiled, in the order in which they are first named. Those of the dependencies count too.
 pub fn compiled_sources(
     alloc: Global,
     depth: usize,
@@ -130,7 +130,7 @@ pub fn compiled_sources(
     first_inputs(alloc, all_inputs(alloc, depth, target)?)
 }
 
-// ---- what is only made before
+// ---- sources that are only made earlier
 
 fn push_if_not_c(paths: &mut Vec<String>, path: &String) -> Result<(), AllocError>
     ensures { IfOk result (λ _. texts paths.new.items ≡ texts paths.old.items ++ if_not_c (string_bytes path.now)) }
@@ -168,7 +168,7 @@ fn push_all_generated(paths: &mut Vec<String>, sources: &[Source]) -> Result<(),
     Ok(())
 }
 
-// The outputs of custom targets that are not compiled, those of dependencies too.
+// Returns the outputs of custom targets that are not compiled, with those of the dependencies.
 fn all_generated(alloc: Global, target: &BuildTarget) -> Result<Vec<String>, AllocError>
     ensures { IfOk result (λ v. texts v.items
         ≡ flat_map generated_in (map source_view target.now.own.sources.items)
@@ -182,7 +182,7 @@ fn all_generated(alloc: Global, target: &BuildTarget) -> Result<Vec<String>, All
     Ok(paths)
 }
 
-/// The outputs of custom targets among the sources that are not compiled, each once.
+/// Returns the outputs of custom targets among the sources that are not compiled, each once.
 pub fn generated_outputs(alloc: Global, target: &BuildTarget) -> Result<Vec<String>, AllocError>
     ensures { IfOk result (λ v. texts v.items ≡ generated (build_view target.now)) }
 {
@@ -190,7 +190,7 @@ pub fn generated_outputs(alloc: Global, target: &BuildTarget) -> Result<Vec<Stri
     first_kept(alloc, &paths)
 }
 
-// ---- which sources there may be
+// ---- allowed sources
 
 fn is_foreign(source: &Source) -> bool
     ensures { result ≡ is_foreign (source_view source.now) }
@@ -222,7 +222,7 @@ fn dependencies_have_foreign(target: &BuildTarget) -> bool
         .any(|lists| lists_have_foreign(lists))
 }
 
-/// Whether a file among the sources, those of its dependencies too, is neither a C source nor a header.
+/// Returns whether a file among the sources is neither a C source nor a header. The sources of the dependencies count too.
 pub fn has_foreign_source(target: &BuildTarget) -> bool
     ensures { result ≡ has_foreign (build_view target.now) }
 {
@@ -248,7 +248,7 @@ fn push_paths(paths: &mut Vec<String>, depth: usize, source: &Source) -> Result<
     }
 }
 
-/// The paths that the sources are, seen from the build folder.
+/// Returns the paths of the sources, seen from the build directory.
 pub fn source_paths(
     alloc: Global,
     depth: usize,

@@ -3,7 +3,7 @@ ghost use Rattle.build.specs.Files.{is_static, is_library, is_shared};
 
 use std::rc::Rc;
 
-/// What a build target makes.
+/// Lists the kinds of build targets.
 #[derive(Clone, Copy)]
 pub enum Kind {
     Executable,
@@ -12,6 +12,7 @@ pub enum Kind {
 }
 
 impl Kind {
+    /// Returns whether the kind is that of a library.
     pub fn is_library(self) -> bool
         ensures { result ≡ is_library self }
     {
@@ -21,6 +22,7 @@ impl Kind {
         }
     }
 
+    /// Returns whether the kind is that of a static library.
     pub fn is_static(self) -> bool
         ensures { result ≡ is_static self }
     {
@@ -30,6 +32,7 @@ impl Kind {
         }
     }
 
+    /// Returns whether the kind is that of a shared library.
     pub fn is_shared(self) -> bool
         ensures { result ≡ is_shared self }
     {
@@ -40,28 +43,28 @@ impl Kind {
     }
 }
 
-/// A source of a target.
+/// Holds a source of a target.
 #[derive(Drop)]
 pub enum Source {
-    /// A file of the tree, by its path there.
+    /// A file of the source tree, by its path there.
     Tree(String),
-    /// What `configure_file` makes, by its path in the build folder.
+    /// An output of `configure_file`, by its path in the build directory.
     Built(String),
-    /// Outputs of one earlier target, by their paths in the build folder: all of them, or one.
+    /// Outputs of one earlier target, all or one, by their paths in the build directory.
     Made(Rc<Vec<String>>),
 }
 
-/// What a build target lists of its own, or what one call of `declare_dependency` or `dependency` brings to the targets that name it.
+/// Holds the lists of a build target itself, or those that one call of `declare_dependency` or `dependency` adds to the targets that name
+/// it.
 ///
-/// A dependency that names others is its own lists and then theirs, so it is a list of these, and whoever joins dependencies shares
-/// them.
+/// A dependency that names others consists of its own lists, followed by theirs. So a dependency is a list of `Lists`, which targets share.
 pub struct Lists {
     pub sources: Vec<Source>,
-    /// Folders of the tree, `""` for its root.
+    /// Folders of the source tree, with `""` for its root.
     pub include_folders: Vec<String>,
     pub compile_args: Vec<String>,
     pub link_args: Vec<String>,
-    /// The numbers of libraries.
+    /// The numbers of the libraries.
     pub link_with: Vec<usize>,
 }
 
@@ -77,7 +80,7 @@ impl Drop for Lists {
     }
 }
 
-/// An executable or a library (the Reference manual's `executable`, `static_library` and `shared_library`).
+/// Holds an executable or a library (Meson reference manual, `executable`, `static_library` and `shared_library`).
 pub struct BuildTarget {
     pub kind: Kind,
     /// The folder of the definition file, `""` for the root.
@@ -85,9 +88,9 @@ pub struct BuildTarget {
     pub name: String,
     pub own: Lists,
     pub dependencies: Vec<Rc<Lists>>,
-    /// Of a shared library: `1.2.3` in `libfoo.so.1.2.3`.
+    /// For a shared library: `1.2.3` in `libfoo.so.1.2.3`.
     pub version: Option<String>,
-    /// Of a shared library: `1` in `libfoo.so.1`. Where it is not given, it is the first number of `version`.
+    /// For a shared library: `1` in `libfoo.so.1`. By default it is the first number of `version`.
     pub soversion: Option<String>,
     pub is_default: bool,
     pub is_installed: bool,
@@ -109,23 +112,23 @@ impl Drop for BuildTarget {
     }
 }
 
-/// A command that makes files (the Reference manual's `custom_target`), its placeholders replaced.
+/// Holds a command that makes files (Meson reference manual, `custom_target`), with its placeholders replaced.
 pub struct CustomTarget {
     pub name: String,
     /// The folder of the definition file, `""` for the root.
     pub folder: String,
-    /// Names of files of the folder.
+    /// The names of its files, in the folder.
     pub outputs: Vec<String>,
     pub inputs: Vec<Source>,
-    /// What else has to be there: files and targets in the command, `depends`, `depend_files`.
+    /// Other files that the command needs: files and targets in the command, `depends`, `depend_files`.
     pub needs: Vec<Source>,
     /// The words of the command.
     pub words: Vec<String>,
-    /// Whether the first output is what the command prints.
+    /// Whether the first output receives what the command prints.
     pub captures: bool,
-    /// The name of the file of the folder in which the command names what it has read.
+    /// The name of the file, in the folder, in which the command lists what it has read.
     pub depfile: Option<String>,
-    /// How many items the longest of the lists had that it was declared with.
+    /// The length of the longest list in its declaration.
     pub longest: usize,
     pub is_default: bool,
     pub is_installed: bool,
@@ -149,7 +152,7 @@ impl Drop for CustomTarget {
     }
 }
 
-/// A target. Its parts lie in a place of their own: it goes through many hands before it stands among the others.
+/// Holds a target. It is boxed because it is moved often before a project keeps it.
 pub enum Target {
     Build(Box<BuildTarget>),
     Custom(Box<CustomTarget>),

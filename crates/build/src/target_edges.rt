@@ -1,4 +1,4 @@
-//! The edges that make a target.
+//! Computes the edges that make a target.
 
 mod asking;
 mod building;

@@ -1,8 +1,8 @@
-//! The libraries that a target links: those that it names, those of its dependencies, and behind a static library its own. Of equal ones
-//! the last is kept.
+//! Finds the libraries that a target links: those that it names, those of its dependencies, and after each static library its own. The last
+//! of equal ones stays.
 //!
-//! No target keeps them. They are found by one walk through the static libraries behind the target, from the last that it names to the
-//! first: a library is kept once its own are, and is not entered again.
+//! No target stores them. One walk through the static libraries finds them, from the last that the target names to the first. A library is
+//! kept once its own libraries are kept, and is not entered again.
 ghost use Rattle.std.specs.Prelude.{◌≡◌, ◌∷◌, [], ◌++◌, ◌<◌, true, false, map, flat_map, IfOk};
 ghost use Rattle.std.specs.Prelude.{length, nat_eq, slice_index_or, slice_set, option_map};
 ghost use Rattle.std.specs.List.{list_any};
@@ -19,19 +19,19 @@ use crate::linking::build_target_at;
 use crate::target::{BuildTarget, Target};
 use std::alloc::{AllocError, Global};
 
-// From so many on, what is kept has marks: marks for all targets take longer to make than fewer numbers to look through.
+// From this many kept libraries on, the walk uses marks. For fewer, a search is faster than making marks for all targets.
 const MARKED_FROM: usize = 32;
 
-// What is still to be done.
+// Names what the walk still has to do.
 #[derive(Clone, Copy)]
 enum Step {
-    // A library, and where it is static what comes with it.
+    // Enter a library and, if it is static, its libraries.
     Enter(u32),
-    // A library whose own are kept.
+    // Keep a library whose own libraries are kept.
     Leave(u32),
 }
 
-// Marks the number, and says whether it was.
+// Marks the number, and returns whether it was marked before.
 fn mark(marks: &mut Vec<bool>, number: usize) -> bool
     requires { number < length marks.old.items }
     ensures tested { result ≡ slice_index_or marks.old.items number false }
@@ -48,7 +48,7 @@ fn is_among(numbers: &[u32], number: u32) -> bool
     numbers.contains(&number)
 }
 
-// Whether the number is kept.
+// Returns whether the number is kept.
 fn is_kept(marks: &[bool], kept: &[u32], number: u32) -> bool
     requires { AreMarks marks.now kept.now }
     ensures { result ≡ list_any (nat_eq number) kept.now }
@@ -59,7 +59,7 @@ fn is_kept(marks: &[bool], kept: &[u32], number: u32) -> bool
     }
 }
 
-// Whether the number is kept. From now on it is.
+// Keeps the number in the marks, and returns whether it was kept before.
 fn was_kept(marks: &mut Vec<bool>, kept: &[u32], number: u32) -> bool
     requires { AreMarks marks.old.items kept.now }
     ensures tested { result ≡ list_any (nat_eq number) kept.now }
@@ -72,7 +72,7 @@ fn was_kept(marks: &mut Vec<bool>, kept: &[u32], number: u32) -> bool
     }
 }
 
-// Gives each of so many numbers a mark, which says whether it is kept.
+// Sets a mark for each of `count` numbers, which says whether the number is kept.
 fn mark_kept(marks: &mut Vec<bool>, kept: &[u32], count: usize) -> Result<(), AllocError>
     ensures { IfOk result (λ _. AreMarks marks.new.items kept.now) }
 {
@@ -84,7 +84,7 @@ fn mark_kept(marks: &mut Vec<bool>, kept: &[u32], count: usize) -> Result<(), Al
     Ok(())
 }
 
-// Keeps the number, once. So many targets stand behind the one that is walked from.
+// Keeps the number, once. `count` is the number of earlier targets.
 fn keep(
     kept: &mut Vec<u32>,
     marks: &mut Vec<bool>,
@@ -105,7 +105,7 @@ fn keep(
     Ok(())
 }
 
-// A number that 32 bits don't hold is that of a target for which no memory would be.
+// Appends a step into a library. A number above 32 bits would need more targets than memory can hold.
 fn push_step(steps: &mut Vec<Step>, number: usize) -> Result<(), AllocError>
     ensures { IfOk result (λ _. steps.new.items ≡ steps.old.items ++ map Enter (number ∷ [])) }
 {
@@ -122,7 +122,7 @@ fn push_steps(steps: &mut Vec<Step>, numbers: &[usize]) -> Result<(), AllocError
     Ok(())
 }
 
-// The libraries that the target names, and behind them those that its dependencies do.
+// Appends steps into the libraries that the target names, then into those of its dependencies.
 fn push_named(steps: &mut Vec<Step>, target: &BuildTarget) -> Result<(), AllocError>
     ensures { IfOk result (λ _. steps.new.items ≡ steps.old.items ++ (map Enter target.now.own.link_with.items
         ++ flat_map (λ l. map Enter l.value.link_with.items) target.now.dependencies.items)) }
@@ -150,7 +150,7 @@ fn if_static(target: &BuildTarget) -> Option<&BuildTarget>
     }
 }
 
-// The static library with a number.
+// Returns the static library with this number, if it is one.
 fn static_at(earlier: &[Linked], number: usize) -> Option<&BuildTarget>
     ensures { option_map (λ t. build_view t.now) result ≡ static_at (linked_views earlier.now) number }
 {
@@ -160,7 +160,7 @@ fn static_at(earlier: &[Linked], number: usize) -> Option<&BuildTarget>
     }
 }
 
-// Keeps a library that brings none, and goes into a static one.
+// Keeps a library without libraries of its own, or enters a static one.
 fn enter(
     steps: &mut Vec<Step>,
     kept: &mut Vec<u32>,
@@ -208,7 +208,7 @@ fn take_step(
     }
 }
 
-// The libraries of a build target that stands behind these.
+// Returns the libraries of a build target, given the earlier targets.
 fn libraries_of(
     alloc: Global,
     earlier: &[Linked],
@@ -231,8 +231,7 @@ fn libraries_of(
     Ok(kept)
 }
 
-/// The libraries of which the file of a target is linked that stands behind these. An archive is linked of none, and of a custom target
-/// there are none.
+/// Returns the libraries with which the target's file is linked, given the earlier targets. An archive and a custom target link none.
 pub fn linked_libraries(
     alloc: Global,
     earlier: &[Linked],

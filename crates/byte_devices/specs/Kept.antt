@@ -1,4 +1,4 @@
--- What outputs that keep pieces are seen as: they always tell.
+-- Defines what outputs that keep pieces are seen as. They always tell.
 use Rattle.std.specs.Prelude.{ℕ, true, List, None}
 use Rattle.ports.specs.Outputs.{OutputState, told, name_after}
 use Rattle.byte_devices.specs.Pieces.{PieceData, steps_in}

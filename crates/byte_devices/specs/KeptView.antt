@@ -1,4 +1,4 @@
--- Outputs that keep pieces, without where they lie in memory.
+-- Defines the view of outputs that keep pieces, without their place in memory.
 use Rattle.ports.specs.Outputs.{OutputState}
 use Rattle.byte_devices.specs.Kept.{kept_state}
 use Rattle.byte_devices.specs.PiecesView.{pieces_view}

@@ -1,4 +1,4 @@
--- The events of a run as pieces: bytes of one kind that follow one another are one piece.
+-- Defines the events of a run as pieces: bytes of one kind that follow one another are one piece.
 use Rattle.std.specs.Prelude.{ℕ, Bool, true, false, List, [], ◌∷◌, ◌++◌, fold, if◌then◌else◌}
 use Rattle.std.specs.List.{flat_map}
 use Rattle.ports.specs.Outputs as outputs
@@ -6,7 +6,7 @@ use Rattle.ports.specs.Outputs.{Event, Step, opening, closing, puts, logs, fault
 use Rattle.byte_devices.specs.declared.piece.Kind.{Kind}
 use Rattle.byte_devices.specs.declared.piece.Kind.TheVariants.{Open, Bytes, Close, Log, Fault}
 
--- what a piece is of, and its bytes: the name of an output that was begun, or what was written
+-- What a piece is of, and its bytes: the name of an output that was begun, or what was written.
 pub record PieceData : Type 0 where
   pub kind : Kind
   pub bytes : List ℕ
@@ -14,25 +14,25 @@ pub record PieceData : Type 0 where
 abbrev pub piece : Kind → List ℕ → PieceData
 piece kind bytes = record { kind = kind; bytes = bytes }
 
--- whether bytes of the second kind go on with a piece of the first
+-- Returns whether bytes of the second kind continue a piece of the first.
 abbrev pub goes_on : Kind → Kind → Bool
 goes_on Bytes Bytes = true
 goes_on Log Log = true
 goes_on Fault Fault = true
 goes_on kind next = false
 
--- one byte more of this kind
+-- Returns the pieces with one more byte of this kind.
 abbrev pub with_byte : Kind → List PieceData → ℕ → List PieceData
 with_byte kind [] byte = piece kind (byte ∷ []) ∷ []
 with_byte kind (p ∷ []) byte =
     if goes_on p.kind kind then piece p.kind (p.bytes ++ byte ∷ []) ∷ [] else p ∷ piece kind (byte ∷ []) ∷ []
 with_byte kind (p ∷ q ∷ ps) byte = p ∷ with_byte kind (q ∷ ps) byte
 
--- bytes of this kind
+-- Returns the pieces with more bytes of this kind.
 abbrev pub with_bytes : Kind → List PieceData → List ℕ → List PieceData
 with_bytes kind ps bytes = fold (with_byte kind) ps bytes
 
--- one event more
+-- Returns the pieces with one more event.
 abbrev pub with_event : List PieceData → Event → List PieceData
 with_event ps (outputs.Open name) = ps ++ piece Open name ∷ []
 with_event ps (outputs.Byte name byte) = with_byte Bytes ps byte
@@ -40,11 +40,11 @@ with_event ps (outputs.Close name) = ps ++ piece Close [] ∷ []
 with_event ps (outputs.Log byte) = with_byte Log ps byte
 with_event ps (outputs.Fault byte) = with_byte Fault ps byte
 
--- the pieces of these events
+-- Returns the pieces of these events.
 abbrev pub pieces_of : List Event → List PieceData
 pieces_of events = fold with_event [] events
 
--- the steps of bytes of this kind
+-- Returns the steps of bytes of this kind.
 unfoldable pub steps_of : Kind → List ℕ → List Step
 steps_of Open bytes = opening bytes
 steps_of Bytes bytes = puts bytes
@@ -52,6 +52,6 @@ steps_of Close bytes = closing
 steps_of Log bytes = logs bytes
 steps_of Fault bytes = faults bytes
 
--- the steps of these pieces
+-- Returns the steps of these pieces.
 unfoldable pub steps_in : List PieceData → List Step
 steps_in ps = flat_map (λ p. steps_of p.kind p.bytes) ps

@@ -1,4 +1,4 @@
--- Pieces without where they lie in memory.
+-- Defines the view of pieces, without their place in memory.
 use Rattle.std.specs.Prelude.{List, map}
 use Rattle.byte_devices.specs.Pieces.{PieceData, piece}
 use Rattle.byte_devices.specs.declared.piece.Piece.{Piece}

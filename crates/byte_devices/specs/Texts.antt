@@ -1,13 +1,13 @@
--- Texts in a slice, each ended by a zero byte.
+-- Defines texts in a slice, each ended by a zero byte.
 use Rattle.std.specs.Prelude.{◌≡◌, ℕ, ◌+◌, ◌==◌, Bool, false, List, [], ◌∷◌, ◌++◌, drop, length}
 use Rattle.std.specs.List.{flat_map, list_any}
 use Rattle.std.specs.Str.{IsUtf8}
 
--- whether a byte is the zero byte
+-- Returns whether a byte is the zero byte.
 abbrev pub is_zero : ℕ → Bool
 is_zero b = b == 0
 
--- bytes that a zero byte can end: UTF-8, none of them zero
+-- Holds if a zero byte can end these bytes: they are UTF-8, and none of them is zero.
 pub record IsText (bytes : List ℕ) : Type 0 where
   pub utf8 : IsUtf8 bytes
   pub nonzero : list_any is_zero bytes ≡ false
@@ -16,20 +16,20 @@ abbrev pub AreTexts : List (List ℕ) → Type 0
 AreTexts [] = Unit {0}
 AreTexts (text ∷ more) = IsText text × AreTexts more
 
--- a text and the zero byte that ends it
+-- Returns a text and the zero byte that ends it.
 abbrev pub ended : List ℕ → List ℕ
 ended text = text ++ 0 ∷ []
 
--- the bytes are these texts, each ended by a zero byte
+-- Holds if the bytes are these texts, each ended by a zero byte.
 pub record SpellsTexts (bytes : List ℕ) (texts : List (List ℕ)) : Type 0 where
   pub joined : bytes ≡ flat_map ended texts
   pub are_texts : AreTexts texts
 
--- the bytes begin with this text, and the zero byte that ends it
+-- Holds if the bytes begin with this text, and the zero byte that ends it.
 pub record BeginsWith (bytes text : List ℕ) : Type 0 where
   pub is_text : IsText text
   pub parts : bytes ≡ text ++ 0 ∷ drop (length text + 1) bytes
 
--- the bytes begin with no text that a zero byte ends
+-- Holds if the bytes begin with no text that a zero byte ends.
 abbrev pub BeginsWithNone : List ℕ → Type 0
 BeginsWithNone bytes = (text rest : List ℕ) → IsText text → bytes ≡ text ++ 0 ∷ rest → ⊥

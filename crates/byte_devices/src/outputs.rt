@@ -1,4 +1,4 @@
-//! Outputs that keep what they take as pieces.
+//! Keeps what a run writes as pieces.
 ghost use Rattle.std.specs.Prelude.{◌≡◌, ◌∷◌, [], ℕ, List};
 ghost use Rattle.std.proofs.Props.{props};
 ghost use Rattle.ports.specs.Outputs.{told};
@@ -10,8 +10,7 @@ use crate::piece::{Kind, Piece, keep_bytes, keep_piece};
 use ports::{DeviceFault, Outputs};
 use std::alloc::Global;
 
-/// Outputs that keep what a run writes, with the bytes of one kind that follow one another joined. A call fails only where memory runs
-/// out.
+/// Keeps what a run writes. Bytes of one kind that follow one another are joined. A call fails only if memory runs out.
 #[derive(Drop)]
 pub struct KeptOutputs {
     alloc: Global,
@@ -24,7 +23,7 @@ impl KeptOutputs {
     ghost use Rattle.byte_devices.specs.KeptView.{kept_seen};
     ghost use Rattle.byte_devices.specs.Kept.{kept_state};
 
-    /// Outputs that have taken nothing.
+    /// Returns outputs to which nothing was written.
     pub fn new(alloc: Global) -> KeptOutputs
         ensures { kept_seen result ≡ kept_state [] 0 }
     {
@@ -36,7 +35,7 @@ impl KeptOutputs {
         }
     }
 
-    /// What they have taken, in order.
+    /// Returns what was written, in order.
     pub fn pieces(&self) -> &[Piece]
         ensures pieces { pieces_view result.now ≡ pieces_of (kept_seen self.now).events }
     {

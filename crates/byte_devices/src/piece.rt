@@ -1,11 +1,11 @@
-//! What outputs keep: pieces of one kind.
+//! Defines the pieces that outputs keep, each of one kind.
 ghost use Rattle.std.specs.Prelude.{◌≡◌, ◌++◌, ◌∷◌, [], OnOk, OnErr, true};
 ghost use Rattle.byte_devices.specs.Pieces.{goes_on, piece, with_bytes};
 ghost use Rattle.byte_devices.specs.PiecesView.{pieces_view};
 
 use std::alloc::{AllocError, Global};
 
-/// What a piece is.
+/// Says what a piece is.
 #[derive(Clone, Copy, Debug, PartialEq, Eq)]
 pub enum Kind {
     /// An output was begun: the bytes are its name.
@@ -20,14 +20,14 @@ pub enum Kind {
     Fault,
 }
 
-/// What was written, of one kind.
+/// Holds what was written, of one kind.
 #[derive(Drop)]
 pub struct Piece {
     pub kind: Kind,
     pub bytes: Vec<u8>,
 }
 
-// Whether bytes of the second kind go on with a piece of the first.
+// Returns whether bytes of the second kind continue a piece of the first.
 fn goes_on(kind: Kind, next: Kind) -> bool
     ensures { result ≡ goes_on kind next }
 {
@@ -37,7 +37,7 @@ fn goes_on(kind: Kind, next: Kind) -> bool
     }
 }
 
-// A piece more.
+// Appends a piece.
 pub(crate) fn keep_piece(
     alloc: Global,
     pieces: &mut Vec<Piece>,
@@ -52,7 +52,7 @@ pub(crate) fn keep_piece(
     Ok(())
 }
 
-// Bytes more of this kind: they go on with the last piece where that is of the kind too.
+// Appends bytes of this kind. They continue the last piece if that is of the kind too.
 pub(crate) fn keep_bytes(
     alloc: Global,
     pieces: &mut Vec<Piece>,

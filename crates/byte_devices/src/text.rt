@@ -1,4 +1,4 @@
-//! Texts in a slice, each ended by a zero byte.
+//! Reads texts in a slice, each ended by a zero byte.
 ghost use Rattle.std.specs.Prelude.{◌≡◌, ◌++◌, ◌∷◌, [], IfOk, OnOk, IfSome, IfNone, List, ℕ, map, string_bytes};
 ghost use Rattle.std.specs.List.{position};
 ghost use Rattle.byte_devices.specs.Texts.{is_zero, BeginsWith, BeginsWithNone, SpellsTexts};
@@ -6,7 +6,7 @@ ghost use Rattle.byte_devices.specs.Texts.{is_zero, BeginsWith, BeginsWithNone, 
 use std::alloc::{AllocError, Global};
 use thiserror::Error;
 
-/// Why there are no texts.
+/// Says why there are no texts.
 #[derive(Clone, Copy, Debug, PartialEq, Eq, Drop, Error)]
 pub enum TextsFault {
     /// The bytes aren't texts of UTF-8, each ended by a zero byte.
@@ -33,7 +33,7 @@ fn zero_at(bytes: &[u8]) -> Option<usize>
     bytes.iter().position(|b| *b == 0)
 }
 
-/// The text with which the bytes begin, up to a zero byte.
+/// Returns the text with which the bytes begin, up to a zero byte, or `None` if they begin with none.
 pub fn first_text(bytes: &[u8]) -> Option<&str>
     ensures some { IfSome result (λ text. BeginsWith bytes.now text.now) }
     ensures none { IfNone result (BeginsWithNone bytes.now) }
@@ -54,7 +54,7 @@ fn push_copy(alloc: Global, texts: &mut Vec<String>, text: &str) -> Result<(), A
     Ok(())
 }
 
-/// The texts that the bytes are, each ended by a zero byte.
+/// Returns the texts that the bytes are, each ended by a zero byte.
 pub fn texts(alloc: Global, bytes: &[u8]) -> Result<Vec<String>, TextsFault>
     ensures texts { IfOk result (λ v. SpellsTexts bytes.now (map string_bytes v.items)) }
     ensures bad { result ≡ Err TextsFault.Bytes → (texts : List (List ℕ)) → SpellsTexts bytes.now texts → ⊥ }

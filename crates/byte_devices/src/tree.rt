@@ -1,4 +1,4 @@
-//! A tree of files in slices.
+//! Reads a tree of files in slices.
 ghost use Rattle.std.specs.Prelude.{◌≡◌, ℕ, ◌≤◌, ◌<◌, ◌++◌, ◌∷◌, [], None, List, OnOk, length, IfOk, IfSome, IfNone, is_some};
 ghost use Rattle.std.specs.Option.{option_map};
 ghost use Rattle.ports.specs.Tree.{Reads, file_at};
@@ -13,11 +13,11 @@ use std::hash::BuildHasherDefault;
 use support::tables::SipHasher;
 use thiserror::Error;
 
-/// Why slices are no tree.
+/// Says why slices are no tree.
 #[derive(Clone, Copy, Debug, PartialEq, Eq, Drop, Error)]
 pub enum TreeFault {
-    /// The slices spell no tree: a path isn't UTF-8 or has no zero byte after it, two paths are the same, or there are fewer or more
-    /// paths or contents than the sizes say.
+    /// The slices spell no tree: a path isn't UTF-8 or has no zero byte after it, two paths are the same, or there are fewer or more paths
+    /// or contents than the sizes say.
     #[error("the slices spell no tree of files")]
     Slices,
     /// Memory ran out.
@@ -35,7 +35,7 @@ impl From<AllocError> for TreeFault {
     }
 }
 
-/// A tree of files that lie in a caller's slices, none of which is copied.
+/// Holds a tree of files that lie in a caller's slices, none of which is copied.
 pub struct SliceTree<'a> {
     files: IndexMap<&'a str, &'a [u8], SipHasher>,
 }
@@ -46,14 +46,14 @@ impl Drop for SliceTree<'_> {
     }
 }
 
-// A file where it lies.
+// Holds a file in place, by references to its path and its bytes.
 #[derive(Clone, Copy)]
 struct Lying<'a> {
     path: &'a str,
     bytes: &'a [u8],
 }
 
-// The first file of these slices.
+// Returns the first file of these slices.
 fn first_file<'a>(paths: &'a [u8], size: u64, contents: &'a [u8]) -> Option<Lying<'a>>
     ensures some { IfSome result (λ file. IsFirst paths.now size contents.now file.path.now file.bytes.now) }
     ensures none { IfNone result (HasNoFirst paths.now size contents.now) }
@@ -71,7 +71,7 @@ fn first_file<'a>(paths: &'a [u8], size: u64, contents: &'a [u8]) -> Option<Lyin
     })
 }
 
-// The bytes of the file with this path.
+// Returns the bytes of the file with this path.
 fn find<'f, 'a>(files: &'f IndexMap<&'a str, &'a [u8], SipHasher>, path: &str) -> Option<&'a [u8]>
     ensures { option_map (λ bytes. bytes.now) result ≡ file_at (files_of files.now.entries) path.now }
 {
@@ -81,7 +81,7 @@ fn find<'f, 'a>(files: &'f IndexMap<&'a str, &'a [u8], SipHasher>, path: &str) -
     }
 }
 
-// Copies what fits of these bytes from this place on.
+// Copies what fits of these bytes from this index on, and returns how many it copied.
 fn read_part(bytes: &[u8], at: usize, buf: &mut [u8]) -> usize
     ensures within { result ≤ length buf.old }
     ensures bytes { Reads bytes.now at (length buf.old) result buf.new }
@@ -99,7 +99,7 @@ impl<'a> SliceTree<'a> {
     ghost use Rattle.byte_devices.specs.Slices.{Spells};
     ghost use Rattle.byte_devices.specs.SlicesView.{slice_tree_seen};
 
-    /// The tree that these slices spell: the paths, each ended by a zero byte, the sizes of the files, and their bytes, joined.
+    /// Returns the tree that these slices spell: the paths, each ended by a zero byte, the sizes of the files, and their bytes, joined.
     pub fn new(
         alloc: Global,
         paths: &'a [u8],
@@ -131,14 +131,14 @@ impl<'a> SliceTree<'a> {
         Ok(tree)
     }
 
-    // Whether a file has this path.
+    // Returns whether a file has this path.
     fn has(&self, path: &str) -> bool
         ensures { result ≡ is_some (file_at (slice_tree_seen self.now).files path.now) }
     {
         self.files.contains_key(path)
     }
 
-    // Puts a file last whose path is new.
+    // Appends a file whose path is new.
     fn add(&mut self, file: Lying<'a>) -> Result<(), AllocError>
         requires { file_at (slice_tree_seen self.old).files file.path.now ≡ None }
         ensures { OnOk result

@@ -1,6 +1,7 @@
-//! The functions of the page "Reference manual" that say nothing of the project.
+//! Implements the functions of the page "Reference manual" that declare nothing about the project.
 //!
-//! What a function does is a deed of `specs/`, and its code carries it out on a [`world::Caller`]. The functions of a subject stand in a
+//! What a function does is defined as a deed in `specs/`, and its code does that on a [`world::Caller`]. Functions of one subject share a
+//! module of that name.
 //! module of its name, and are called by it.
 
 pub mod disablers;

@@ -1,4 +1,4 @@
-//! Functions of the page "Reference manual": those with which a project begins, and those that say nothing of it.
+//! Implements functions of the page "Reference manual": those that begin a project, and those that declare nothing about it.
 #![tactic(auto)]
 
 pub mod language_calls;

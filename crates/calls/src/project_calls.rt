@@ -1,4 +1,4 @@
-//! `project` and `get_option` of the page "Reference manual": how a project begins, and what its options are.
+//! Implements `project` and `get_option` of the page "Reference manual": how a project begins, and what its options are.
 
 mod declaring;
 mod defaults;

@@ -1,4 +1,4 @@
--- F-strings, by their parts.
+-- Defines f-strings by their parts.
 use Rattle.std.specs.Prelude.{◌≡◌, ℕ, List, map, string_bytes}
 use Rattle.std.specs.List.{flat_map}
 use Rattle.values.specs.declared.texts.placed.Places.TheVariants as places
@@ -6,15 +6,15 @@ use Rattle.values.specs.texts.Segments.{Segment, text, place, segments, spelled}
 use Rattle.code.specs.declared.format_string.Part.{Part}
 use Rattle.code.specs.declared.format_string.Part.TheVariants as parts
 
--- what a part stands for
+-- Returns the segment that a part means.
 abbrev pub part_data : Part → Segment
 part_data (parts.Text t) = text (string_bytes t)
 part_data (parts.Place name number) = place (string_bytes name)
 
--- the text of which these are the parts
+-- Returns the text that has these parts.
 abbrev pub written : List Part → List ℕ
 written ps = flat_map spelled (map part_data ps)
 
--- they are the places of that text, and what stands between them
+-- Holds if the parts are the placeholders of that text and the text between them.
 abbrev pub is_split : List Part → Type 0
 is_split ps = map part_data ps ≡ segments places.Names (written ps)

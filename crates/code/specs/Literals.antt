@@ -1,4 +1,4 @@
--- Literals, the tokens that they are, and what they stand for.
+-- Defines literals: their tokens and their meanings.
 use Rattle.std.specs.Prelude.{ℕ, Bool, true, false, ◌&&◌, ◌==◌, not, List, string_bytes, bytes_eq}
 use Rattle.syntax.specs.declared.tree.Literal.{Literal}
 use Rattle.syntax.specs.declared.tree.Literal.TheVariants as literals
@@ -12,12 +12,12 @@ use Rattle.code.specs.declared.literal.Meaning.TheVariants as meanings
 use Rattle.code.specs.declared.literal.Spelling.{Spelling}
 use Rattle.code.specs.declared.literal.Spelling.TheVariants as spellings
 
--- the bytes of a literal as it stands in the source
+-- Returns the bytes of a literal as it is spelled in the source.
 abbrev pub spelled : Spelling → List ℕ
 spelled (spellings.Short t) = t
 spelled (spellings.Long t) = string_bytes t
 
--- the kind of token that a literal is
+-- Returns the kind of token of a literal.
 abbrev pub kind_of : Literal → Kind
 kind_of literals.True = kinds.True
 kind_of literals.False = kinds.False
@@ -27,29 +27,30 @@ kind_of literals.RawString = kinds.RawString
 kind_of literals.FormatString = kinds.FormatString
 kind_of literals.RawFormatString = kinds.RawFormatString
 
--- the literal of this truth value
+-- Holds if a literal spells this boolean.
 abbrev pub is_boolean : Bool → Literal → Bool
 is_boolean true literals.True = true
 is_boolean false literals.False = true
 is_boolean _ _ = false
 
+-- Holds if a literal is a number.
 abbrev pub is_number : Literal → Bool
 is_number literals.Number = true
 is_number _ = false
 
--- a string that is no f-string
+-- Holds if a literal is a string, but no f-string.
 abbrev pub is_plain : Literal → Bool
 is_plain literals.String = true
 is_plain literals.RawString = true
 is_plain _ = false
 
--- an f-string
+-- Holds if a literal is an f-string.
 abbrev pub is_format : Literal → Bool
 is_format literals.FormatString = true
 is_format literals.RawFormatString = true
 is_format _ = false
 
--- whether this is the meaning of a literal that stands so in the source
+-- Holds if this is the meaning of a literal with this spelling.
 abbrev pub means : Literal → List ℕ → Meaning → Bool
 means literal source (meanings.Boolean b) = is_boolean b literal
 means literal source (meanings.Integer n) = is_number literal && (n == magnitude source)

@@ -1,4 +1,4 @@
-//! Code as it is made: nodes are put at the end, each after its parts.
+//! Builds code by appending nodes, each after its parts.
 ghost use Rattle.std.specs.Prelude.{◌≡◌, [], IsTrue, IfOk, length, nat_lt, option_map, slice_index_or};
 ghost use Rattle.code.specs.Nodes.{all_within, within, tree_of};
 ghost use Rattle.code.specs.Statements.{name_at, second_within};
@@ -19,6 +19,7 @@ pub struct Draft {
 impl Draft {
     ghost use Rattle.code.specs.Draft.{trees_in, Grows, Stands};
 
+    /// Returns a draft without nodes, which adds names to this table.
     pub fn new(alloc: Global, names: Names) -> Draft
         ensures names { result.names ≡ names }
         ensures trees { trees_in result ≡ [] }
@@ -30,7 +31,7 @@ impl Draft {
         }
     }
 
-    /// Puts a node at the end, and answers its number.
+    /// Appends a node, and returns its number.
     pub fn push(&mut self, node: Node) -> Result<usize, AllocError>
         requires { IsTrue (within (length self.old.names) (length (trees_in self.old)) node) }
         ensures grows { Grows self.old self.new }
@@ -41,7 +42,7 @@ impl Draft {
         Ok(number)
     }
 
-    /// The number of a name, which may be new.
+    /// Returns the number of a name, which is added to the table if it is new.
     pub fn name(&mut self, name: &str) -> Result<usize, AllocError>
         ensures grows { Grows self.old self.new }
         ensures trees { trees_in self.new ≡ trees_in self.old }
@@ -51,7 +52,7 @@ impl Draft {
         self.names.put(name)
     }
 
-    // The number of a name, where there is one.
+    // Returns the number of a name, if there is one.
     fn second_name(&mut self, name: Option<&str>) -> Result<Option<usize>, AllocError>
         ensures grows { Grows self.old self.new }
         ensures trees { trees_in self.new ≡ trees_in self.old }
@@ -64,7 +65,7 @@ impl Draft {
         }
     }
 
-    /// The numbers of the names of a loop, which may be new. The second may be missing.
+    /// Returns the numbers of the names of a loop, which are added to the table if they are new. The second name is optional.
     pub fn loop_names(
         &mut self,
         first: &str,

@@ -1,4 +1,4 @@
-//! Expressions, made flat.
+//! Flattens expressions.
 ghost use Rattle.std.specs.Prelude.{◌≡◌, IfOk, IsTrue, map, length, option_map};
 ghost use Rattle.syntax.specs.ExpressionTree.{NameTree, LiteralTree, ListTree, DictionaryTree, FunctionTree, PostfixTree, PrefixTree};
 ghost use Rattle.syntax.specs.ExpressionTree.{ChainTree, TernaryTree, expressions, entries as entry_trees, argument_trees};
@@ -15,7 +15,7 @@ use syntax::tree::{Argument, Entry, Expression, Link, Literal, Operand, Prefix};
 use values::Text;
 use values::language_names::{FunctionName, MethodName};
 
-// A name. For one that is too long for a text, which no file has, memory is refused.
+// Returns a copy of a name. A name that is too long for a text, which no file contains, is reported as out of memory.
 fn own_name(alloc: Global, name: &str) -> Result<Text, AllocError>
     ensures { IfOk result (λ own. own ≡ name.now) }
 {
@@ -25,7 +25,7 @@ fn own_name(alloc: Global, name: &str) -> Result<Text, AllocError>
     }
 }
 
-// The name of an argument, where it has one.
+// Returns a copy of the name of an argument, if it has one.
 fn argument_name(alloc: Global, name: Option<&str>) -> Result<Option<Text>, AllocError>
     ensures { IfOk result (λ own. own ≡ option_map (λ n. n.now) name.entry) }
 {
@@ -50,7 +50,7 @@ fn method_name(alloc: Global, name: &str) -> Result<MethodName, AllocError>
 impl Draft {
     ghost use Rattle.code.specs.Draft.{trees_in, Grows, Stands, Parts};
 
-    /// Puts the nodes of an expression, its own last, and answers its number.
+    /// Appends the nodes of an expression, its own node last, and returns the number of that node.
     #[cycle(flatten)]
     pub fn expression(&mut self, expression: &Expression<'_>) -> Result<usize, AllocError>
         ensures grows { Grows self.old self.new }
@@ -90,7 +90,7 @@ impl Draft {
         }
     }
 
-    // A name.
+    // Appends a name.
     fn add_name(&mut self, name: &str, line: usize) -> Result<usize, AllocError>
         ensures grows { Grows self.old self.new }
         ensures stands { IfOk result (λ number. Stands (trees_in self.new) number (NameTree name.now line)) }
@@ -99,7 +99,7 @@ impl Draft {
         self.push(Node::Name { number, line })
     }
 
-    // A literal.
+    // Appends a literal.
     fn literal(&mut self, literal: Literal, text: &str, line: usize) -> Result<usize, AllocError>
         ensures grows { Grows self.old self.new }
         ensures stands { IfOk result (λ number. Stands (trees_in self.new) number (LiteralTree literal text.now line)) }
@@ -109,7 +109,7 @@ impl Draft {
         self.push(Node::Literal { line, literal })
     }
 
-    // `[first, second]`
+    // Appends `[first, second]`.
     #[cycle(flatten)]
     fn list(&mut self, items: &[Expression<'_>], line: usize) -> Result<usize, AllocError>
         ensures grows { Grows self.old self.new }
@@ -127,7 +127,7 @@ impl Draft {
         })
     }
 
-    // `{key : value, key : value}`
+    // Appends `{key : value, key : value}`.
     #[cycle(flatten)]
     fn dictionary(&mut self, entries: &[Entry<'_>], line: usize) -> Result<usize, AllocError>
         ensures grows { Grows self.old self.new }
@@ -146,7 +146,7 @@ impl Draft {
         })
     }
 
-    // `name(argument, name: argument)`
+    // Appends `name(argument, name: argument)`.
     #[cycle(flatten)]
     fn call(
         &mut self,
@@ -164,7 +164,7 @@ impl Draft {
         self.push(Node::Call { call, line })
     }
 
-    // `first.name(argument)[index]`
+    // Appends `first.name(argument)[index]`.
     #[cycle(flatten)]
     fn postfix(
         &mut self,
@@ -190,7 +190,7 @@ impl Draft {
         })
     }
 
-    // `not value` or `-value`
+    // Appends `not value` or `-value`.
     #[cycle(flatten)]
     fn prefix(
         &mut self,
@@ -209,7 +209,7 @@ impl Draft {
         })
     }
 
-    // `first + second - third`
+    // Appends `first + second - third`.
     #[cycle(flatten)]
     fn chain(
         &mut self,
@@ -238,7 +238,7 @@ impl Draft {
         })
     }
 
-    // `test ? yes : no`
+    // Appends `test ? yes : no`.
     #[cycle(flatten)]
     fn ternary(
         &mut self,

@@ -1,4 +1,4 @@
-//! The code of a file as it is made.
+//! Builds the code of a file.
 ghost use Rattle.std.specs.Prelude.{◌≡◌, [], IsTrue, IfOk, length, nat_lt, option_map};
 ghost use Rattle.syntax.specs.ExpressionTree.{expression_of};
 ghost use Rattle.code.specs.Statements.{all_placed, statement_within, statement_tree, name_at, second_within};
@@ -21,6 +21,7 @@ impl FileDraft {
     ghost use Rattle.code.specs.Draft.{trees_in, Stands};
     ghost use Rattle.code.specs.FileDraft.{statements_in, Extends, IsStatement};
 
+    /// Returns a draft without expressions and statements, which adds names to this table.
     pub fn new(alloc: Global, names: Names) -> FileDraft
         ensures names { result.draft.names ≡ names }
         ensures statements { statements_in result ≡ [] }
@@ -31,7 +32,7 @@ impl FileDraft {
         }
     }
 
-    /// The number of a name, which may be new.
+    /// Returns the number of a name, which is added to the table if it is new.
     pub fn name(&mut self, name: &str) -> Result<usize, AllocError>
         ensures extends { Extends self.old self.new }
         ensures within { IfOk result (λ number. IsTrue (nat_lt number (length self.new.draft.names))) }
@@ -40,7 +41,7 @@ impl FileDraft {
         self.draft.name(name)
     }
 
-    /// The numbers of the names of a loop, which may be new. The second may be missing.
+    /// Returns the numbers of the names of a loop, which are added to the table if they are new. The second name is optional.
     pub fn loop_names(
         &mut self,
         first: &str,
@@ -55,7 +56,7 @@ impl FileDraft {
         self.draft.loop_names(first, second)
     }
 
-    /// Puts the nodes of an expression, and answers the number of its own.
+    /// Appends the nodes of an expression, and returns the number of its own node.
     pub fn expression(&mut self, expression: &Expression<'_>) -> Result<usize, AllocError>
         ensures extends { Extends self.old self.new }
         ensures stands { IfOk result (λ number. Stands (trees_in self.new.draft) number (expression_of expression.now)) }
@@ -63,7 +64,7 @@ impl FileDraft {
         self.draft.expression(expression)
     }
 
-    /// Puts a statement at the end, and answers its number.
+    /// Appends a statement, and returns its number.
     pub fn push(&mut self, statement: StatementNode) -> Result<usize, AllocError>
         requires { IsTrue (statement_within (length self.old.draft.names) (length (trees_in self.old.draft))
             (length (statements_in self.old))

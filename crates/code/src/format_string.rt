@@ -1,4 +1,4 @@
-//! F-strings, by their parts.
+//! Splits f-strings into their parts.
 ghost use Rattle.std.specs.Prelude.{◌≡◌, IfOk, map};
 ghost use Rattle.values.specs.texts.Segments.{segment_data};
 ghost use Rattle.code.specs.FormatStrings.{is_split, part_data, written};
@@ -10,20 +10,20 @@ use values::texts::{Places, Segment, segments};
 /// A part of an f-string.
 #[derive(Drop)]
 pub enum Part {
-    /// What stands between places. It is not empty.
+    /// The text between placeholders. It is not empty.
     Text(String),
-    /// The place of a variable, by its name. The number is that of the name in the table, where it stood there before the f-string.
+    /// The placeholder of a variable, by its name. The number is that of the name in the table, if the table had it before the f-string.
     Place { name: String, number: Option<usize> },
 }
 
-/// An f-string, by its parts after its escapes.
+/// An f-string, by its parts after its escapes are decoded.
 #[derive(Drop)]
 pub struct FormatString {
     pub parts: Vec<Part>,
     pub ghost split: { is_split parts.items },
 }
 
-// A part with a text of its own.
+// Returns a part with its own copy of the text.
 fn own_part(alloc: Global, names: &Names, segment: Segment<'_>) -> Result<Part, AllocError>
     ensures { IfOk result (λ p. part_data p ≡ segment_data segment.entry) }
 {
@@ -51,7 +51,7 @@ fn own_parts(
 }
 
 impl FormatString {
-    /// The f-string with this text after its escapes, over a table of names.
+    /// Returns the f-string with this text, whose escapes are decoded, and looks its names up in a table.
     pub fn new(alloc: Global, names: &Names, text: &str) -> Result<FormatString, AllocError>
         ensures { IfOk result (λ f. written f.parts.items ≡ text.now) }
     {

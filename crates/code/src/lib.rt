@@ -1,26 +1,27 @@
-//! Definition files as code: the tree of a file kept flat, each part named by a number, and the names that it uses in one table.
+//! Defines build files as code: the syntax tree of a file as flat lists, in which parts are referred to by number, with the names in one
+//! table.
 //!
-//! [`flatten`] makes the [`Code`] of a [`syntax::tree::File`]. The code owns what its literals stand for, so the source can go. It is what
-//! evaluation walks: a frame there holds the code and numbers, and no reference into a tree.
+//! [`flatten`] makes the [`Code`] of a [`syntax::tree::File`]. The code owns the meaning of its literals, so the source can be dropped.
+//! Evaluation walks this code: a frame there has the code and numbers, and no reference into a tree.
 //!
 //! # Decisions
 //!
-//! **Two lists of nodes.** Expressions and statements are numbered apart, each in a list of its own, since an expression never has a
-//! statement as a part. Each node stands after its parts, and that is a fact of [`Code`] itself, so whoever walks it by number knows that
-//! the walk ends. Only names of variables stand in the table of names; those of functions, methods and keywords are texts of the node.
+//! **Two lists of nodes.** Expressions and statements are numbered separately, each in a list of its own, since an expression never has a
+//! statement as a part. Each node comes after its parts, and the invariant of [`Code`] says so. So whoever walks the code by number knows
+//! that the walk ends. The table of names has only names of variables. Names of functions, methods and keywords are texts in the node.
 //!
-//! **Nodes are small.** A source may have a statement for each two bytes. So a statement takes 16 bytes and an expression 40: what is
-//! greater stands in a box, and numbers have 32 bits where that makes a node smaller. A number that they don't hold, which no file of 16
-//! MiB has, is refused as memory is. A literal keeps what it stands for and not its text, which only proofs read.
+//! **Nodes are small.** A source may have a statement for every two bytes. So a statement takes 16 bytes and an expression 40: what is
+//! larger is boxed, and numbers have 32 bits where that makes a node smaller. A larger number, which no file of 16 MiB needs, is reported
+//! as out of memory. A literal keeps its meaning and not its text, which only proofs read.
 //!
-//! **What code stands for, not how many nodes it has.** The contract of [`flatten`] gives the tree that code stands for, and that nodes
-//! come after their parts. It doesn't say that no node is left over, which no part names: a draft that makes each node twice would pass
-//! too. That none is made twice is read in the code.
+//! **The contract covers the tree of the code, not the number of nodes.** The contract of [`flatten`] gives the tree that the code means,
+//! and says that nodes come after their parts. It does not say that every node is part of the tree: a draft that makes each node twice
+//! would pass too. That none is made twice can only be read in the code.
 //!
-//! **The table of names.** The numbers of a code's names are below the length that the table had when the code was made. So the table may
-//! grow while code is run, and [`names_may_grow`] says that the code then still stands for the same file. [`flatten`] takes the table out
-//! of the caller's place while it works, so that the draft can hold as a fact of its own that each number is one of the table's, and puts
-//! it back on every way out. A table moves without taking memory.
+//! **The table of names.** The indexes of a code's names are less than the length of the table when the code was made. So the table may
+//! grow while code runs, and [`names_may_grow`] proves that the code then still means the same file. [`flatten`] takes the table from the
+//! caller while it works, so that the invariant of the draft can say that each index is in the table. It puts the table back whether it
+//! succeeds or fails. Moving a table allocates nothing.
 #![tactic(auto)]
 
 mod code;

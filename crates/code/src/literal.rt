@@ -1,4 +1,4 @@
-//! Literals, and what they stand for.
+//! Reads literals.
 ghost use Rattle.std.specs.Prelude.{◌≡◌, false, IfOk, IfSome, IsTrue};
 ghost use Rattle.std.specs.Option.{ForSome};
 ghost use Rattle.syntax.specs.lexer.Numerals.{magnitude};
@@ -14,42 +14,42 @@ use syntax::lexer::{magnitude, text_in_slice, text_of_slice};
 use syntax::tree::Literal;
 use values::{Short, Text};
 
-/// What a literal stands for, or its text where that is not kept. A short text needs no memory of its own, and what is longer stands in a
-/// box, so that no node is larger for it.
+/// The meaning of a literal, or its text if the meaning is not kept. A short text is inline, and anything longer is boxed, so that no node
+/// grows.
 #[derive(Drop)]
 pub enum Meaning {
     /// `true` or `false`.
     Boolean(bool),
-    /// The number that it spells.
+    /// The number that the literal spells.
     Integer(u64),
-    /// The text that a string stands for, where it stands so in the source and is short.
+    /// The text of a string, if the source spells it without escapes and it is short.
     Short(Short),
-    /// The text that a string stands for.
+    /// The text of a string.
     Text(Box<Text>),
-    /// The parts of an f-string, before its places are filled.
+    /// The parts of an f-string, before its placeholders are filled.
     Format(Box<FormatString>),
-    /// The literal as it stands in the source: a number that 64 bits don't hold, or a string, but no f-string, whose text is too long.
+    /// The literal as it is spelled: a number that does not fit in 64 bits, or a string, but no f-string, whose text is too long.
     Source(Box<String>),
 }
 
-/// A literal as it stands in the source: a string has its quotes. A short one needs no memory.
+/// A literal as it is spelled in the source: a string includes its quotes. A short one is not allocated.
 #[derive(Drop)]
 pub enum Spelling {
     Short(Text),
     Long(String),
 }
 
-/// A literal, by what it stands for, so that evaluation need not read its text again.
+/// A literal with its meaning, so that evaluation need not read its text again.
 #[derive(Drop)]
 pub struct LiteralNode {
     pub literal: Literal,
     pub meaning: Meaning,
-    /// As it stands in the source. Only proofs read it, and it takes no memory.
+    /// The literal as it is spelled in the source. Only proofs read it, and it takes no memory.
     pub source: Snapshot<Spelling>,
     pub ghost stands: { IsTrue (means literal (spelled source.value) meaning) },
 }
 
-// The kind of token that a literal is.
+// Returns the kind of token of a literal.
 fn kind_of(literal: Literal) -> Kind
     ensures { result ≡ kind_of literal }
 {
@@ -64,7 +64,7 @@ fn kind_of(literal: Literal) -> Kind
     }
 }
 
-// The number that a text spells, where 64 bits hold it.
+// Returns the number that a text spells, if it fits in 64 bits.
 fn small_number(text: &str) -> Option<u64>
     ensures { ForSome result (λ n. n ≡ magnitude text.now) }
 {
@@ -78,7 +78,7 @@ fn small_number(text: &str) -> Option<u64>
     }
 }
 
-// The text of a string, where it stands so in the source and is short.
+// Returns the text of a string, if the source spells it without escapes and it is short.
 fn short(literal: Literal, text: &str) -> Option<Short>
     ensures { IfSome result (λ s. s ≡ text_of (kind_of literal) text.now) }
 {
@@ -86,7 +86,7 @@ fn short(literal: Literal, text: &str) -> Option<Short>
     Short::of_str(piece)
 }
 
-// The text of a string, where it is not too long.
+// Returns the text of a string, and `None` if it is too long.
 fn decode(alloc: Global, literal: Literal, text: &str) -> Result<Option<Box<Text>>, AllocError>
     ensures { IfOk result (λ o. ForSome o (λ t. t.value ≡ text_of (kind_of literal) text.now)) }
 {
@@ -101,7 +101,7 @@ fn decode(alloc: Global, literal: Literal, text: &str) -> Result<Option<Box<Text
     }
 }
 
-// The spelling of a literal.
+// Returns the spelling of a literal.
 fn spelling_of(alloc: Global, text: &str) -> Result<Spelling, AllocError>
     ensures { IfOk result (λ s. spelled s ≡ text.now) }
 {
@@ -111,7 +111,7 @@ fn spelling_of(alloc: Global, text: &str) -> Result<Spelling, AllocError>
     }
 }
 
-// A literal as it stands in the source.
+// Returns a literal as it is spelled in the source.
 fn unread(alloc: Global, literal: Literal, text: &str) -> Result<Meaning, AllocError>
     requires { is_format literal ≡ false }
     ensures { IfOk result (λ m. IsTrue (means literal text.now m)) }
@@ -120,7 +120,7 @@ fn unread(alloc: Global, literal: Literal, text: &str) -> Result<Meaning, AllocE
     Ok(Meaning::Source(Box::new(alloc, text)?))
 }
 
-// What a number stands for.
+// Returns the meaning of a number.
 fn number(alloc: Global, literal: Literal, text: &str) -> Result<Meaning, AllocError>
     requires { IsTrue (is_number literal) }
     ensures { IfOk result (λ m. IsTrue (means literal text.now m)) }
@@ -131,7 +131,7 @@ fn number(alloc: Global, literal: Literal, text: &str) -> Result<Meaning, AllocE
     }
 }
 
-// What a string stands for that is no f-string.
+// Returns the meaning of a string that is no f-string.
 fn plain(alloc: Global, literal: Literal, text: &str) -> Result<Meaning, AllocError>
     requires { IsTrue (is_plain literal) }
     ensures { IfOk result (λ m. IsTrue (means literal text.now m)) }
@@ -145,7 +145,7 @@ fn plain(alloc: Global, literal: Literal, text: &str) -> Result<Meaning, AllocEr
     }
 }
 
-// What an f-string stands for.
+// Returns the meaning of an f-string.
 fn format(alloc: Global, names: &Names, literal: Literal, text: &str) -> Result<Meaning, AllocError>
     requires { IsTrue (is_format literal) }
     ensures { IfOk result (λ m. IsTrue (means literal text.now m)) }
@@ -155,7 +155,7 @@ fn format(alloc: Global, names: &Names, literal: Literal, text: &str) -> Result<
     Ok(Meaning::Format(Box::new(alloc, format)?))
 }
 
-// What a literal stands for.
+// Returns the meaning of a literal.
 fn read(alloc: Global, names: &Names, literal: Literal, text: &str) -> Result<Meaning, AllocError>
     ensures { IfOk result (λ m. IsTrue (means literal text.now m)) }
 {
@@ -171,7 +171,7 @@ fn read(alloc: Global, names: &Names, literal: Literal, text: &str) -> Result<Me
 }
 
 impl LiteralNode {
-    /// The literal of a source, over a table of names.
+    /// Returns the literal with this text in the source, and looks names up in a table.
     pub fn new(
         alloc: Global,
         names: &Names,

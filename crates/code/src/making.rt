@@ -1,4 +1,4 @@
-//! From the tree of a file to its code.
+//! Makes code from the syntax tree of a file.
 ghost use Rattle.std.specs.Prelude.{◌≡◌, IfOk, length};
 ghost use Rattle.syntax.specs.Tree.{file_of};
 ghost use Rattle.code.specs.Draft.{IsFront};
@@ -12,8 +12,8 @@ use std::alloc::{AllocError, Global};
 use std::mem;
 use syntax::tree::File;
 
-/// The code of a file. Names of variables that the table lacks go behind the others, and what was there keeps its number, also where
-/// memory is refused. The work is linear in the size of the file.
+/// Returns the code of a file. Names of variables that the table lacks are appended; names that are present keep their numbers, even if
+/// memory runs out. The work is linear in the size of the file.
 pub fn flatten(alloc: Global, file: &File<'_>, names: &mut Names) -> Result<Code, AllocError>
     ensures tree { IfOk result (λ code. code_tree names.new code ≡ file_of file.now) }
     ensures count { IfOk result (λ code. code.names ≡ length names.new) }
@@ -38,7 +38,7 @@ pub fn flatten(alloc: Global, file: &File<'_>, names: &mut Names) -> Result<Code
     })
 }
 
-/// Names that are put later change nothing of what the code stands for.
+/// Proves that code means the same after names are appended to the table.
 pub fn names_may_grow(code: &Code)
     ensures { KeepsTree code.now }
 {

@@ -1,4 +1,4 @@
-//! The table of names.
+//! Keeps the table of names.
 ghost use Rattle.std.specs.Prelude.{◌≡◌, Some, [], length, option_map, slice_get, IfOk, OnOk, OnErr, nat_eq, bytes_eq};
 ghost use Rattle.std.specs.List.{IsDistinct};
 ghost use Rattle.code.specs.Names.{number_in, with_name};
@@ -7,7 +7,7 @@ use std::alloc::{AllocError, Global};
 use std::marker::Model;
 use support::tables::{SipSet, new_set};
 
-/// Names, each once, in the order in which they were put. The number of a name is its place, from 0 on, and never changes.
+/// Names without duplicates, in the order in which they were added. The number of a name is its index, from 0, and never changes.
 #[derive(Drop)]
 pub struct Names {
     alloc: Global,
@@ -25,7 +25,7 @@ impl Model for Names {
 }
 
 impl Names {
-    /// A table without names, which takes its memory from this allocator.
+    /// Returns an empty table, which allocates with this allocator.
     pub fn new(alloc: Global) -> Names
         ensures { result ≡ [] }
     {
@@ -35,7 +35,7 @@ impl Names {
         }
     }
 
-    /// The number of a name, which goes last where it is not there.
+    /// Returns the number of a name, which is appended if it is new.
     pub fn put(&mut self, name: &str) -> Result<usize, AllocError>
         ensures names { OnOk result (self.new ≡ with_name name.now self.old) }
         ensures number { IfOk result (λ number. number_in name.now self.new ≡ Some number) }
@@ -51,14 +51,14 @@ impl Names {
         }
     }
 
-    /// The number of a name that is there.
+    /// Returns the number of a name, and `None` if it is absent.
     pub fn number_of(&self, name: &str) -> Option<usize>
         ensures { result ≡ number_in name.now self.now }
     {
         self.names.index_of_text(name)
     }
 
-    /// The name with a number.
+    /// Returns the name with a number, and `None` if there is none.
     pub fn name(&self, number: usize) -> Option<&str>
         ensures { option_map (λ n. n.now) result ≡ slice_get self.now number }
     {
@@ -66,7 +66,7 @@ impl Names {
         Some(name.as_str())
     }
 
-    /// How many names there are.
+    /// Returns the number of names.
     pub fn len(&self) -> usize
         ensures len { result ≡ length self.now }
         ensures distinct { IsDistinct bytes_eq self.now }
@@ -74,6 +74,7 @@ impl Names {
         self.names.len()
     }
 
+    /// Returns whether the table is empty.
     pub fn is_empty(&self) -> bool
         ensures { result ≡ nat_eq (length self.now) 0 }
     {

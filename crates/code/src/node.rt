@@ -1,18 +1,18 @@
-//! The nodes of expressions.
+//! Defines the nodes of expressions and statements.
 use crate::literal::LiteralNode;
 use syntax::tree::{Operator, Prefix};
 use values::Text;
 use values::language_names::{FunctionName, MethodName};
 
-/// An expression whose parts are named by their numbers in the list of nodes. Each node has the line of its first token.
+/// An expression, whose parts are given by their indexes in the list of nodes. Each node has the line of its first token.
 #[derive(Drop)]
 pub enum Node {
-    /// A name, by its number in the table of names.
+    /// A name, by its index in the table of names.
     Name {
         number: usize,
         line: usize,
     },
-    /// A literal. None of the others holds more, so the line lies beside what tells that it is a literal.
+    /// A literal. It is the largest variant, so its line is next to the tag of the enum.
     Literal {
         line: u32,
         literal: LiteralNode,
@@ -32,7 +32,7 @@ pub enum Node {
         call: Box<CallNode>,
         line: usize,
     },
-    /// `first.name(argument)[index]`: a value, and what is asked of it in turn.
+    /// `first.name(argument)[index]`: a value, and the links that follow it.
     Postfix {
         first: u32,
         links: Vec<LinkNode>,
@@ -44,7 +44,7 @@ pub enum Node {
         value: usize,
         line: usize,
     },
-    /// `first + second - third`: values with operators between them, all of one line of the grammar.
+    /// `first + second - third`: values with operators between them, all of the same precedence.
     Chain {
         first: u32,
         others: Vec<OperandNode>,
@@ -59,14 +59,14 @@ pub enum Node {
     },
 }
 
-/// A function by its name, and its arguments.
+/// A call: the name of a function, and its arguments.
 #[derive(Drop)]
 pub struct CallNode {
     pub name: FunctionName,
     pub arguments: Vec<ArgumentNode>,
 }
 
-/// An operator and the value behind it.
+/// An operator and the value after it.
 #[derive(Clone, Copy)]
 pub struct OperandNode {
     pub operator: Operator,
@@ -80,14 +80,14 @@ pub struct EntryNode {
     pub value: usize,
 }
 
-/// An argument, with its name where it is given by one.
+/// An argument, with its name if it is a keyword argument.
 #[derive(Drop)]
 pub struct ArgumentNode {
     pub name: Option<Text>,
     pub value: usize,
 }
 
-/// What is asked of a value.
+/// A link after a value.
 #[derive(Drop)]
 pub enum LinkNode {
     /// `.name(argument)`
@@ -101,26 +101,26 @@ pub enum LinkNode {
     },
 }
 
-/// A statement, whose parts are named by their numbers. Each has the line of its first token.
+/// A statement, whose parts are given by their indexes. Each has the line of its first token.
 #[derive(Drop)]
 pub enum StatementNode {
     /// `name = value`
     Assign { name: u32, line: u32, value: u32 },
     /// `name += value`
     Append { name: u32, line: u32, value: u32 },
-    /// An expression alone.
+    /// An expression as a statement.
     Expression { value: u32, line: usize },
     /// `break`
     Break { line: usize },
     /// `continue`
     Continue { line: usize },
-    /// `if`, with a part for each `elif`, up to `endif`.
+    /// `if`, with a branch for each `elif`, up to `endif`.
     If { node: Box<IfNode> },
     /// `foreach first, second : list`, up to `endforeach`.
     Foreach { node: Box<ForeachNode> },
 }
 
-/// The parts of an `if` that have a condition, and what stands behind `else`.
+/// The branches of an `if` that have a condition, and the statements after `else`.
 #[derive(Drop)]
 pub struct IfNode {
     pub line: usize,
@@ -140,7 +140,7 @@ pub struct ForeachNode {
     pub body: Vec<usize>,
 }
 
-/// A part of an `if`: a condition, and the statements that are run where it holds.
+/// A branch of an `if`: a condition, and the statements that run if it is true.
 #[derive(Drop)]
 pub struct BranchNode {
     pub condition: usize,

@@ -1,4 +1,4 @@
-//! Statements, made flat.
+//! Flattens statements.
 ghost use Rattle.std.specs.Prelude.{◌≡◌, IsTrue, IfOk, map, length};
 ghost use Rattle.std.specs.Option.{option_map};
 ghost use Rattle.syntax.specs.ExpressionTree.{expression_of};
@@ -13,7 +13,7 @@ use crate::node::{BranchNode, ForeachNode, IfNode, StatementNode};
 use std::alloc::AllocError;
 use syntax::tree::{Branch, Expression, Statement};
 
-// The node that gives a name a value, or adds one to what it has.
+// Returns the node that assigns a value to a name, or adds one to its value.
 fn set(adds: bool, name: usize, line: usize, value: usize) -> Result<StatementNode, AllocError>
     ensures { IfOk result (λ node. node ≡ set_node adds name line value) }
 {
@@ -30,7 +30,7 @@ fn set(adds: bool, name: usize, line: usize, value: usize) -> Result<StatementNo
 impl FileDraft {
     ghost use Rattle.code.specs.FileDraft.{statements_in, Extends, IsStatement, AreStatements, AreBranches};
 
-    // `name = value`, or `name += value`, which adds to what the name has.
+    // Appends `name = value`, or `name += value`, which adds to the value of the name.
     fn assign(
         &mut self,
         adds: bool,
@@ -47,7 +47,7 @@ impl FileDraft {
         self.push(node)
     }
 
-    // An expression alone.
+    // Appends an expression as a statement.
     fn value(&mut self, value: &Expression<'_>, line: usize) -> Result<usize, AllocError>
         ensures extends { Extends self.old self.new }
         ensures is { IfOk result (λ i. IsStatement self.new i (ValueTree (expression_of value.now) line)) }
@@ -57,7 +57,7 @@ impl FileDraft {
         self.push(StatementNode::Expression { value, line })
     }
 
-    // `foreach first, second : list`, over a body that is there.
+    // Appends `foreach first, second : list`, whose body is already there.
     fn foreach(
         &mut self,
         line: usize,
@@ -87,7 +87,7 @@ impl FileDraft {
         self.push(StatementNode::Foreach { node })
     }
 
-    // Puts the nodes of a statement, its own last, and answers its number.
+    // Appends the nodes of a statement, its own node last, and returns the number of that node.
     #[cycle(flatten_statement)]
     fn statement(&mut self, statement: &Statement<'_>) -> Result<usize, AllocError>
         ensures extends { Extends self.old self.new }
@@ -113,7 +113,8 @@ impl FileDraft {
         }
     }
 
-    // `foreach`: the statements of its body, and then its own. Its names come before, so that the f-strings of its body find them.
+    // Appends a `foreach`: the statements of its body, then its own node. Its names are added first, so that f-strings in its body find
+    // them.
     #[cycle(flatten_statement)]
     fn repeated(
         &mut self,
@@ -131,7 +132,7 @@ impl FileDraft {
         self.foreach(line, first, second, &round.condition, round.line, body)
     }
 
-    // `if`, its parts with a condition, and what stands behind `else`.
+    // Appends an `if`: its branches with a condition, and the statements after `else`.
     #[cycle(flatten_statement)]
     fn conditional(
         &mut self,
@@ -154,7 +155,7 @@ impl FileDraft {
         self.push(StatementNode::If { node })
     }
 
-    /// Puts the nodes of these statements, and answers their numbers.
+    /// Appends the nodes of these statements, and returns their numbers.
     #[cycle(flatten_statement)]
     pub fn body(&mut self, body: &[Statement<'_>]) -> Result<Vec<usize>, AllocError>
         ensures extends { Extends self.old self.new }

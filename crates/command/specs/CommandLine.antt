@@ -1,5 +1,5 @@
--- What a command line asks for: `meson setup [-Dname=value].. [--native-file FILE] BUILDDIR`, or `meson questions` or `meson fault` with
--- the same words.
+-- Defines what a command line asks for: `meson setup [-Dname=value].. [--native-file FILE] BUILDDIR`, or `meson questions` or `meson fault`
+-- with the same arguments.
 use Rattle.std.specs.Prelude.{◌≡◌, ◌≢◌, ◌⊎◌, ⊤, ℕ, Bool, true, List, [], Option, Some, None, codes, map, unwrap_or, option_map}
 use Rattle.std.specs.Prelude.{if◌then◌else◌, Result, Ok, Err, string_bytes}
 use Rattle.std.specs.Str.{bytes_eq}
@@ -17,13 +17,13 @@ use Rattle.command.specs.declared.line.Task.TheVariants.{Setup, Questions, Fault
 use Rattle.command.specs.declared.fault.LineFault.{LineFault}
 use Rattle.command.specs.declared.fault.LineFault.TheVariants.{Help, Usage, Memory}
 
--- ---- the command, as clap is told of it
+-- ---- the command, as `clap` knows it
 
--- `-D NAME=VALUE`, as often as wanted
+-- Returns the option `-D NAME=VALUE`, which may occur any number of times.
 abbrev pub option_rule : Rule
 option_rule = record (new_rule (codes "option")) { short = Some 68; value_names = 1; action = Some Append }
 
--- `--native-file FILE`, once
+-- Returns the option `--native-file FILE`, which may occur once.
 abbrev pub machine_file_rule : Rule
 machine_file_rule = record (new_rule (codes "native-file")) {
   long = Some (codes "native-file");
@@ -31,15 +31,15 @@ machine_file_rule = record (new_rule (codes "native-file")) {
   action = Some Set;
 }
 
--- `BUILDDIR`, which is needed
+-- Returns the argument `BUILDDIR`, which is required.
 abbrev pub folder_rule : Rule
 folder_rule = record (new_rule (codes "folder")) { value_names = 1; required = true; action = Some Set }
 
--- a task of this name, with the words that each has
+-- Returns the subcommand of a task with this name, with the arguments that each task has.
 abbrev pub task_app : List ℕ → App
 task_app name = with_rule (with_rule (with_rule (new_app name) option_rule) machine_file_rule) folder_rule
 
--- `meson` alone, which wants a subcommand and has none of help
+-- Returns `meson` by itself, which requires a subcommand and has none for help.
 abbrev pub bare_app : App
 bare_app = record (new_app (codes "meson")) {
   top = record (new_app (codes "meson")).top { disable_help_subcommand = true; subcommand_required = true };
@@ -49,17 +49,17 @@ abbrev pub meson_app : App
 meson_app = with_subcommand (with_subcommand (with_subcommand bare_app (task_app (codes "setup")).top) (task_app (codes "questions")).top)
     (task_app (codes "fault")).top
 
--- an argument of the command or of a subcommand is global
+-- Returns whether an argument of the command or of a subcommand is global.
 abbrev pub has_globals : Command → Bool
 has_globals command = (out-Command command).has_globals
 
--- ---- what clap makes of the words, of which the first is the program's name
+-- ---- how `clap` parses the words, the first of which is the program's name
 
--- the kinds of error with which a parse may end; none where it succeeds
+-- Returns the kinds of error with which a parse may end, or none if it succeeds.
 abbrev pub faults_of : List (List ℕ) → List ErrorKind
 faults_of words = fault_of meson_app words
 
--- the name of the task that a parse that succeeds found, and what it found for its arguments
+-- Returns the name of the task that a successful parse found, and the values of its arguments.
 abbrev pub found_by : List (List ℕ) → List ℕ × List Row
 found_by words = unwrap_or (subcommand_of meson_app words) ([], [])
 
@@ -73,10 +73,10 @@ task_named name =
 
 pub record Given : Type 0 where
   pub task : Task
-  -- the values of `-D`, in order
+  -- The values of `-D`, in order.
   pub words : List (List ℕ)
   pub machine_file : Option (List ℕ)
-  -- the folder of the build, without its idle parts
+  -- The path of the build directory, without empty parts and `.`.
   pub folder : List ℕ
 
 abbrev pub given_with : Task → List Row → List ℕ → Option Given
@@ -87,11 +87,11 @@ given_with task rows path = if names_build_folder path then Some (record {
   folder = tidy_path path;
 }) else None
 
--- the values that the parse found for the arguments of a task, where the folder may be one to build in
+-- Returns the values that the parse found for the arguments of a task, if something can be built in the folder.
 abbrev pub given_to : Task → List Row → Option Given
 given_to task rows = given_with task rows (unwrap_or (first_of (codes "folder") rows) [])
 
--- what the words give, where the parse succeeds
+-- Returns what the words give, if the parse succeeds.
 abbrev pub given_in : List (List ℕ) → Option Given
 given_in words = given_to (task_named (found_by words).0) (found_by words).1
 
@@ -103,41 +103,39 @@ given_by line = record {
   folder = string_bytes line.folder;
 }
 
--- a line with the values found, or the refusal of a folder in which nothing can be built
+-- Holds if the result is a line with these values, or the refusal of a folder in which nothing can be built.
 abbrev pub Gives : Task → List Row → Result Line LineFault → Type 0
 Gives task rows (Ok line) = given_to task rows ≡ Some (given_by line)
 Gives task rows (Err (Help text)) = ⊥
 Gives task rows (Err (Usage text)) = given_to task rows ≡ None
 Gives task rows (Err (Memory error)) = ⊤
 
--- a fault of the words, or want of memory for its text
+-- Holds if the fault refuses the words, or if no memory was left for its text.
 abbrev pub IsRefusal : LineFault → Type 0
 IsRefusal (Help text) = ⊥
 IsRefusal (Usage text) = ⊤
 IsRefusal (Memory error) = ⊤
 
--- what an error of clap's of this kind becomes: help, a refusal, or want of memory
+-- Holds if the fault is the one for this kind of error of `clap`: help, a refusal, or a lack of memory.
 abbrev pub FaultOfKind : ErrorKind → LineFault → Type 0
 FaultOfKind found (Help text) = found ≡ kind.DisplayHelp
 FaultOfKind found (Usage text) = (found ≢ kind.DisplayHelp) × (found ≢ kind.OutOfMemory)
 FaultOfKind found (Memory error) = ⊤
 
--- the words are not a line: clap finds another fault than a call for help, or the folder is none to
--- build in
+-- Holds if the words are no line: `clap` finds a fault other than a call for help, or nothing can be built in the folder.
 abbrev pub IsRefused : List (List ℕ) → Type 0
 IsRefused words = ((fault : ErrorKind) × IsAmong fault (faults_of words) × (fault ≢ kind.DisplayHelp))
     ⊎ ((faults_of words ≡ []) × (given_in words ≡ None))
 
--- the words are a line
+-- Holds if the words are a line.
 abbrev pub IsLine : List (List ℕ) → Type 0
 IsLine words = (faults_of words ≡ []) × ((given : Given) × (given_in words ≡ Some given))
 
--- the words are a line, or clap finds a call for help in them
+-- Holds if the words are a line, or if `clap` finds a call for help in them.
 abbrev pub IsTaken : List (List ℕ) → Type 0
 IsTaken words = IsLine words ⊎ IsAmong kind.DisplayHelp (faults_of words)
 
--- a line comes where clap's parse succeeds, with the values that it found; help and refusals come
--- only where they are due
+-- Holds if a line comes only from a successful parse, with the values that it found, and if help and refusals come only where they are due.
 abbrev pub Answers : List (List ℕ) → Result Line LineFault → Type 0
 Answers words (Ok line) = (faults_of words ≡ []) × (given_in words ≡ Some (given_by line))
 Answers words (Err (Help text)) = IsAmong kind.DisplayHelp (faults_of words)

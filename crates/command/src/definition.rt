@@ -1,4 +1,4 @@
-//! The command line, as `clap` is told of it.
+//! Describes the command line to `clap`.
 ghost use Rattle.std.specs.Prelude.{◌≡◌, IfOk, false};
 ghost use Rattle.clap.specs.Words.{app_of, rule_of, with_subcommand};
 ghost use Rattle.command.specs.CommandLine.{folder_rule, has_globals, machine_file_rule, meson_app, option_rule, task_app};
@@ -6,7 +6,7 @@ ghost use Rattle.command.specs.CommandLine.{folder_rule, has_globals, machine_fi
 use clap::{Arg, ArgAction, Command};
 use std::alloc::{AllocError, Global};
 
-/// `meson`, with a subcommand for each task.
+/// Returns the command `meson`, with a subcommand for each task.
 pub(crate) fn command<'a>(alloc: Global) -> Result<Command<'a>, AllocError>
     ensures { IfOk result (λ command. app_of command ≡ meson_app) }
 {
@@ -35,7 +35,7 @@ pub(crate) fn command<'a>(alloc: Global) -> Result<Command<'a>, AllocError>
     )
 }
 
-// The same with a task more.
+// Returns the command with one more task.
 fn with_task<'a>(
     alloc: Global,
     whole: Command<'a>,
@@ -48,7 +48,7 @@ fn with_task<'a>(
     whole.subcommand(one)
 }
 
-// `-D NAME=VALUE`, as often as wanted.
+// Returns the option `-D NAME=VALUE`, which may occur any number of times.
 fn option<'a>(alloc: Global) -> Arg<'a>
     ensures rule { rule_of result ≡ option_rule }
     ensures local { result.global ≡ false }
@@ -60,7 +60,7 @@ fn option<'a>(alloc: Global) -> Arg<'a>
         .action(ArgAction::Append)
 }
 
-// `--native-file FILE`, once.
+// Returns the option `--native-file FILE`, which may occur once.
 fn machine_file<'a>(alloc: Global) -> Arg<'a>
     ensures rule { rule_of result ≡ machine_file_rule }
     ensures local { result.global ≡ false }
@@ -72,7 +72,7 @@ fn machine_file<'a>(alloc: Global) -> Arg<'a>
         .action(ArgAction::Set)
 }
 
-// `BUILDDIR`, which is needed.
+// Returns the argument `BUILDDIR`, which is required.
 fn folder<'a>(alloc: Global) -> Arg<'a>
     ensures rule { rule_of result ≡ folder_rule }
     ensures local { result.global ≡ false }
@@ -84,7 +84,7 @@ fn folder<'a>(alloc: Global) -> Arg<'a>
         .action(ArgAction::Set)
 }
 
-// A task, with the words that each has.
+// Returns the subcommand of a task, with the arguments that each task has.
 fn task<'a>(alloc: Global, name: &'a str, about: &'a str) -> Result<Command<'a>, AllocError>
     ensures app { IfOk result (λ command. app_of command ≡ task_app name.now) }
     ensures local { IfOk result (λ command. has_globals command ≡ false) }

@@ -1,17 +1,17 @@
-//! Why a command line gives no line.
+//! Says why a command line gives no line.
 ghost use Rattle.std.specs.Prelude.{◌≡◌};
 ghost use Rattle.command.specs.declared.fault.LineFault.TheVariants.{Memory};
 
 use std::alloc::AllocError;
 use thiserror::Error;
 
-/// Why a command line gives no [`Line`](crate::Line). Its `Display` is the whole text for the user.
+/// Says why a command line gives no [`Line`](crate::Line). Its `Display` is the whole text for the user.
 #[derive(Debug, Drop, Error)]
 pub enum LineFault {
-    /// Help was asked for. The text belongs on the standard output.
+    /// The user asked for help. The text belongs on the standard output.
     #[error("{0}")]
     Help(String),
-    /// The words are no line that the program takes. The text belongs on the standard error.
+    /// The program does not accept these arguments. The text belongs on the standard error.
     #[error("{0}")]
     Usage(String),
     /// Memory ran out.

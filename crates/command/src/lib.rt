@@ -1,17 +1,18 @@
-//! The command line of the program: `meson setup [-Dname=value].. [--native-file FILE] BUILDDIR`, and `meson questions` with the same
-//! words.
+//! Reads the command line of the program: `meson setup [-Dname=value].. [--native-file FILE] BUILDDIR`, and `meson questions` and `meson
+//! fault` with the same arguments.
 //!
 //! # Decisions
 //!
-//! **The contract computes the parse.** `clap`'s contracts give, for a command that uses only plain options and positionals, the exact
-//! matches and the exact kind of error as functions of the command and the words. The command of this program is such a command, and is
-//! written once more in `specs/CommandLine.antt` as plain data, `meson_app`; the code's command is proved to be that one. So the contract
-//! of [`command_line`] says what comes of each list of words, and `proofs/Examples.antt` computes it on some. Options that would leave
-//! that fragment are not used: no groups, no `--name` that is inferred, no values that begin with a hyphen after a space. A value with a
-//! first hyphen is written `-Dname=-value`, which is one word.
+//! **The contract computes the parse.** If a command uses only plain options and positionals, `clap`'s contracts give its exact matches and
+//! kind of error. They are functions of the command and the arguments. The command of this program is such a command.
+//! `specs/CommandLine.antt` describes it once more as plain data, `meson_app`, and the code's command is proved to equal it.
 //!
-//! **No `help` subcommand and no `--version`.** `clap` would add a subcommand `help`. It is switched off: `--help` does the same, and
-//! without it each fault of a line has one meaning. There is no version to show yet.
+//! So the contract of [`command_line`] gives the result for each list of arguments, and `proofs/Examples.antt` computes it for some. The
+//! program avoids options outside that fragment: no groups, no inferred `--name`, no values that begin with a hyphen after a space. A value
+//! with a leading hyphen is written `-Dname=-value`, as one argument.
+//!
+//! **No `help` subcommand and no `--version`.** `clap` would add a subcommand `help`, which is switched off. `--help` does the same, and
+//! without the subcommand each fault of a line has one meaning. There is no version to show yet.
 #![tactic(auto)]
 
 mod definition;

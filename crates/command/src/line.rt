@@ -1,29 +1,28 @@
-//! What a command line asks for.
+//! Says what a command line asks for.
 ghost use Rattle.std.specs.Prelude.{IsTrue, string_bytes};
 ghost use Rattle.support.specs.paths.BuildFolders.{is_tidy_folder};
 
-/// What is done with a project.
+/// Names what is done with a project.
 #[derive(Clone, Copy)]
 pub enum Task {
-    /// A build is configured.
+    /// Configure a build directory.
     Setup,
-    /// What that asks of the machine is told.
+    /// Print what that asks of the machine file.
     Questions,
-    /// The fault in which that ends is told, and what it is about.
+    /// Print the fault in which that ends, and its details.
     Fault,
 }
 
-/// What a command line asks for.
+/// Holds what a command line asks for.
 #[derive(Drop)]
 pub struct Line {
-    /// What is done.
+    /// The task.
     pub task: Task,
     /// The values of `-D`, in their order.
     pub words: Vec<String>,
-    /// The machine file, as it was named.
+    /// The machine file, as the user named it.
     pub machine_file: Option<String>,
-    /// The folder of the build, relative to the source root: 1 to 64 parts divided by `/`, none of
-    /// them empty, `.` or `..`.
+    /// The path of the build directory, relative to the source root: 1 to 64 parts separated by `/`, none of them empty, `.` or `..`.
     pub folder: String,
     pub ghost tidy: { IsTrue (is_tidy_folder (string_bytes folder)) },
 }

@@ -1,4 +1,4 @@
-//! From words to a line.
+//! Reads a line from the arguments of a command line.
 ghost use Rattle.std.specs.Prelude.{◌≡◌, [], Err, IfOk, MatchResult, codes, map, option_map, string_bytes, unwrap_or};
 ghost use Rattle.clap.specs.Words.{all_of, first_of, found_of, kind_of, rows_of, subcommand_of, subcommand_rows_of};
 ghost use Rattle.command.specs.CommandLine.{Answers, FaultOfKind, Gives, IsRefusal, faults_of, meson_app, task_named};
@@ -11,7 +11,7 @@ use machine::option_values::is_built_in;
 use std::alloc::{AllocError, Global};
 use support::paths::tidy_folder;
 
-// What a parse of these words answers in place of matches, as this crate tells it.
+// Returns the fault for an error of `clap`.
 fn fault_of(alloc: Global, words: &[String], error: &Error) -> LineFault
     ensures { FaultOfKind (kind_of error.now) result }
 {
@@ -27,8 +27,8 @@ fn fault_of(alloc: Global, words: &[String], error: &Error) -> LineFault
     }
 }
 
-// A refusal for a flag that `clap` doesn't know. Where an option of Meson's was given as a flag, it says how that is given, and else this
-// text.
+// Returns the refusal of a flag that `clap` doesn't know. If a Meson option was given as a flag, the text says how to give it. Otherwise it
+// is this text.
 fn refusal_of(alloc: Global, words: &[String], text: String) -> LineFault
     ensures { IsRefusal result }
 {
@@ -39,7 +39,7 @@ fn refusal_of(alloc: Global, words: &[String], text: String) -> LineFault
     }
 }
 
-// The text for the first word that gives an option of Meson's as a flag, where there is one.
+// Returns the text for the first argument that gives a Meson option as a flag, if there is one.
 fn option_given_as_flag(alloc: Global, words: &[String]) -> Result<Option<String>, AllocError> {
     for word in words {
         let flag = name_of_flag(word.as_str());
@@ -51,7 +51,7 @@ fn option_given_as_flag(alloc: Global, words: &[String]) -> Result<Option<String
     Ok(None)
 }
 
-// The name in a word `--name` or `--name=value`; empty where it is none.
+// Returns the name in an argument `--name` or `--name=value`, or an empty text for another argument.
 fn name_of_flag(word: &str) -> &str {
     let Some(flag) = word.strip_prefix("--") else {
         return "";
@@ -70,7 +70,7 @@ fn tip(alloc: Global, flag: &str, name: &str) -> Result<String, AllocError> {
     )
 }
 
-// The text for a folder in which nothing can be built.
+// Returns the text for a folder that can't be a build directory.
 fn folder_fault(alloc: Global, task: Task, path: &str) -> Result<String, AllocError> {
     let name = match task {
         Task::Setup => "setup",
@@ -83,7 +83,7 @@ fn folder_fault(alloc: Global, task: Task, path: &str) -> Result<String, AllocEr
     )
 }
 
-// The task of a subcommand's name.
+// Returns the task of a subcommand.
 fn task_named(name: &str) -> Task
     ensures { result ≡ task_named name.now }
 {
@@ -117,7 +117,7 @@ fn texts_of(alloc: Global, texts: &[&str]) -> Result<Vec<String>, AllocError>
     Ok(copies)
 }
 
-// The values of `-D`, in order.
+// Returns the values of `-D`, in order.
 fn words_in(alloc: Global, found: &ArgMatches<'_>) -> Result<Vec<String>, AllocError>
     ensures { IfOk result (λ words. map string_bytes words.items
         ≡ unwrap_or (all_of (codes "option") (rows_of (found_of found.now))) []) }
@@ -138,7 +138,7 @@ fn machine_file_in(alloc: Global, found: &ArgMatches<'_>) -> Result<Option<Strin
     }
 }
 
-// The folder as it was given.
+// Returns the build directory, as the user gave it.
 fn path_in<'a>(found: &ArgMatches<'a>) -> &'a str
     ensures { result.now ≡ unwrap_or (first_of (codes "folder") (rows_of (found_of found.now))) [] }
 {
@@ -148,7 +148,7 @@ fn path_in<'a>(found: &ArgMatches<'a>) -> &'a str
     }
 }
 
-// The line that the parse of the words after a task's name gives.
+// Returns the line for the parsed arguments of a task.
 fn line_of(alloc: Global, task: Task, found: &ArgMatches<'_>) -> Result<Line, LineFault>
     ensures { Gives task (rows_of (found_of found.now)) result }
 {
@@ -166,7 +166,10 @@ fn line_of(alloc: Global, task: Task, found: &ArgMatches<'_>) -> Result<Line, Li
     }
 }
 
-/// Reads a command line, of which the first word is the program's name, as in `env::args`.
+/// Reads a command line. The first word is the program's name, as in `env::args`.
+///
+/// Fails with [`LineFault::Help`] if the user asked for help, and with [`LineFault::Usage`] if `clap` refuses the arguments or nothing can
+/// be built in the folder.
 pub fn command_line(alloc: Global, words: &[String]) -> Result<Line, LineFault>
     ensures { Answers (map string_bytes words.now) result }
 {

@@ -1,4 +1,4 @@
-//! Functions and methods that are looked up and called by their names, in a world without a project.
+//! Tests that functions and methods are looked up and called by their names, in a world without a project.
 
 use arguments::no_arguments;
 use interp::{CallName, call, lookup};
@@ -10,7 +10,7 @@ use std::test::Fail;
 use values::{Object, Value};
 use world::{Caller, Settings, Stop, Store};
 
-// How a look for a name or a call ends. A refusal has its number.
+// Says how a look-up of a name or a call ends. A refusal has its number.
 #[derive(Clone, Copy, Debug, PartialEq, Eq)]
 enum Ended {
     Found,
@@ -63,7 +63,7 @@ fn a_method_is_looked_up(rt: HostRuntime) -> Result<(), Fail> {
     Ok(())
 }
 
-// The world of a run in `/s` with an empty machine file, before `project` is called.
+// Returns the world of a run in `/s` with an empty machine file, before `project` is called.
 fn first_world(alloc: Global) -> Result<Store, AllocError> {
     let machine = Rc::new(alloc, Machine::empty(alloc))?;
     match Settings::new(alloc, "/s", "build", Vec::new(alloc)) {
@@ -82,7 +82,8 @@ fn end_of(answer: Result<Option<Value>, Stop>) -> Ended {
     }
 }
 
-// Calls a function or a method in a new world over an empty tree, on arguments of which none has a name, and gives how many bytes it logs.
+// Calls a function or a method in a new world over an empty tree, on arguments without keywords. It returns how the call ends, and how many
+// bytes it logs.
 fn call_alone(
     alloc: Global,
     receiver: Option<&Value>,

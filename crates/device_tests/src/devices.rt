@@ -1,4 +1,4 @@
-//! Devices, in memory and on a disk: what they answer, and what they are told.
+//! Tests devices, in memory and on a disk: what they answer, and what is written to them.
 ghost use Rattle.ports.specs.Endings.{HasRoom};
 ghost use Rattle.std.specs.Prelude.{◌≡◌, ◌+◌, ◌<◌, ◌≤◌, IfOk};
 ghost use Rattle.ports.specs.memory.MemTree.{mem_tree_seen};
@@ -13,14 +13,14 @@ use std::time::SystemTime;
 use std::{env, fs, process};
 use support::text_lists::strings;
 
-// A call of a tree: the size of a path, or a read of four bytes at most from a place on.
+// Names a call of a tree: for the size of a path, or a read of four bytes at most from an offset on.
 #[derive(Clone, Copy)]
 enum Call {
     Size(&'static str),
     Read(&'static str, u64),
 }
 
-// A call with its answer: a size, or how many bytes were read.
+// Holds a call with its answer: a size, or how many bytes were read.
 type Answered = (Call, Result<Option<u64>, DeviceFault>);
 
 fn answer<T: Tree>(tree: &mut T, call: Call) -> Result<Option<u64>, DeviceFault>
@@ -37,7 +37,7 @@ fn answer<T: Tree>(tree: &mut T, call: Call) -> Result<Option<u64>, DeviceFault>
     }
 }
 
-// Whether the tree answers these calls so, one after the other.
+// Returns whether the tree answers these calls so, one after the other.
 fn answers<T: Tree>(tree: &mut T, expected: &[Answered]) -> bool
     requires { (T.seen tree.old).failures ≡ 0 }
 {
@@ -49,7 +49,7 @@ fn answers<T: Tree>(tree: &mut T, expected: &[Answered]) -> bool
     true
 }
 
-// The files `a`, with `hello`, and `b/c`, empty. A second pair with the path `a` counts for nothing.
+// Returns the files `a`, with `hello`, and `b/c`, empty. A second pair with the path `a` counts for nothing.
 fn small_tree(alloc: Global) -> Result<MemTree, AllocError>
     ensures { IfOk result (λ tree. (mem_tree_seen tree).failures ≡ 0) }
 {
@@ -108,7 +108,7 @@ fn a_tree_answers_only_for_some_paths(rt: HostRuntime) -> Result<(), Fail> {
     Ok(())
 }
 
-// Six events, each by a call of its own where a call takes one byte.
+// Writes six events, each by a call of its own if a call takes one byte.
 #[tactic(auto, using(ports::proofs::Sending::sending))]
 fn write_sample<O: Outputs>(out: &mut O) -> Result<(), DeviceFault>
     requires { HasRoom (O.seen out.old).failures }
@@ -192,7 +192,7 @@ fn a_folder_is_written_and_read(rt: HostRuntime) -> Result<(), Fail> {
     Ok(())
 }
 
-// Begins the output `a`, puts these bytes into it, and ends it where it is to be whole.
+// Begins the output `a`, writes these bytes to it, and ends it if `is_whole`.
 fn write_output<O: Outputs>(out: &mut O, bytes: &[u8], is_whole: bool) -> Result<(), DeviceFault>
     requires { HasRoom (O.seen out.old).failures }
 {
@@ -201,7 +201,7 @@ fn write_output<O: Outputs>(out: &mut O, bytes: &[u8], is_whole: bool) -> Result
     if is_whole { out.close() } else { Ok(()) }
 }
 
-// Writes the output `a` below this folder, and says what stands there then.
+// Writes the output `a` below this folder, and returns what is there then.
 fn after_output(
     rt: &HostRuntime,
     folder: &str,

@@ -1,6 +1,6 @@
-//! Tests of calls that the program can't show: devices in memory with their plans, and templates over them; the text of edges that no
-//! project has yet. Runs over such devices are tests of `meson`; what the program shows of whole runs, with its own
-//! devices and memory failing too, is written as cases.
+//! Tests calls that no run of the program shows: devices in memory with their plans, templates over them, and the text of edges that no
+//! project has yet. Tests of whole runs over such devices are in `meson`. What the program shows of whole runs is tested by cases, with its
+//! own devices, and with memory that runs out.
 #![tactic(auto)]
 
 #[cfg(test)]

@@ -1,4 +1,4 @@
-//! The text of edges of which no project of today has one.
+//! Tests the text of edges that no project has yet.
 ghost use Rattle.ports.specs.Endings.{HasRoom};
 
 use build::edge::{Edge, Rule, are_writable, can_hold_path, can_hold_value};
@@ -12,7 +12,7 @@ use support::text_lists::strings;
 // More events than any of these texts takes.
 const ROOM: usize = 1_000;
 
-// The bytes of outputs, one after another.
+// Returns the bytes of outputs, one after another.
 fn put_bytes(alloc: Global, out: &MemOutputs) -> Result<Vec<u8>, AllocError> {
     let mut bytes = Vec::new(alloc);
     for at in 0..out.event_count() {

@@ -1,5 +1,5 @@
-//! Templates over devices in memory: where the log stands in what is written, whichever call of a device fails, and files that are longer
-//! or shorter than they say.
+//! Tests templates over devices in memory: at which point the log is written, whichever call of a device fails, and files that are longer
+//! or shorter than their sizes say.
 ghost use Rattle.ports.specs.Endings.{HasRoom};
 ghost use Rattle.ports.specs.memory.MemTree.{mem_tree_seen};
 ghost use Rattle.std.specs.Prelude.{◌≡◌, ◌<◌, [], length, false, IfOk};
@@ -10,7 +10,7 @@ use std::alloc::{AllocError, Global};
 use std::test::Fail;
 use template::{ConfigData, ConfigValue, LINE_LIMIT, PassStop, header, pass};
 
-// How a template went over devices of which one was to fail once.
+// Says how a template was written over devices of which one was to fail once.
 #[derive(Clone, Copy, Debug, PartialEq, Eq)]
 enum Outcome {
     // The call did not come: all was written.
@@ -20,14 +20,15 @@ enum Outcome {
     Wrong,
 }
 
-// The device of which a call is to fail.
+// Names the device of which a call is to fail.
 #[derive(Clone, Copy, Debug, PartialEq, Eq)]
 enum Device {
     Tree,
     Outputs,
 }
 
-// How the devices are to behave: how many bytes a call gives or takes, and which call of which device fails; none where it is call 0.
+// Says how the devices are to behave: how many bytes a call gives or takes, and which call of which device fails. None fails if it is call
+// 0.
 #[derive(Clone, Copy)]
 struct Plan {
     read_piece: usize,
@@ -38,7 +39,7 @@ struct Plan {
 }
 
 impl Plan {
-    // The number of the call of this device that fails, or 0.
+    // Returns the number of the call of this device that fails, or 0.
     fn failing(self, device: Device) -> u64 {
         if self.fails.0 == device {
             self.fails.1
@@ -48,8 +49,8 @@ impl Plan {
     }
 }
 
-// What outputs took: the bytes of the files as they stand, `<name>` and `</>` where one was begun and ended, and a stretch of the log
-// between `{` and `}`, of which the `}` stands where something else follows.
+// Returns what was written to outputs: the bytes of the files as they are, and `<name>` and `</>` where one was begun and ended. A stretch
+// of the log is between `{` and `}`, and the `}` is written once something else follows.
 fn show(alloc: Global, out: &MemOutputs) -> Result<Vec<u8>, AllocError> {
     let mut shown = Vec::new(alloc);
     let mut in_log = false;
@@ -74,14 +75,14 @@ fn show(alloc: Global, out: &MemOutputs) -> Result<Vec<u8>, AllocError> {
     Ok(shown)
 }
 
-// Room for a line of a template.
+// Returns room for a line of a template.
 fn line_room(alloc: Global) -> Result<Vec<u8>, AllocError>
     ensures { IfOk result (λ room. length room.items ≡ 65536) }
 {
     vec![in alloc; 0u8; LINE_LIMIT]
 }
 
-// A header without template, a template that is written whole, and one with a line that is refused.
+// Writes a header without template, a template that is written whole, and one with a line that is refused.
 fn write_three<T: Tree, O: Outputs>(
     tree: &mut T,
     config: &ConfigData,
@@ -112,7 +113,7 @@ const WRITTEN: &str = "<a.h>/* Generated. Do not edit. */\n#pragma once\n\n#defi
     {WARNING: c.h.in:3: no value for B\nWARNING: c.h.in:3: no value for C\n}true\\{WARNING: c.h.in:3: no value for B\n}</>\
     <b.h>one\ntwo\n";
 
-// The files that are read, over a tree that behaves by this plan.
+// Returns the files that are read, over a tree that behaves by this plan.
 fn tree_of(alloc: Global, plan: Plan) -> Result<MemTree, AllocError>
     ensures { IfOk result (λ tree. (mem_tree_seen tree).failures ≡ 0) }
 {
@@ -129,7 +130,7 @@ fn tree_of(alloc: Global, plan: Plan) -> Result<MemTree, AllocError>
     ))
 }
 
-// How the three are written over devices that behave by this plan. `A` is true, nothing else has a value.
+// Returns how the three are written over devices that behave by this plan. `A` is true, and nothing else has a value.
 fn ran(alloc: Global, plan: Plan) -> Result<Outcome, Fail> {
     let mut config = ConfigData::new(alloc);
     config.set("A", ConfigValue::Boolean(true))?;
@@ -144,7 +145,8 @@ fn ran(alloc: Global, plan: Plan) -> Result<Outcome, Fail> {
     Ok(judge(plan.fails.0, stop, shown.as_slice()))
 }
 
-// What a call of the outputs took before it failed is less than all; a call of the tree may fail behind the last byte that is written.
+// Returns the outcome of a run. What was written before a call of the outputs failed is less than all. A call of the tree may fail after
+// the last byte is written.
 fn judge(device: Device, stop: Option<PassStop>, shown: &[u8]) -> Outcome {
     let is_begun = WRITTEN.as_bytes().starts_with(shown);
     let is_whole = is_begun && shown.len() == WRITTEN.len();
@@ -178,7 +180,7 @@ fn pieces_change_nothing(rt: HostRuntime) -> Result<(), Fail> {
 // More than the calls of one device in each run of these tests.
 const CALLS: u64 = 1000;
 
-// How many calls a run makes of this device, where it goes right whichever of them fails.
+// Returns how many calls of this device a run makes, or `None` if a run goes wrong after one of them failed.
 fn calls_of(alloc: Global, device: Device, piece: usize) -> Result<Option<u64>, Fail>
     requires { 0 < piece }
 {
@@ -197,7 +199,8 @@ fn calls_of(alloc: Global, device: Device, piece: usize) -> Result<Option<u64>, 
     Ok(None)
 }
 
-// The 35 and the 25 bytes of the templates, and how large they are; the begin and the end of outputs, and each byte that is written.
+// The calls of the tree are for the 35 and the 25 bytes of the templates, and for their sizes. Those of the outputs are for the begin and
+// the end of outputs, and for each byte that is written.
 #[test]
 fn each_call_fails(rt: HostRuntime) -> Result<(), Fail> {
     for (device, piece, calls) in [
@@ -219,7 +222,7 @@ fn each_call_fails(rt: HostRuntime) -> Result<(), Fail> {
     Ok(())
 }
 
-// A tree whose only file tells a size, or is absent, and has so many `a`.
+// Holds a tree whose only file has a size, or is absent, and has so many `a`.
 #[derive(Drop)]
 struct OddTree {
     size: Option<u64>,
@@ -247,7 +250,7 @@ impl Tree for OddTree {
     }
 }
 
-// Passes the odd file, and says how that ended and how many bytes it wrote.
+// Passes the odd file, and returns how that ended and how many bytes it wrote.
 fn pass_odd(
     alloc: Global,
     size: Option<u64>,
@@ -262,7 +265,7 @@ fn pass_odd(
     Ok((stop, out.event_count().saturating_sub(1)))
 }
 
-// No more is read than the size, an earlier end is the end of the file, and an absent file is empty.
+// No more is read than the size says, an earlier end is the end of the file, and an absent file is empty.
 #[test]
 fn files_end_before_or_behind_their_size(rt: HostRuntime) -> Result<(), Fail> {
     for (size, bytes, stop, written) in [

@@ -1,4 +1,4 @@
--- What a call answers: the run of the tree that the slices spell.
+-- Defines what a call answers: the run of the tree that the slices spell.
 use Rattle.std.specs.Prelude.{◌≡◌, ℕ, List, None, length}
 use Rattle.ports.specs.Outputs.{told}
 use Rattle.outputs.specs.build_file.Concluding.{Whole}
@@ -15,21 +15,21 @@ use Rattle.embedding.specs.MakingSettings.{AreNoSettings}
 use Rattle.embedding.specs.declared.ending.Ending.{Ending}
 use Rattle.embedding.specs.declared.ending.Ending.TheVariants as ends
 
--- all that a run tells, as bytes
+-- Returns everything that a run writes, as bytes.
 abbrev pub answer_of : Whole → List ℕ
 answer_of run = encoding (told None run.steps)
 
--- The status is the run's. The length is that of the run's answer, with which the room begins, as far as there is room.
+-- The status and the length are those of the run's answer, and the room begins with as much of the answer as fits.
 pub record Answers (run : Whole) (status : Status) (room : List ℕ) (len : ℕ) : Type 0 where
   pub is_status : status ≡ run.status
   pub is_length : len ≡ length (answer_of run)
   pub filled : IsFilled room (answer_of run)
 
--- the run of these files, with the settings that are given
+-- Returns the run of these files, with the settings that are given.
 abbrev pub run_given : Task → GivenData → Files → List (List ℕ) → MachineSaid → Whole
 run_given task given files options said = run_by task files (settings_of given.source_root given.build_folder options) said
 
--- how a call ends over slices that mean these files, option words and what a machine file says
+-- Holds of the ending, the room and the length after a call over slices with this meaning.
 abbrev pub Ends : Task → GivenData → Files → List (List ℕ) → MachineSaid → Ending → List ℕ → ℕ → Type 0
 Ends task given files options said ends.Done room len = Answers (run_given task given files options said) statuses.Done room len
 Ends task given files options said ends.Fault room len = Answers (run_given task given files options said) statuses.Fault room len
@@ -37,12 +37,12 @@ Ends task given files options said ends.Memory room len = Unit {0}
 Ends task given files options said ends.Settings room len = AreNoSettings given
 Ends task given files options said ends.Slices room len = ⊥
 
--- nothing was written
+-- Nothing was written.
 pub record IsUntouched (old new : List ℕ) (len : ℕ) : Type 0 where
   pub room : new ≡ old
   pub none : len ≡ 0
 
--- where nothing was run, nothing was written
+-- Holds if nothing was written unless something was run.
 abbrev pub Keeps : Ending → List ℕ → List ℕ → ℕ → Type 0
 Keeps ends.Done old new len = Unit {0}
 Keeps ends.Fault old new len = Unit {0}

@@ -1,4 +1,4 @@
--- The bytes of a run's answer.
+-- Defines the bytes of a run's answer.
 use Rattle.std.specs.Prelude.{◌≡◌, ℕ, List, ◌∷◌, ◌++◌, length, take}
 use Rattle.std.specs.List.{flat_map}
 use Rattle.std.specs.Int.{to_le_bytes, w64}
@@ -7,7 +7,7 @@ use Rattle.byte_devices.specs.declared.piece.Kind.TheVariants.{Open, Bytes, Clos
 use Rattle.byte_devices.specs.Pieces.{PieceData, pieces_of}
 use Rattle.ports.specs.Outputs.{Event}
 
--- the first byte of an event: `O`, `B`, `C`, `L` or `E`
+-- Returns the first byte of an event: `O`, `B`, `C`, `L` or `E`.
 abbrev pub kind_byte : Kind → ℕ
 kind_byte Open = 79
 kind_byte Bytes = 66
@@ -15,18 +15,18 @@ kind_byte Close = 67
 kind_byte Log = 76
 kind_byte Fault = 69
 
--- an event: its kind, how many bytes it has, as eight bytes with the lowest first, and these bytes
+-- Returns an event: its kind, the number of its bytes, as eight bytes with the lowest first, and these bytes.
 abbrev pub piece_bytes : PieceData → List ℕ
 piece_bytes p = kind_byte p.kind ∷ (to_le_bytes w64 (length p.bytes) ++ p.bytes)
 
--- pieces, one behind the other
+-- Returns the pieces, one after another.
 unfoldable pub bytes_of : List PieceData → List ℕ
 bytes_of ps = flat_map piece_bytes ps
 
--- the events of a run, with the bytes of one kind that follow one another joined
+-- Returns the events of a run, with the bytes of one kind that follow one another joined.
 abbrev pub encoding : List Event → List ℕ
 encoding events = bytes_of (pieces_of events)
 
--- the room begins with as many of these bytes as it has room for
+-- Holds if the room begins with as many of these bytes as it has room for.
 abbrev pub IsFilled : (room bytes : List ℕ) → Type 0
 IsFilled room bytes = take (length bytes) room ≡ take (length room) bytes

@@ -1,4 +1,4 @@
--- What a caller gives, and what it means.
+-- Defines what a caller passes, and its meaning.
 use Rattle.std.specs.Prelude.{ℕ, List}
 use Rattle.std.specs.Str.{IsUtf8}
 use Rattle.byte_devices.specs.Slices.{Spells}
@@ -6,7 +6,7 @@ use Rattle.byte_devices.specs.Texts.{SpellsTexts}
 use Rattle.machine.specs.machine_file.Answers.{IsSaid, MachineSaid}
 use Rattle.world.specs.Deed.{Files}
 
--- what a caller gives, as bytes
+-- What a caller passes, as bytes.
 pub record GivenData : Type 0 where
   pub paths : List ℕ
   pub sizes : List ℕ
@@ -16,7 +16,7 @@ pub record GivenData : Type 0 where
   pub source_root : List ℕ
   pub build_folder : List ℕ
 
--- the slices mean these files, these option words and what a machine file says
+-- The slices mean these files, these option words and this reading of a machine file.
 pub record Means (given : GivenData) (files : Files) (options : List (List ℕ)) (said : MachineSaid) : Type 0 where
   pub tree : Spells given.paths given.sizes given.contents files
   pub are_options : SpellsTexts given.words options

@@ -1,4 +1,4 @@
--- What a caller gives, without where it lies in memory.
+-- Defines what a caller passes, without its place in memory.
 use Rattle.embedding.specs.Given.{GivenData}
 use Rattle.embedding.specs.declared.given.Given.{Given}
 

@@ -1,4 +1,4 @@
--- The settings of what a caller gives, and why there are none.
+-- Defines the settings that a caller passes, and why there are none.
 use Rattle.std.specs.Prelude.{◌≡◌, ℕ, ◌&&◌, false, List, Result, Ok, Err}
 use Rattle.std.specs.Str.{IsUtf8}
 use Rattle.support.specs.paths.Below.{is_absolute}
@@ -11,19 +11,20 @@ use Rattle.embedding.specs.Given.{GivenData}
 use Rattle.embedding.specs.declared.given.Refused.{Refused}
 use Rattle.embedding.specs.declared.given.Refused.TheVariants as refusals
 
--- the source root is no absolute path, or the build folder none to build in
+-- Holds if the source root is no absolute path, or nothing can be built in the build directory.
 abbrev pub AreNoSettings : GivenData → Type 0
 AreNoSettings given = (is_absolute given.source_root && names_build_folder given.build_folder) ≡ false
 
--- no texts are given
+-- Holds if the slices spell no texts.
 abbrev pub AreNoTexts : GivenData → Type 0
 AreNoTexts given = (options : List (List ℕ)) → SpellsTexts given.words options → IsUtf8 given.source_root → IsUtf8 given.build_folder → ⊥
 
--- the settings are those of the words, the source root and the build folder
+-- Holds if the settings are those of the words, the source root and the build directory.
 abbrev pub AreSettings : GivenData → Settings → Type 0
 AreSettings given s =
     (options : List (List ℕ)) → SpellsTexts given.words options → settings_view s ≡ settings_of given.source_root given.build_folder options
 
+-- Holds if these settings are made, or if the slices are refused so, or memory ran out.
 abbrev pub MakesSettings : GivenData → Result Settings Refused → Type 0
 MakesSettings given (Ok s) = AreSettings given s
 MakesSettings given (Err refusals.Slices) = AreNoTexts given

@@ -1,4 +1,4 @@
--- How a kept run is answered.
+-- Defines how a kept run is answered.
 use Rattle.std.specs.Prelude.{ℕ, List}
 use Rattle.outputs.specs.build_file.Concluding.{Whole}
 use Rattle.outputs.specs.declared.build_file.concluding.Status.TheVariants as statuses
@@ -10,16 +10,18 @@ use Rattle.embedding.specs.declared.given.Refused.TheVariants as refusals
 use Rattle.embedding.specs.declared.running.Finished.{Finished}
 use Rattle.embedding.specs.declared.running.Finished.TheVariants as finishes
 
+-- Returns the ending of a run that finished so.
 abbrev pub ending_of : Finished → Ending
 ending_of finishes.Done = ends.Done
 ending_of finishes.Fault = ends.Fault
 
+-- Returns the ending of a call that is refused so.
 abbrev pub ending_at : Refused → Ending
 ending_at refusals.Slices = ends.Slices
 ending_at refusals.Settings = ends.Settings
 ending_at refusals.Memory = ends.Memory
 
--- the run is answered, or its length is no number
+-- Holds if the run is answered, or if its length does not fit in 64 bits.
 abbrev pub Answered : Whole → Ending → List ℕ → ℕ → Type 0
 Answered run ends.Done room len = Answers run statuses.Done room len
 Answered run ends.Fault room len = Answers run statuses.Fault room len
@@ -27,7 +29,7 @@ Answered run ends.Memory room len = Unit {0}
 Answered run ends.Settings room len = ⊥
 Answered run ends.Slices room len = ⊥
 
--- an ending of a call that ran something
+-- Holds if the ending is that of a call that ran something.
 abbrev pub IsOfRun : Ending → Type 0
 IsOfRun ends.Done = Unit {0}
 IsOfRun ends.Fault = Unit {0}

@@ -1,4 +1,4 @@
--- The statuses of the calls for C.
+-- Defines the statuses of the calls for C.
 use Rattle.std.specs.Prelude.{◌≡◌, ℕ, List}
 use Rattle.command.specs.declared.line.Task.{Task}
 use Rattle.machine.specs.machine_file.Answers.{MachineSaid}
@@ -8,7 +8,7 @@ use Rattle.embedding.specs.Given.{GivenData}
 use Rattle.embedding.specs.declared.ending.Ending.{Ending}
 use Rattle.embedding.specs.declared.ending.Ending.TheVariants as ends
 
--- the status of each ending
+-- Returns the status of each ending.
 abbrev pub status_of : Ending → ℕ
 status_of ends.Done = 0
 status_of ends.Fault = 1
@@ -27,11 +27,11 @@ given_as paths sizes contents words machine source_root build_folder = record {
   build_folder = build_folder;
 }
 
--- the status is that of an ending that fits
+-- Holds if the status is that of an ending for which `Ends` holds.
 abbrev pub EndsWith : Task → GivenData → Files → List (List ℕ) → MachineSaid → ℕ → List ℕ → ℕ → Type 0
 EndsWith task given files options said status room len =
     (e : Ending) × (status ≡ status_of e) × Ends task given files options said e room len
 
--- the same of what a call keeps
+-- Holds if the status is that of an ending for which `Keeps` holds.
 abbrev pub KeepsAt : ℕ → List ℕ → List ℕ → ℕ → Type 0
 KeepsAt status old new len = (e : Ending) × (status ≡ status_of e) × Keeps e old new len

@@ -1,11 +1,11 @@
-//! The bytes of an answer, as far as there is room for them.
+//! Writes the bytes of an answer, as many as there is room for.
 ghost use Rattle.std.specs.Prelude.{◌≡◌, ◌+◌, ◌++◌, ◌≤◌, ℕ, List, length, IfSome, IfNone, IsTrue};
 ghost use Rattle.byte_devices.specs.PiecesView.{piece_view, pieces_view};
 ghost use Rattle.embedding.specs.Encoding.{IsFilled, bytes_of, kind_byte, piece_bytes};
 
 use byte_devices::{Kind, Piece};
 
-// How many bytes an event has in front of those that are its own.
+// The number of bytes of an event before its own bytes.
 const HEAD: usize = 9;
 
 fn kind_byte(kind: Kind) -> u8
@@ -20,7 +20,7 @@ fn kind_byte(kind: Kind) -> u8
     }
 }
 
-// Puts bytes behind those that are in the room already, as far as they fit.
+// Writes bytes after those that are in the room, as many as fit.
 fn put(room: &mut [u8], at: usize, bytes: &[u8])
     ensures { (before : List ℕ) → length before ≡ at → IsFilled room.old before → IsFilled room.new (before ++ bytes.now) }
 {
@@ -31,7 +31,7 @@ fn put(room: &mut [u8], at: usize, bytes: &[u8])
     room[at..at + count].copy_from_slice(&bytes[..count]);
 }
 
-// Puts an event behind what is in the room, and says where it ends, or nothing where that is no number.
+// Writes an event after what is in the room, and returns where it ends. Returns `None` if that is no `usize`.
 fn write_piece(room: &mut [u8], at: usize, piece: &Piece) -> Option<usize>
     ensures { IfSome result (λ end. (before : List ℕ) → length before ≡ at → IsFilled room.old before
         → IsFilled room.new (before ++ piece_bytes (piece_view piece.now))
@@ -50,7 +50,7 @@ fn write_piece(room: &mut [u8], at: usize, piece: &Piece) -> Option<usize>
     Some(end)
 }
 
-/// Writes these pieces into the room, as far as they fit, and says how many bytes they have, or nothing where that is no number.
+/// Writes these pieces into the room, as many bytes as fit, and returns how many bytes they have. Returns `None` if that is no `usize`.
 pub fn write_pieces(room: &mut [u8], pieces: &[Piece]) -> Option<usize>
     ensures { IfSome result (λ len. IsFilled room.new (bytes_of (pieces_view pieces.now))
         × (len ≡ length (bytes_of (pieces_view pieces.now)))) }

@@ -1,7 +1,7 @@
-//! How a call ends.
+//! Says how a call ends.
 ghost use Rattle.std.specs.Prelude.{◌≡◌};
 
-/// How a call ends.
+/// Says how a call ends.
 #[derive(Clone, Copy, Debug, PartialEq, Eq)]
 pub enum Ending {
     /// The run wrote all its outputs.
@@ -10,7 +10,7 @@ pub enum Ending {
     Fault,
     /// Memory ran out.
     Memory,
-    /// The source directory is no absolute path, or the build directory is none to build in.
+    /// The source directory is no absolute path, or nothing can be built in the build directory.
     Settings,
     /// The slices spell no tree of files or no option words, or a directory isn't UTF-8.
     Slices,
@@ -19,7 +19,7 @@ pub enum Ending {
 impl Ending {
     ghost use Rattle.embedding.specs.Status.{status_of};
 
-    /// The status for C.
+    /// Returns the status for C.
     pub fn status(self) -> u8
         ensures { result ≡ status_of self }
     {

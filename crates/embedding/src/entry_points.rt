@@ -1,4 +1,4 @@
-//! One call for each task.
+//! Runs each task over slices.
 ghost use Rattle.std.specs.Prelude.{ℕ, List};
 ghost use Rattle.command.specs.declared.line.Task.TheVariants as tasks;
 ghost use Rattle.interp.specs.Evaluation.{MachineSaid};
@@ -31,7 +31,7 @@ pub fn questions(alloc: Global, given: &Given<'_>, room: &mut [u8], length: &mut
     run(alloc, Task::Questions, given, room, length)
 }
 
-/// Says in which fault the project ends and what that is about, as `meson fault` does.
+/// Reports the fault in which the project ends, and its details, as `meson fault` does.
 pub fn fault(alloc: Global, given: &Given<'_>, room: &mut [u8], length: &mut u64) -> Ending
     ensures run { (files : Files) (options : List (List ℕ)) (said : MachineSaid) → Means (given_view given.now) files options said
         → Ends tasks.Fault (given_view given.now) files options said result room.new length.new }

@@ -1,4 +1,4 @@
-//! What a caller gives.
+//! Holds what a caller passes for a run.
 ghost use Rattle.embedding.specs.GivenView.{given_view};
 ghost use Rattle.embedding.specs.MakingSettings.{MakesSettings};
 
@@ -6,7 +6,7 @@ use byte_devices::{TextsFault, texts};
 use std::alloc::Global;
 use world::{Settings, SettingsFault};
 
-/// What a caller gives for a run, as bytes.
+/// Holds what a caller passes for a run, as bytes.
 #[derive(Clone, Copy)]
 pub struct Given<'a> {
     /// The paths of the files, each ended by a zero byte.
@@ -15,9 +15,9 @@ pub struct Given<'a> {
     pub sizes: &'a [u64],
     /// The contents of the files, joined.
     pub contents: &'a [u8],
-    /// The option words, `name=value` each, each ended by a zero byte.
+    /// The option words, each `name=value` and ended by a zero byte.
     pub words: &'a [u8],
-    /// The bytes of the machine file. There are none if there is no machine file.
+    /// The bytes of the machine file, or none if there is no machine file.
     pub machine: &'a [u8],
     /// The path of the source directory, an absolute path.
     pub source_root: &'a [u8],
@@ -25,18 +25,18 @@ pub struct Given<'a> {
     pub build_folder: &'a [u8],
 }
 
-/// Why a run can't begin.
+/// Says why a run can't begin.
 #[derive(Clone, Copy, Debug, PartialEq, Eq)]
 pub enum Refused {
     /// The slices spell no tree of files or no option words, or a directory isn't UTF-8.
     Slices,
-    /// The source directory is no absolute path, or the build directory is none to build in.
+    /// The source directory is no absolute path, or nothing can be built in the build directory.
     Settings,
     /// Memory ran out.
     Memory,
 }
 
-/// The settings of what a caller gives.
+/// Returns the settings that a caller passes.
 pub fn make_settings(alloc: Global, given: &Given<'_>) -> Result<Settings, Refused>
     ensures { MakesSettings (given_view given.now) result }
 {

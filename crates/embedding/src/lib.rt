@@ -1,11 +1,11 @@
-//! A run as a function from slices to bytes, for callers in other languages.
+//! Runs a task as a function from slices to bytes, for callers in other languages.
 //!
-//! A caller gives seven slices ([`Given`]): the paths, sizes and contents of a source tree, the option words, the bytes of the machine
+//! A caller passes seven slices ([`Given`]): the paths, sizes and contents of a source tree, the option words, the bytes of the machine
 //! file, and the two directories. [`setup`], [`questions`] and [`fault`] run over the tree that the slices spell, and write what the run
-//! tells into the caller's room: a list of events.
+//! writes into the caller's room, as a list of events.
 //!
-//! An event is a kind byte, a length of eight bytes with the lowest first, and that many bytes. `O` begins an output (the bytes are its
-//! name), `B` has bytes of the open output, `C` ends it, `L` has bytes of the log and `E` bytes of a fault's line. Bytes of one kind that
+//! An event is a kind byte, a length of eight bytes, the lowest first, and that many bytes. `O` begins an output (the bytes are its name),
+//! `B` has bytes of the open output, and `C` ends it. `L` has bytes of the log, and `E` bytes of a fault's line. Bytes of one kind that
 //! follow one another are one event.
 //!
 //! Every call says how many bytes the whole answer has. The room gets as many of them as fit. A call keeps no state: it is a function of

@@ -1,4 +1,4 @@
-//! A run over slices.
+//! Runs a task over slices.
 ghost use Rattle.std.specs.Prelude.{◌≡◌, ℕ, List};
 ghost use Rattle.byte_devices.specs.Slices.{Spells};
 ghost use Rattle.interp.specs.Evaluation.{IsSaid, MachineSaid};
@@ -18,21 +18,21 @@ use byte_devices::{KeptOutputs, SliceTree, TreeFault};
 use meson::{Inputs, Settings, Status, Task, perform};
 use std::alloc::Global;
 
-// How a run came to its end.
+// Says how a run came to its end.
 #[derive(Clone, Copy)]
 enum Finished {
     Done,
     Fault,
 }
 
-// A run that came to its end, and what its outputs took.
+// Holds a run that came to its end, and what its outputs took.
 #[derive(Drop)]
 struct KeptRun {
     finished: Finished,
     out: KeptOutputs,
 }
 
-// Does what the task says over the tree that the slices spell, and keeps what the run writes.
+// Runs the task over the tree that the slices spell, and keeps what the run writes.
 fn keep_run(
     alloc: Global,
     task: Task,
@@ -61,7 +61,7 @@ fn keep_run(
             finished: Finished::Fault,
             out,
         }),
-        // The tree never fails, and the outputs fail only where memory runs out.
+        // Returns the ending of a finished run. The tree never fails, and the outputs fail only if memory runs out.
         Status::Device => Err(Refused::Memory),
         Status::Memory => Err(Refused::Memory),
     }
@@ -98,8 +98,8 @@ fn answer(kept: &KeptRun, room: &mut [u8], length: &mut u64) -> Ending
     ending_of(kept.finished)
 }
 
-/// Does what the task says over the tree that the slices spell, and writes what the run tells into the room, as far as it fits.
-/// `length` is how many bytes that is in whole.
+/// Runs the task over the tree that the slices spell, and writes what the run writes into the room, as many bytes as fit. `length` becomes
+/// the number of all bytes.
 pub fn run(
     alloc: Global,
     task: Task,
@@ -107,8 +107,8 @@ pub fn run(
     room: &mut [u8],
     length: &mut u64,
 ) -> Ending
-    // Where the slices mean these files, option words and what a machine file says, the ending is that of the task's run, and the room
-    // begins with what that run tells, unless memory ran out or no settings are given.
+    // Let the slices mean these files, option words and reading of a machine file. Then the ending is that of the task's run, and the room
+    // begins with what that run writes. This holds unless memory ran out or no settings are given.
     ensures run { (files : Files) (options : List (List ℕ)) (said : MachineSaid) → Means (given_view given.now) files options said
         → Ends task (given_view given.now) files options said result room.new length.new }
 

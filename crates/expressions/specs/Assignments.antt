@@ -1,4 +1,4 @@
--- Variables that take values.
+-- Defines how variables are assigned.
 use Rattle.std.specs.Prelude.{ℕ, Bool, true, false, List, Option, Some, None, refl}
 use Rattle.std.specs.Option.{option_and_then}
 use Rattle.values.specs.declared.object.Object.{Object}
@@ -17,55 +17,60 @@ use Rattle.world.specs.Plan.{Plan, deed, ◌>>=◌, give, refuse, answered}
 use Rattle.expressions.specs.Forms.{variable}
 use Rattle.expressions.specs.Rounds.{Round}
 
+-- Returns the number of configuration data, and none for any other object.
 abbrev pub configuration_of : Object → Option ℕ
 configuration_of (objects.ConfigurationData number) = Some number
 configuration_of o = None
 
--- the number of configuration data
+-- Returns the number of configuration data, and none for any other value.
 abbrev pub configuration_in : Data → Option ℕ
 configuration_in d = option_and_then configuration_of (object_in d)
 
+-- Returns a copy of configuration data as a value.
 abbrev pub copied : ℕ → Plan Data
 copied number = do
   copy ← deed (copy_configuration number)
   give (object (objects.ConfigurationData copy))
 
+-- Returns a copy of the configuration data with a number, or the value if it has no number.
 abbrev pub own_by : Option ℕ → Data → Plan Data
 own_by (Some number) d = copied number
 own_by None d = give d
 
--- of configuration data a copy, which may be changed again; anything else is as it is
+-- Returns a copy of configuration data, which is not frozen, and any other value unchanged.
 abbrev pub own : Data → Plan Data
 own d = own_by (configuration_in d) d
 
+-- Assigns a value to a variable, or refuses, by whether the name is predefined.
 abbrev pub assigned_by : Bool → ℕ → List ℕ → Data → Plan (Unit {0})
 assigned_by true line name d = refuse line refusals.Arguments (broken rules.IsSettable name)
 assigned_by false line name d = deed (change (with_variable name (Some d)) (λ facts. refl))
 
--- a variable takes a value, unless the name stands for a thing of the run
+-- Assigns a value to a variable, and refuses a predefined name (E9).
 abbrev pub assigned : ℕ → List ℕ → Data → Plan (Unit {0})
 assigned line name d = assigned_by (is_predefined name) line name d
 
--- a variable takes the sum of two values
+-- Assigns the sum of two values to a variable.
 abbrev pub added : ℕ → List ℕ → Data → Data → Plan (Unit {0})
 added line name d e = do
   sum ← answered line (binary_answer Add d e)
   assigned line name sum
 
--- a variable takes the sum of what it has and a value
+-- Assigns to a variable the sum of its value and another.
 abbrev pub summed : ℕ → List ℕ → Data → Plan (Unit {0})
 summed line name e = do
   d ← variable line name
   added line name d e
 
--- The variable is looked for first, and read when its other side has a value: an expression that has one changes no variable.
+-- Defines `name += value`. The variable is looked up first, and read again once the right side has a value: an expression with a value
+-- changes no variable.
 abbrev pub appended : ℕ → List ℕ → Plan Data → Plan (Unit {0})
 appended line name value = do
   _ ← variable line name
   e ← value
   summed line name e
 
--- the variables of a round take their values
+-- Assigns the values of a loop round to its variables.
 abbrev pub bound : ℕ → List ℕ → Option (List ℕ) → Round → Plan (Unit {0})
 bound line first (Some second) (d, Some e) = do
   _ ← assigned line first d

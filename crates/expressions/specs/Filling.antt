@@ -1,11 +1,11 @@
--- f-strings, piece by piece.
+-- Defines how an f-string is filled, piece by piece.
 use Rattle.std.specs.Prelude.{◌≡◌, ℕ, Bool, true, false, List, ◌++◌, Result, Ok}
 use Rattle.values.specs.Data.{Data}
 use Rattle.values.specs.Limits.{within_bytes}
 use Rattle.values.specs.declared.refusal.Refusal.{Refusal}
 use Rattle.values.specs.printing.Printed.{is_plain, printed, shown}
 
--- a value was put behind a text, which may be too long, or it may not stand in an f-string
+-- Holds if a value was appended to a text, which may be too long then, or if the value may not be in an f-string.
 abbrev pub Puts : Data → (before : List ℕ) → (made : Result (List ℕ) Refusal) → (done : Bool) → Type 0
 Puts d before made true = (is_plain d ≡ true) × (printed d ≡ Ok (shown d)) × (made ≡ within_bytes (before ++ shown d))
 Puts d before made false = is_plain d ≡ false

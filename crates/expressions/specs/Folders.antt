@@ -1,4 +1,4 @@
--- Folders that are entered, and their definition files.
+-- Defines how folders are entered, and how their build files are read.
 use Rattle.std.specs.Prelude.{ℕ, List, [], length, nat_lt, not, bytes_eq, Option, Some, None, refl}
 use Rattle.std.specs.List.{list_any}
 use Rattle.syntax.specs.Tree.{Statements}
@@ -12,15 +12,15 @@ use Rattle.world.specs.Deed.{refuse, ask, read, change, need}
 use Rattle.world.specs.DefinitionFiles.{spelled}
 use Rattle.world.specs.Plan.{Plan, deed, enter, entered, ◌>>=◌, give}
 
--- what is done next is done in a folder's definition file
+-- Makes the first line of a folder's build file the present place.
 abbrev pub go_to : List ℕ → Plan (Unit {0})
 go_to folder = deed (change (with_place (definition_file folder) folder 1) (λ facts. refl))
 
--- what is done next is done at this place
+-- Makes an earlier place the present one again.
 abbrev pub go_back : Facts → Plan (Unit {0})
 go_back outer = deed (change (with_place outer.file outer.folder outer.line) (λ facts. refl))
 
--- a folder whose definition file has these bytes, or has none
+-- Enters a folder whose build file has these bytes, and refuses one without a build file (E14).
 abbrev pub opened_by : List ℕ → Option (List ℕ) → Plan Statements
 opened_by folder None = deed (refuse refusals.FileMissing (definition_file folder))
 opened_by folder (Some bytes) = do
@@ -28,13 +28,14 @@ opened_by folder (Some bytes) = do
   _ ← go_to folder
   deed (spelled bytes)
 
--- The statements of a folder's definition file: E14 where that is absent. The folder counts as entered before its file is read.
+-- Returns the statements of a folder's build file, and refuses with E14 if it is absent. The folder counts as entered before its file is
+-- read.
 abbrev pub opened : List ℕ → Plan Statements
 opened folder = do
   bytes ← deed (ask (definition_file folder))
   opened_by folder bytes
 
--- a folder that a text names, and that was not entered; E12 of the text otherwise
+-- Returns the folder that a text names, unless it was entered before. Refuses with E12 about the text otherwise.
 abbrev pub fresh_by : List ℕ → Option (List ℕ) → List (List ℕ) → Plan (List ℕ)
 fresh_by text None folders = deed (refuse refusals.Subdir (broken rules.IsBelow text))
 fresh_by text (Some folder) folders = do
@@ -42,7 +43,7 @@ fresh_by text (Some folder) folders = do
   _ ← deed (need (nat_lt (length folders) 4096) refusals.Limit [])
   give folder
 
--- the folder that a text names, which was not entered; there are at most 4,096
+-- Returns the folder that a text names, unless it was entered before. At most 4,096 folders are entered.
 abbrev pub fresh : List ℕ → Plan (List ℕ)
 fresh text = do
   facts ← deed read

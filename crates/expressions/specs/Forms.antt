@@ -1,4 +1,4 @@
--- What forms of expressions give for the values of their parts, and names.
+-- Defines what expressions evaluate to, given the values of their parts, and what names evaluate to: the page "Syntax" of the Meson manual.
 use Rattle.std.specs.Prelude.{ℕ, pos, ◌^◌, nat_lt, Bool, true, false, ◌||◌, ◌&&◌, List, [], ◌∷◌, ◌++◌, Option, Some, None, Result, Ok}
 use Rattle.std.specs.Prelude.{Err, bytes_eq, codes, if◌then◌else◌}
 use Rattle.syntax.specs.lexer.Texts.{text_of}
@@ -48,68 +48,71 @@ use Rattle.expressions.specs.declared.meaning.Meaning.TheVariants.{Combines, Con
 
 -- ---- names
 
--- what is left out by this name
+-- Refuses this name, which is not supported.
 abbrev pub left_out : {A : Type 0} → ℕ → List ℕ → Plan A
 left_out line name = refuse line refusals.LeftOut name
 
+-- Returns the value of a variable, and refuses one without a value (E5).
 abbrev pub known : ℕ → List ℕ → Option Data → Plan Data
 known line name (Some d) = give d
 known line name None = refuse line refusals.UndefinedName name
 
--- the value of a variable that definition files set
+-- Returns the value of a variable that build files assign.
 abbrev pub set_variable : ℕ → List ℕ → Plan Data
 set_variable line name = do
   facts ← deed read
   known line name (facts.variables name)
 
--- the thing of the run that a name stands for
+-- Returns the object of a predefined variable.
 abbrev pub thing : List ℕ → Plan Data
 thing name = give (predefined name)
 
+-- Returns the value of a name, by whether the name is predefined.
 abbrev pub variable_by : Bool → ℕ → List ℕ → Plan Data
 variable_by true line name = thing name
 variable_by false line name = set_variable line name
 
--- A name: the value of the variable, or the thing of the run that it stands for.
+-- Returns the value of a name: that of the variable, or the object if the name is predefined.
 abbrev pub variable : ℕ → List ℕ → Plan Data
 variable line name = variable_by (is_predefined name) line name
 
 -- ---- f-strings
 
--- a boolean, an integer or a text may stand in an f-string
+-- Prints a value of an f-string. Refuses any but a boolean, an integer or a text.
 abbrev pub printed_plain : ℕ → Bool → Data → Plan (List ℕ)
 printed_plain line true d = answered line (printed d)
 printed_plain line false d = refuse line refusals.Type []
 
--- a place of an f-string: what the variable is printed as
+-- Returns the text of a placeholder of an f-string: the printed value of the variable.
 abbrev pub at_place : ℕ → List ℕ → Plan (List ℕ)
 at_place line name = do
   d ← variable line name
   printed_plain line (is_plain d) d
 
--- a part of an f-string: what stands between places is as it is
+-- Returns the text of a part of an f-string. Text between placeholders stays as it is.
 abbrev pub part_text : ℕ → Segment → Plan (List ℕ)
 part_text line (between t) = give t
 part_text line (place name) = at_place line name
 
--- the text so far, and behind it what the parts give that are left
+-- Returns the text so far, followed by the text of the remaining parts.
 abbrev pub filled : ℕ → List ℕ → List Segment → Plan Data
 filled line made [] = answered line (within (text made))
 filled line made (s ∷ ss) = do
   t ← part_text line s
   filled line (made ++ t) ss
 
--- An f-string after its escapes: its places `@name@` are filled from the left, and what fills them is not looked at again.
+-- Returns the value of an f-string after its escapes are decoded. Its placeholders `@name@` are filled from the left, and the filled text
+-- is not scanned again.
 abbrev pub format_string : ℕ → List ℕ → Plan Data
 format_string line t = filled line [] (segments places.Names t)
 
 -- ---- literals
 
--- a number, where it is in the range of integers
+-- Returns an integer literal if it is in the range of integers.
 abbrev pub number : ℕ → Result Data OperationRefusal
 number n = if nat_lt n (2 ^ 127) then Ok (integer (pos n)) else Err operation.Range
 
--- A literal: `true`, a number, or a string with or without escapes, which may be an f-string.
+-- Returns the value of a literal: a boolean, a number, or a string with or without escapes, which may be an f-string.
 abbrev pub literal_value : ℕ → Literal → List ℕ → Plan Data
 literal_value line literals.True t = give (boolean true)
 literal_value line literals.False t = give (boolean false)
@@ -121,7 +124,7 @@ literal_value line literals.RawFormatString t = format_string line (text_of kind
 
 -- ---- operators
 
--- what an operator of a chain does
+-- Returns what an operator in a chain does.
 abbrev pub meaning_of : Operator → Meaning
 meaning_of operators.Or = Connects Or
 meaning_of operators.And = Connects And
@@ -139,14 +142,14 @@ meaning_of operators.Multiply = Combines binaries.Multiply
 meaning_of operators.Divide = Combines binaries.Divide
 meaning_of operators.Remainder = Combines binaries.Remainder
 
--- the left side is the whole, or else the right side decides
+-- Returns the left side if it decides, and otherwise what the right side decides.
 abbrev pub unless_decided : ℕ → Option Data → Plan Data → Plan Data
 unless_decided line (Some d) right = give d
 unless_decided line None right = do
   e ← right
   answered line (right_answer e)
 
--- an operator between a value and what is still to be evaluated
+-- Returns the result of an operator for a value and a right side that is still to be evaluated.
 abbrev pub combined : ℕ → Meaning → Data → Plan Data → Plan Data
 combined line (Combines operator) d right = do
   e ← right
@@ -155,16 +158,17 @@ combined line (Connects connective) d right = do
   whole ← answered line (left_answer connective d)
   unless_decided line whole right
 
+-- Returns the operator of a prefix.
 abbrev pub unary_of : Prefix → Unary
 unary_of prefixes.Not = Not
 unary_of prefixes.Negative = Negate
 
--- a condition that is no boolean, by whether it is a disabler
+-- Returns a disabler if the condition of a ternary is one, and otherwise refuses it, since it is not a boolean.
 abbrev pub unchosen : ℕ → Bool → Plan Data
 unchosen line true = give disabler
 unchosen line false = refuse line refusals.Type []
 
--- A ternary, by the boolean that its condition is and whether that is a disabler.
+-- Returns the value of a ternary, by the boolean of its condition, if it is one, and by whether the condition is a disabler.
 abbrev pub chosen : ℕ → Option Bool → Bool → Plan Data → Plan Data → Plan Data
 chosen line (Some true) disabled one other = one
 chosen line (Some false) disabled one other = other
@@ -172,22 +176,25 @@ chosen line None disabled one other = unchosen line disabled
 
 -- ---- forms, by the values of their parts
 
+-- Returns the value of a list literal.
 abbrev pub listed : ℕ → Items → Plan Data
 listed line ds = answered line (within (list ds))
 
--- what a dictionary literal gives, or its refusal; of a key that stands twice that key
+-- Returns the value of a dictionary literal, or its refusal. For a key that occurs twice, the detail is that key.
 abbrev pub paired_by : ℕ → Result Data LiteralRefusal → Plan Data
 paired_by line (Ok d) = give d
 paired_by line (Err (literal_refusals.Twice key)) = refuse line refusals.Duplicate (key_twice key)
 paired_by line (Err (literal_refusals.Refused refusal)) = refuse line (of_operation refusal) []
 
+-- Returns the value of a dictionary literal.
 abbrev pub paired : ℕ → List (Data × Data) → Plan Data
 paired line ps = paired_by line (literal_answer ps)
 
+-- Returns the value of a prefix operator with its operand.
 abbrev pub prefixed : ℕ → Prefix → Data → Plan Data
 prefixed line prefix d = answered line (unary_answer (unary_of prefix) d)
 
--- the part of a value at a place or key
+-- Returns the part of a value at an index or key.
 abbrev pub part_at : ℕ → Data → Data → Plan (Option Data)
 part_at line d i = do
   part ← answered line (index_answer d i)
@@ -195,34 +202,37 @@ part_at line d i = do
 
 -- ---- calls
 
--- a call that gives nothing is no expression
+-- Refuses a call without a value as an expression.
 abbrev pub needed : ℕ → Option Data → Plan Data
 needed line (Some d) = give d
 needed line None = refuse line refusals.Type []
 
+-- Refuses the name of a function: with E23 if it is not supported, and otherwise with E8.
 abbrev pub refused_name : {A : Type 0} → ℕ → List ℕ → Bool → Plan A
 refused_name line name true = left_out line name
 refused_name line name false = refuse line refusals.UnknownFunction name
 
+-- Returns a function, and refuses an unknown one.
 abbrev pub known_function : ℕ → List ℕ → Option Function → Plan Function
 known_function line name (Some f) = give f
 known_function line name None = refused_name line name (is_left_out name)
 
--- the function of a name
+-- Returns the function with a name.
 abbrev pub function_at : ℕ → List ℕ → Plan Function
 function_at line name = known_function line name (function_named name)
 
--- before `project` was called, that is in its own arguments, only these are
+-- Holds if a function may be called before `project`, that is in the arguments of `project`.
 abbrev pub may_come_first : Function → Bool
 may_come_first functions.Disabler = true
 may_come_first functions.SubdirDone = true
 may_come_first f = false
 
+-- Refuses with E13 unless a call is allowed.
 abbrev pub allowed : ℕ → Bool → Plan (Unit {0})
 allowed line true = give tt
 allowed line false = refuse line refusals.ProjectCall []
 
--- the function of a call that is a part of an expression
+-- Returns the function of a call that is part of an expression.
 abbrev pub function_inside : ℕ → List ℕ → Plan Function
 function_inside line name = do
   f ← function_at line name
@@ -230,48 +240,52 @@ function_inside line name = do
   _ ← allowed line (facts.is_begun || may_come_first f)
   give f
 
--- what a test of arguments answers, or its refusal at a line, with what that is about
+-- Passes on the result of a check of arguments, or refuses at a line, with its detail.
 abbrev pub fitted : ℕ → Result (Unit {0}) RefusedData → Plan (Unit {0})
 fitted line (Ok u) = give tt
 fitted line (Err refused) = refuse line refused.refusal refused.detail
 
 -- ---- methods
 
+-- Holds if there are neither positional nor keyword arguments.
 abbrev pub are_none : List Data → List (List ℕ × Data) → Bool
 are_none [] [] = true
 are_none _ _ = false
 
+-- Holds if there are no arguments.
 abbrev pub is_empty : ArgumentsData → Bool
 is_empty a = are_none a.positional a.named
 
--- a method of a disabler: `found()` is false, and anything else is a disabler
+-- Returns the result of a method of a disabler: `found()` is false, and any other method returns a disabler.
 abbrev pub disabler_method : List ℕ → ArgumentsData → Data
 disabler_method name a = if bytes_eq name (codes "found") && is_empty a then boolean false else disabler
 
+-- Refuses an unknown method (E8).
 abbrev pub known_method : Bool → ℕ → List ℕ → Plan (Unit {0})
 known_method true line name = give tt
 known_method false line name = refuse line refusals.UnknownFunction name
 
--- before `project` was called, that is in its own arguments, `meson` is asked nothing
+-- Holds if an object's methods may be called before `project`, that is in the arguments of `project`. Those of `meson` may not.
 abbrev pub may_be_asked_first : Object → Bool
 may_be_asked_first objects.Meson = false
 may_be_asked_first o = true
 
+-- Refuses a method of an object that may not be called before `project` (E13).
 abbrev pub asked_of : ℕ → Object → Plan (Unit {0})
 asked_of line o = do
   facts ← deed read
   allowed line (facts.is_begun || may_be_asked_first o)
 
--- what an operation on values answers, or its refusal at a line, with what that is about
+-- Returns the value of an operation, or refuses at a line, with its detail.
 abbrev pub answered_with : {A : Type 0} → ℕ → (OperationRefusal → List ℕ) → Result A OperationRefusal → Plan A
 answered_with line detail (Ok a) = give a
 answered_with line detail (Err refusal) = refuse line (of_operation refusal) (detail refusal)
 
--- what the method of a value answers
+-- Returns the result of a method of a value.
 abbrev pub method_answered : ℕ → Data → List ℕ → List Data → Plan Data
 method_answered line d name ds = answered_with line (method_detail d name ds) (method_answer d name ds)
 
--- a method of a value that is no object
+-- Calls a method of a value other than an object.
 abbrev pub value_method : ℕ → Data → List ℕ → ArgumentsData → Plan (Option Data)
 value_method line d name a = do
   _ ← fitted line (checked any_values a)

@@ -1,4 +1,4 @@
-//! Variables that take values.
+//! Assigns variables.
 ghost use Rattle.std.specs.Prelude.{◌≡◌, ◌<◌, ℕ, IsTrue, Some, length, nat_lt, option_map};
 ghost use Rattle.arguments.specs.Rules.{broken};
 ghost use Rattle.code.specs.Statements.{name_at, second_within};
@@ -20,7 +20,7 @@ use values::language_names::is_predefined;
 use values::{Object, Value};
 use world::{Caller, Stop};
 
-// The number of an object that is configuration data.
+// Returns the number of configuration data, and `None` for any other object.
 fn configuration_of(object: &Object) -> Option<usize>
     ensures { result ≡ configuration_of object.now }
 {
@@ -30,7 +30,7 @@ fn configuration_of(object: &Object) -> Option<usize>
     }
 }
 
-// The number of configuration data.
+// Returns the number of configuration data, and `None` for any other value.
 fn configuration_in(value: &Value) -> Option<usize>
     ensures { result ≡ configuration_in (data_of value.now) }
 {
@@ -40,7 +40,7 @@ fn configuration_in(value: &Value) -> Option<usize>
 impl<'a, T: Tree, O: Outputs, L: Ledger> Context<'a, T, O, L> {
     ghost use Rattle.expressions.specs.Contexts.{Answers, Fails, HasRoom, Same, fault_on};
 
-    // The number of a copy of configuration data.
+    // Adds a copy of configuration data, and returns its number.
     fn copy_made(&mut self, number: usize) -> Result<usize, Stop>
         requires room { HasRoom T.seen O.seen self.old }
         ensures same { Same self.old self.new }
@@ -56,7 +56,7 @@ impl<'a, T: Tree, O: Outputs, L: Ledger> Context<'a, T, O, L> {
         caller.copy_configuration(number)
     }
 
-    // A copy of configuration data.
+    // Returns the value of a copy of configuration data.
     #[cold]
     fn copy_data(&mut self, number: usize) -> Result<Value, Stop>
         requires room { HasRoom T.seen O.seen self.old }
@@ -68,7 +68,7 @@ impl<'a, T: Tree, O: Outputs, L: Ledger> Context<'a, T, O, L> {
         Ok(Value::of_object(self.alloc, Object::ConfigurationData(copy))?)
     }
 
-    /// What an assignment gives a variable: of configuration data a copy, which may be changed again, and else the value itself.
+    /// Returns what an assignment stores: a copy of configuration data, which is not frozen, and any other value unchanged.
     #[inline(always)]
     pub fn own(&mut self, value: Value) -> Result<Value, Stop>
         requires room { HasRoom T.seen O.seen self.old }
@@ -82,7 +82,7 @@ impl<'a, T: Tree, O: Outputs, L: Ledger> Context<'a, T, O, L> {
         }
     }
 
-    // Refuses to set the name of a number, which stands for a thing of the run.
+    // Refuses to assign the name with a number, which is predefined.
     #[cold]
     fn refuse_name(&self, line: usize, number: usize) -> Result<(), Stop>
         ensures refuses { number < length self.now.store.now.names → Refuses (fault_on self.now line Refusal.Arguments
@@ -94,7 +94,7 @@ impl<'a, T: Tree, O: Outputs, L: Ledger> Context<'a, T, O, L> {
         self.refuse(line, Refusal::Arguments, detail.as_str())
     }
 
-    /// The variable of a number takes a value: E9 where its name stands for a thing of the run.
+    /// Assigns a value to the variable whose name has this number, and refuses a predefined name (E9).
     #[inline(always)]
     pub fn assign(&mut self, line: usize, number: usize, value: Value) -> Result<(), Stop>
         ensures same { Same self.old self.new }
@@ -110,7 +110,7 @@ impl<'a, T: Tree, O: Outputs, L: Ledger> Context<'a, T, O, L> {
         Ok(())
     }
 
-    /// The variables of a round take their values: the first, and the second where there is one.
+    /// Assigns the values of a loop round to its variables: the first, and the second if there is one.
     pub fn bind(
         &mut self,
         line: usize,
@@ -130,7 +130,7 @@ impl<'a, T: Tree, O: Outputs, L: Ledger> Context<'a, T, O, L> {
         }
     }
 
-    // The same with two names.
+    // Assigns the values of a loop round to two variables.
     fn bind_pair(
         &mut self,
         line: usize,
@@ -154,7 +154,7 @@ impl<'a, T: Tree, O: Outputs, L: Ledger> Context<'a, T, O, L> {
         }
     }
 
-    // Two variables take their values.
+    // Assigns two variables.
     fn assign_both(
         &mut self,
         line: usize,
@@ -172,8 +172,8 @@ impl<'a, T: Tree, O: Outputs, L: Ledger> Context<'a, T, O, L> {
         answer
     }
 
-    /// The variable of a number takes the sum of what it has and a value. Its value is taken out of it first: what nobody else holds
-    /// grows in place.
+    /// Assigns to the variable whose name has this number the sum of its value and another. Its value is taken out first, so that a value
+    /// that nobody else shares grows in place.
     pub fn add(&mut self, line: usize, number: usize, right: Value) -> Result<(), Stop>
         ensures same { Same self.old self.new }
         ensures device { Fails T.seen O.seen self.old result self.new }
@@ -191,7 +191,7 @@ impl<'a, T: Tree, O: Outputs, L: Ledger> Context<'a, T, O, L> {
         }
     }
 
-    // The thing of the run that the name of a number stands for.
+    // Returns the object of the predefined variable whose name has this number.
     fn thing_at(&self, number: usize) -> Result<Value, Stop>
         ensures gives { number < length self.now.store.now.names
             → Answers T.seen O.seen data_of (thing (name_at self.now.store.now.names number)) self.now result self.now }
@@ -201,7 +201,7 @@ impl<'a, T: Tree, O: Outputs, L: Ledger> Context<'a, T, O, L> {
         self.thing(name)
     }
 
-    // Refuses the name of a number, whose variable has no value.
+    // Refuses the name with a number, whose variable has no value.
     fn refuse_unknown(&self, line: usize, number: usize) -> Result<(), Stop>
         ensures refuses { number < length self.now.store.now.names → Refuses (fault_on self.now line Refusal.UndefinedName
             (name_at self.now.store.now.names number)) result }
@@ -211,7 +211,7 @@ impl<'a, T: Tree, O: Outputs, L: Ledger> Context<'a, T, O, L> {
         self.refuse(line, Refusal::UndefinedName, name)
     }
 
-    // The same where its name stands for a thing of the run.
+    // Adds to a variable whose name is predefined.
     fn add_to_thing(&mut self, line: usize, number: usize, right: Value) -> Result<(), Stop>
         ensures same { Same self.old self.new }
         ensures device { Fails T.seen O.seen self.old result self.new }
@@ -223,7 +223,7 @@ impl<'a, T: Tree, O: Outputs, L: Ledger> Context<'a, T, O, L> {
         self.sum(line, number, thing, right)
     }
 
-    // The variable of a number takes the sum of two values.
+    // Assigns the sum of two values to the variable whose name has this number.
     #[inline(always)]
     fn sum(&mut self, line: usize, number: usize, left: Value, right: Value) -> Result<(), Stop>
         ensures same { Same self.old self.new }

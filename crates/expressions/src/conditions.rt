@@ -1,4 +1,4 @@
-//! Conditions.
+//! Chooses the branch of a condition: "If statements" of the page "Syntax".
 ghost use Rattle.std.specs.Prelude.{◌≡◌, ℕ};
 ghost use Rattle.values.specs.Data.{boolean_in, is_disabler};
 ghost use Rattle.world.specs.Prelude.{data_of, failures_after};
@@ -14,9 +14,9 @@ use world::Stop;
 /// What the value of a condition chooses.
 #[derive(Clone, Copy)]
 pub enum Choice {
-    /// The statements behind the condition.
+    /// The statements of its own branch.
     Body,
-    /// The parts behind them.
+    /// The branches after it.
     Others,
     /// Nothing of the whole `if`.
     Skip,
@@ -25,7 +25,8 @@ pub enum Choice {
 impl<'a, T: Tree, O: Outputs, L: Ledger> Context<'a, T, O, L> {
     ghost use Rattle.expressions.specs.Contexts.{Answers};
 
-    /// What the value of a condition chooses: a disabler skips the whole `if`. Error 6 at the line where it is neither that nor a boolean.
+    /// Returns what the value of a condition chooses. A disabler skips the whole `if`. Refuses any other value that is not a boolean with
+    /// E6.
     #[inline(always)]
     pub fn choose(&self, line: usize, value: &Value) -> Result<Choice, Stop>
         ensures gives { Answers T.seen O.seen (λ c. c) (choice_of line (boolean_in (data_of value.now)) (is_disabler (data_of value.now)))

@@ -1,4 +1,4 @@
-//! What an evaluation works on, and the small answers that it gives.
+//! Defines what an evaluation works on, and its small steps.
 ghost use Rattle.std.specs.Prelude.{◌≡◌, ◌<◌, ℕ, Result, None, option_map};
 ghost use Rattle.values.specs.Data.{Data, is_disabler};
 ghost use Rattle.values.specs.declared.refusal.Refusal.{Refusal as OperationRefusal};
@@ -15,7 +15,7 @@ use support::faults::Refusal;
 use values::Value;
 use world::{Steps, Stop, Store, of_operation};
 
-/// What an evaluation works on: the world, the devices, and the counter of rules.
+/// The context of an evaluation: the world, the devices, and the counter of rules.
 #[derive(Drop)]
 pub struct Context<'a, T, O, L: Ledger> {
     pub alloc: Global,
@@ -28,7 +28,7 @@ pub struct Context<'a, T, O, L: Ledger> {
 impl<'a, T: Tree, O: Outputs, L: Ledger> Context<'a, T, O, L> {
     ghost use Rattle.expressions.specs.Contexts.{Answers, fault_on};
 
-    /// A context over what is lent.
+    /// Returns a context over these references.
     pub fn new(
         alloc: Global,
         store: &'a mut Store,
@@ -54,7 +54,7 @@ impl<'a, T: Tree, O: Outputs, L: Ledger> Context<'a, T, O, L> {
         }
     }
 
-    /// Refuses what stands in a line of the present file, for this name, path or text.
+    /// Refuses a line of the present file, with a name, path or text as detail.
     #[cold]
     pub fn refuse<A>(&self, line: usize, refusal: Refusal, detail: &str) -> Result<A, Stop>
         ensures { Refuses (fault_on self.now line refusal detail.now) result }
@@ -62,14 +62,14 @@ impl<'a, T: Tree, O: Outputs, L: Ledger> Context<'a, T, O, L> {
         self.store.refuse(self.alloc, line, refusal, detail)
     }
 
-    /// Refuses what is left out by this name.
+    /// Refuses this name, which is not supported.
     pub fn refuse_left_out<A>(&self, line: usize, name: &str) -> Result<A, Stop>
         ensures { Refuses (fault_on self.now line Refusal.LeftOut name.now) result }
     {
         self.refuse(line, Refusal::LeftOut, name)
     }
 
-    /// What an operation answered, or the stop of its refusal.
+    /// Returns the value of an operation, or stops with its refusal.
     #[inline(always)]
     pub fn answer(&self, line: usize, answer: Result<Value, values::Refusal>) -> Result<Value, Stop>
         ensures gives { (given : Result Data OperationRefusal) → AnswersSo given answer
@@ -82,7 +82,7 @@ impl<'a, T: Tree, O: Outputs, L: Ledger> Context<'a, T, O, L> {
         }
     }
 
-    /// What a call gave, where it gave a value.
+    /// Returns the value of a call, and refuses one without a value with E6.
     #[inline(always)]
     pub fn need(&self, line: usize, answer: Option<Value>) -> Result<Value, Stop>
         ensures gives { Answers T.seen O.seen data_of (needed line (option_map data_of answer)) self.now result self.now }
@@ -94,7 +94,7 @@ impl<'a, T: Tree, O: Outputs, L: Ledger> Context<'a, T, O, L> {
         }
     }
 
-    /// What a ternary gives whose condition is no boolean: a disabler, where it is one.
+    /// Returns the value of a ternary whose condition is not a boolean: a disabler if it is one, and otherwise E6.
     pub fn refuse_choice(&self, line: usize, value: Value) -> Result<Value, Stop>
         ensures gives { Answers T.seen O.seen data_of (unchosen line (is_disabler (data_of value))) self.now result self.now }
         ensures quiet { (n : ℕ) → failures_after n result ≡ n }
@@ -106,7 +106,7 @@ impl<'a, T: Tree, O: Outputs, L: Ledger> Context<'a, T, O, L> {
         }
     }
 
-    /// What a test of arguments answered, or the stop of its refusal, with what that is about.
+    /// Passes on the result of a check of arguments, or stops with its refusal and detail.
     pub fn fit(&self, line: usize, answer: Result<(), Refused>) -> Result<(), Stop>
         ensures gives { Answers T.seen O.seen (λ u. u) (fitted line (answer_data answer)) self.now result self.now }
         ensures quiet { (n : ℕ) → failures_after n result ≡ n }

@@ -1,4 +1,4 @@
-//! What the refusals of operations on values are about. The words are made only where a run ends.
+//! Writes the details of refusals of operations on values. They are made only when a run ends.
 ghost use Rattle.std.specs.Prelude.{◌≡◌, IfOk, map, string_bytes};
 ghost use Rattle.world.specs.Prelude.{data_of};
 ghost use Rattle.expressions.specs.Details.{key_twice, method_detail, method_words};
@@ -9,14 +9,14 @@ use std::alloc::{AllocError, Global};
 use values::language_names::MethodName;
 use values::{Refusal, Value};
 
-/// That this key of a dictionary stands before it already.
+/// Returns the detail that this key of a dictionary occurs twice.
 pub fn key_twice(alloc: Global, key: &str) -> Result<String, AllocError>
     ensures { IfOk result (λ text. string_bytes text ≡ key_twice key.now) }
 {
     format!(in alloc; "key '{key}': stands twice")
 }
 
-// What the method of a name takes, and what it got: `contains: takes one text, and got an integer`.
+// Returns what the method with this name takes and what it got, as in `contains: takes one text, and got an integer`.
 fn method_words(
     alloc: Global,
     receiver: &Value,
@@ -31,7 +31,7 @@ fn method_words(
     format!(in alloc; "{name}: takes {takes}, and got {got}")
 }
 
-/// Of a method's arguments what it takes and what it got; of its other refusals nothing.
+/// Returns what a method takes and what it got if its arguments are refused, and an empty text for other refusals.
 pub fn method_detail(
     alloc: Global,
     receiver: &Value,

@@ -1,4 +1,4 @@
-//! The values of f-strings.
+//! Evaluates f-strings, by the page "Syntax" of the Meson manual.
 ghost use Rattle.std.specs.Prelude.{◌≡◌, ◌++◌, ℕ, List, IfOk, [], map};
 ghost use Rattle.code.specs.FormatStrings.{part_data};
 ghost use Rattle.values.specs.Data.{text};
@@ -16,7 +16,7 @@ use values::printing::{Digits, plain_text};
 use values::{Text, Value};
 use world::Stop;
 
-// Puts a piece behind a text, which may be too long already.
+// Appends a piece to a text, which may already be too long.
 fn put(
     alloc: Global,
     made: &mut Result<Text, values::Refusal>,
@@ -34,7 +34,7 @@ fn put(
     Ok(())
 }
 
-// Puts what a value is printed as. Answers whether it may stand in an f-string.
+// Appends a printed value, and returns whether the value may be in an f-string.
 fn put_plain(
     alloc: Global,
     made: &mut Result<Text, values::Refusal>,
@@ -53,7 +53,7 @@ fn put_plain(
     }
 }
 
-// The same of a value that is let go.
+// Appends a printed value, which is dropped, and returns whether it may be in an f-string.
 fn put_value(
     alloc: Global,
     made: &mut Result<Text, values::Refusal>,
@@ -64,7 +64,7 @@ fn put_value(
     put_plain(alloc, made, &value)
 }
 
-// The value of a text, where that is not too long.
+// Returns the value of a text, and the refusal if it is too long.
 fn text_value(made: Result<Text, values::Refusal>) -> Result<Value, values::Refusal>
     ensures { (whole : List ℕ) → made ≡ within_bytes whole → AnswersSo (within (text whole)) result }
 {
@@ -77,7 +77,7 @@ fn text_value(made: Result<Text, values::Refusal>) -> Result<Value, values::Refu
 impl<'a, T: Tree, O: Outputs, L: Ledger> Context<'a, T, O, L> {
     ghost use Rattle.expressions.specs.Contexts.{Answers};
 
-    /// The value of an f-string of these parts: what its variables are printed as stands in their places.
+    /// Returns the value of an f-string with these parts: each placeholder becomes the printed value of its variable.
     pub fn fill(&self, line: usize, parts: &[Part]) -> Result<Value, Stop>
         ensures gives { Answers T.seen O.seen data_of (filled line [] (map part_data parts.now)) self.now result self.now }
         ensures quiet { (n : ℕ) → failures_after n result ≡ n }

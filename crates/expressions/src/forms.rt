@@ -1,4 +1,4 @@
-//! What forms of nodes give for the values of their parts.
+//! Evaluates forms of expressions, given the values of their parts.
 ghost use Rattle.std.specs.Prelude.{◌≡◌, ℕ, option_map};
 ghost use Rattle.operations.specs.operators.Literal.{pairs_of};
 ghost use Rattle.world.specs.Prelude.{Refuses, data_of, failures_after, items_of};
@@ -19,7 +19,7 @@ use world::{Stop, of_operation};
 impl<'a, T: Tree, O: Outputs, L: Ledger> Context<'a, T, O, L> {
     ghost use Rattle.expressions.specs.Contexts.{Answers, fault_on};
 
-    /// `[first, second]`
+    /// Returns the value of `[first, second]`.
     pub fn list(&self, line: usize, values: Vec<Value>) -> Result<Value, Stop>
         ensures gives { Answers T.seen O.seen data_of (listed line (items_of values.items)) self.now result self.now }
         ensures quiet { (n : ℕ) → failures_after n result ≡ n }
@@ -28,7 +28,7 @@ impl<'a, T: Tree, O: Outputs, L: Ledger> Context<'a, T, O, L> {
         self.answer(line, answer)
     }
 
-    // Refuses a key of a dictionary that stands before it already.
+    // Refuses a key of a dictionary that occurs twice.
     fn refuse_key(&self, line: usize, key: &str) -> Result<Value, Stop>
         ensures { Refuses (fault_on self.now line Refusal.Duplicate (key_twice key.now)) result }
     {
@@ -36,7 +36,7 @@ impl<'a, T: Tree, O: Outputs, L: Ledger> Context<'a, T, O, L> {
         self.refuse(line, Refusal::Duplicate, detail.as_str())
     }
 
-    /// `{key : value, key : value}`
+    /// Returns the value of `{key : value, key : value}`.
     pub fn pair(&self, line: usize, pairs: Vec<(Value, Value)>) -> Result<Value, Stop>
         ensures gives { Answers T.seen O.seen data_of (paired line (pairs_of pairs.items)) self.now result self.now }
         ensures quiet { (n : ℕ) → failures_after n result ≡ n }
@@ -50,7 +50,7 @@ impl<'a, T: Tree, O: Outputs, L: Ledger> Context<'a, T, O, L> {
         }
     }
 
-    /// `not value` or `-value`
+    /// Returns the value of `not value` or `-value`.
     pub fn prefix(&self, line: usize, prefix: Prefix, value: Value) -> Result<Value, Stop>
         ensures gives { Answers T.seen O.seen data_of (prefixed line prefix (data_of value)) self.now result self.now }
         ensures quiet { (n : ℕ) → failures_after n result ≡ n }
@@ -59,7 +59,7 @@ impl<'a, T: Tree, O: Outputs, L: Ledger> Context<'a, T, O, L> {
         self.answer(line, answer)
     }
 
-    /// `whole[at]`
+    /// Returns the value of `whole[at]`.
     pub fn part_at(&self, line: usize, whole: &Value, at: &Value) -> Result<Option<Value>, Stop>
         ensures gives { Answers T.seen O.seen (option_map data_of) (part_at line (data_of whole.now) (data_of at.now))
             self.now result self.now }

@@ -1,5 +1,4 @@
-//! What an evaluation does that calls nothing: what expressions give for the values of their parts, variables, and the definition files
-//! that are opened.
+//! Evaluates all that needs no call: expressions given the values of their parts, variables, and the build files that are opened.
 #![tactic(auto)]
 
 mod assign;

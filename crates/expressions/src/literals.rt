@@ -1,4 +1,4 @@
-//! The values of literals.
+//! Evaluates literals.
 ghost use Rattle.std.specs.Prelude.{◌≡◌, false, ℕ, IfOk, Ok};
 ghost use Rattle.code.specs.Literals.{is_format, spelled};
 ghost use Rattle.values.specs.Data.{text};
@@ -19,7 +19,7 @@ use syntax::tree::Literal;
 use values::{Short, Text, Value};
 use world::Stop;
 
-// The integer of a number token.
+// Returns the integer of a number token, and E7 if it is out of range.
 fn number(text: &str) -> Result<Value, values::Refusal>
     ensures { AnswersSo (number (magnitude text.now)) result }
 {
@@ -33,14 +33,14 @@ fn number(text: &str) -> Result<Value, values::Refusal>
     }
 }
 
-// The integer of a number that 64 bits hold.
+// Returns the integer of a number that fits in 64 bits.
 fn small_integer(n: u64) -> Value
     ensures { number n ≡ Ok (data_of result) }
 {
     Value::Integer(n as i128)
 }
 
-// The value of a short text.
+// Returns the value of a short text.
 fn short_text(short: &Short) -> Value
     ensures { within (text short.now) ≡ Ok (data_of result) }
 {
@@ -49,7 +49,7 @@ fn short_text(short: &Short) -> Value
     Value::Text(text)
 }
 
-// The value of a text, shared.
+// Returns the value of a text, whose bytes are shared.
 fn share(string: &Text) -> Result<Value, AllocError>
     ensures { IfOk result (λ v. within (text string.now) ≡ Ok (data_of v)) }
 {
@@ -60,7 +60,7 @@ fn share(string: &Text) -> Result<Value, AllocError>
 impl<'a, T: Tree, O: Outputs, L: Ledger> Context<'a, T, O, L> {
     ghost use Rattle.expressions.specs.Contexts.{Answers};
 
-    // The text of a string of this kind.
+    // Returns the value of a string of this kind.
     fn decode(&self, line: usize, kind: Kind, slice: &str) -> Result<Value, Stop>
         ensures gives { Answers T.seen O.seen data_of (answered line (within (text (text_of kind slice.now)))) self.now result self.now }
         ensures quiet { (n : ℕ) → failures_after n result ≡ n }
@@ -70,7 +70,7 @@ impl<'a, T: Tree, O: Outputs, L: Ledger> Context<'a, T, O, L> {
         self.answer(line, answer)
     }
 
-    // The value of a literal that is no f-string and stands so in the source.
+    // Returns the value of a literal that is no f-string, given as it is spelled in the source.
     #[inline(never)]
     fn unread(&self, line: usize, literal: Literal, text: &str) -> Result<Value, Stop>
         requires { is_format literal ≡ false }
@@ -87,8 +87,8 @@ impl<'a, T: Tree, O: Outputs, L: Ledger> Context<'a, T, O, L> {
         }
     }
 
-    /// The value of a literal, put together from registers: what a call answers is taken apart. Most literals are short strings and small
-    /// numbers, and these are told first: a function that knows all makes places for what each asks.
+    /// Returns the value of a literal. Most literals are short strings and small numbers, which are handled first and built in registers. A
+    /// function for all kinds would need stack space for each, and a returned result would have to be taken apart.
     pub fn literal(&self, line: usize, node: &LiteralNode) -> Result<Value, Stop>
         ensures gives { Answers T.seen O.seen data_of (literal_value line node.now.literal (spelled node.now.source.value))
             self.now result self.now }
@@ -101,7 +101,7 @@ impl<'a, T: Tree, O: Outputs, L: Ledger> Context<'a, T, O, L> {
         }
     }
 
-    // The value of a literal of any kind.
+    // Returns the value of a literal of any kind.
     #[inline(never)]
     fn any_literal(&self, line: usize, node: &LiteralNode) -> Result<Value, Stop>
         ensures gives { Answers T.seen O.seen data_of (literal_value line node.now.literal (spelled node.now.source.value))

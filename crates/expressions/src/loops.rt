@@ -1,4 +1,4 @@
-//! The rounds of a loop.
+//! Iterates over the rounds of a loop: "Foreach statements" of the page "Syntax".
 ghost use Rattle.std.specs.Prelude.{IfOk, false, true};
 ghost use Rattle.world.specs.Prelude.{data_of, items_of};
 ghost use Rattle.expressions.specs.Rounds.{HasFewRounds, Loops, RoundAt, entry_rounds, item_rounds, rounds_in};
@@ -7,14 +7,14 @@ use std::alloc::{AllocError, Global};
 use support::faults::Refusal;
 use values::{Dictionary, Value, values_have_few_items};
 
-/// The values of a round's variables: of the first, and of the second where there is one.
+/// The values of a round's variables: of the first, and of the second if there is one.
 #[derive(Drop)]
 pub struct Round {
     pub first: Value,
     pub second: Option<Value>,
 }
 
-// The item of a list at a place.
+// Returns the item of a list at an index, and `None` past the last.
 fn item_at(items: &[Value], at: usize) -> Result<Option<Round>, AllocError>
     ensures { IfOk result (λ r. RoundAt (item_rounds (items_of items.now)) at r) }
 {
@@ -28,7 +28,7 @@ fn item_at(items: &[Value], at: usize) -> Result<Option<Round>, AllocError>
     }))
 }
 
-// The key and the value of a dictionary at a place. The key's bytes are shared.
+// Returns the key and the value of a dictionary at an index, and `None` past the last. The bytes of the key are shared.
 fn entry_at(dictionary: &Dictionary, at: usize) -> Result<Option<Round>, AllocError>
     ensures { IfOk result (λ r. RoundAt (entry_rounds dictionary.now) at r) }
 {
@@ -44,7 +44,7 @@ fn entry_at(dictionary: &Dictionary, at: usize) -> Result<Option<Round>, AllocEr
     }))
 }
 
-/// The round over a list or a dictionary at a place, none behind the last. What it gives is shared with the whole.
+/// Returns the round over a list or a dictionary at an index, and `None` past the last. Its values are shared with the list or dictionary.
 #[inline(always)]
 pub fn round_at(whole: &Value, at: usize) -> Result<Option<Round>, AllocError>
     ensures { IfOk result (λ r. RoundAt (rounds_in (data_of whole.now)) at r) }
@@ -56,7 +56,7 @@ pub fn round_at(whole: &Value, at: usize) -> Result<Option<Round>, AllocError>
     }
 }
 
-// Whether a loop with two names can walk a value.
+// Refuses a value over which a loop with two names cannot iterate.
 fn check_entries(whole: &Value) -> Result<(), Refusal>
     ensures { Loops true (data_of whole.now) result }
 {
@@ -66,7 +66,7 @@ fn check_entries(whole: &Value) -> Result<(), Refusal>
     }
 }
 
-// Whether a loop with one name can walk a value.
+// Refuses a value over which a loop with one name cannot iterate.
 fn check_items(whole: &Value) -> Result<(), Refusal>
     ensures { Loops false (data_of whole.now) result }
 {
@@ -76,12 +76,12 @@ fn check_items(whole: &Value) -> Result<(), Refusal>
     }
 }
 
-/// Whether a loop with one name or with two can walk a value: one walks a list, two a dictionary.
+/// Refuses a value over which a loop cannot iterate (E6): with one name it needs a list, with two a dictionary.
 pub fn check_loop(has_second: bool, whole: &Value) -> Result<(), Refusal>
     ensures loops { Loops has_second (data_of whole.now) result }
     ensures few { HasFewRounds (data_of whole.now) }
 {
-    // The law that `few` rests on; the call does nothing.
+    // The law that `few` follows from; the call does nothing.
     values_have_few_items(whole);
     if has_second {
         check_entries(whole)

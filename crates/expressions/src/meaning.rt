@@ -1,4 +1,4 @@
-//! What the operators of a chain mean.
+//! Translates the operators of a chain.
 ghost use Rattle.std.specs.Prelude.{◌≡◌};
 ghost use Rattle.expressions.specs.Forms.{meaning_of, unary_of};
 
@@ -14,7 +14,7 @@ pub enum Meaning {
     Connects(Connective),
 }
 
-/// What an operator of a chain does.
+/// Returns what an operator in a chain does.
 pub fn meaning_of(operator: Operator) -> Meaning
     ensures { result ≡ meaning_of operator }
 {
@@ -37,7 +37,7 @@ pub fn meaning_of(operator: Operator) -> Meaning
     }
 }
 
-/// What a prefix operator does.
+/// Returns what a prefix operator does.
 pub fn unary_of(prefix: Prefix) -> Unary
     ensures { result ≡ unary_of prefix }
 {

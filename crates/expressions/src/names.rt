@@ -1,4 +1,4 @@
-//! Names: of variables, of functions, and of the methods of values.
+//! Looks names up: of variables, of functions, and of the methods of values.
 ghost use Rattle.std.specs.Prelude.{◌≡◌, ◌<◌, ◌||◌, ◌&&◌, ℕ, IfOk, [], false, length, map, option_map, slice_index_or};
 ghost use Rattle.arguments.specs.Misfits.{checked};
 ghost use Rattle.arguments.specs.Rows.{any_values};
@@ -21,14 +21,14 @@ use values::language_names::{
 use values::{Object, Value};
 use world::{Stop, of_operation};
 
-// Whether a function may be called in the arguments of `project`.
+// Returns whether a function may be called in the arguments of `project`.
 fn may_come_first(function: Function) -> bool
     ensures { result ≡ Rattle.expressions.specs.Forms.may_come_first function }
 {
     matches!(function, Function::Disabler | Function::SubdirDone)
 }
 
-// Whether an object may be asked something in the arguments of `project`.
+// Returns whether an object's methods may be called in the arguments of `project`.
 fn may_be_asked_first(object: &Object) -> bool
     ensures { result ≡ Rattle.expressions.specs.Forms.may_be_asked_first object.now }
 {
@@ -44,7 +44,7 @@ fn is_empty(arguments: &Arguments) -> bool
     }
 }
 
-/// A method of a disabler: `found()` is false, and anything else is a disabler.
+/// Returns the result of a method of a disabler: `found()` is false, and any other method returns a disabler.
 pub fn disabler_method(
     alloc: Global,
     name: &MethodName,
@@ -62,7 +62,7 @@ pub fn disabler_method(
 impl<'a, T: Tree, O: Outputs, L: Ledger> Context<'a, T, O, L> {
     ghost use Rattle.expressions.specs.Contexts.{Answers};
 
-    // The thing of the run that a name stands for.
+    /// Returns the object of a predefined variable.
     pub fn thing(&self, name: &str) -> Result<Value, Stop>
         ensures gives { Answers T.seen O.seen data_of (thing name.now) self.now result self.now }
         ensures quiet { (n : ℕ) → failures_after n result ≡ n }
@@ -71,7 +71,7 @@ impl<'a, T: Tree, O: Outputs, L: Ledger> Context<'a, T, O, L> {
         Ok(value)
     }
 
-    /// The value of the variable of a number.
+    /// Returns the value of the variable whose name has this number, and refuses one without a value with E5.
     #[inline(always)]
     pub fn variable(&self, number: usize, line: usize) -> Result<Value, Stop>
         ensures gives { number < length self.now.store.now.names
@@ -86,7 +86,7 @@ impl<'a, T: Tree, O: Outputs, L: Ledger> Context<'a, T, O, L> {
         self.require_known(line, name, value)
     }
 
-    /// The value of the variable of a name, which is looked for at this number first.
+    /// Returns the value of the variable with a name, and refuses one without a value with E5. The name is tried at this number first.
     pub fn variable_at(&self, line: usize, number: Option<usize>, name: &str) -> Result<Value, Stop>
         ensures gives { Answers T.seen O.seen data_of (variable line name.now) self.now result self.now }
         ensures quiet { (n : ℕ) → failures_after n result ≡ n }
@@ -98,7 +98,7 @@ impl<'a, T: Tree, O: Outputs, L: Ledger> Context<'a, T, O, L> {
         self.require_known(line, name, value)
     }
 
-    // The value of a variable that has one.
+    // Returns the value of a variable, and refuses one without a value with E5.
     fn require_known(&self, line: usize, name: &str, value: Option<Value>) -> Result<Value, Stop>
         ensures gives { Answers T.seen O.seen data_of (known line name.now (option_map data_of value)) self.now result self.now }
         ensures quiet { (n : ℕ) → failures_after n result ≡ n }
@@ -109,7 +109,7 @@ impl<'a, T: Tree, O: Outputs, L: Ledger> Context<'a, T, O, L> {
         }
     }
 
-    /// The function of a name.
+    /// Returns the function with a name. Refuses an unsupported function of Meson with E23, and any other unknown name with E8.
     pub fn function_at(&self, line: usize, name: &FunctionName) -> Result<Function, Stop>
         ensures gives { Answers T.seen O.seen (λ f. f) (function_at line name.now) self.now result self.now }
         ensures quiet { (n : ℕ) → failures_after n result ≡ n }
@@ -127,14 +127,15 @@ impl<'a, T: Tree, O: Outputs, L: Ledger> Context<'a, T, O, L> {
         }
     }
 
-    // Whether a function may be called inside of an expression yet.
+    // Returns whether a function may already be called inside an expression.
     fn is_allowed(&self, function: Function) -> bool
         ensures { result ≡ (self.now.store.now.is_begun || may_come_first function) }
     {
         self.store.is_begun() || may_come_first(function)
     }
 
-    /// The function of a call that is a part of an expression.
+    /// Returns the function of a call that is part of an expression. Besides the refusals of `function_at`, it refuses most functions
+    /// before `project` with E13.
     pub fn function_inside(&self, line: usize, name: &FunctionName) -> Result<Function, Stop>
         ensures gives { Answers T.seen O.seen (λ f. f) (function_inside line name.now) self.now result self.now }
         ensures quiet { (n : ℕ) → failures_after n result ≡ n }
@@ -148,14 +149,14 @@ impl<'a, T: Tree, O: Outputs, L: Ledger> Context<'a, T, O, L> {
         }
     }
 
-    // Whether an object may be asked something yet.
+    // Returns whether an object's methods may already be called.
     fn may_be_asked(&self, object: &Object) -> bool
         ensures { result ≡ (self.now.store.now.is_begun || may_be_asked_first object.now) }
     {
         self.store.is_begun() || may_be_asked_first(object)
     }
 
-    /// Refuses to ask what may not be asked yet.
+    /// Refuses a method of an object that may not be called before `project` (E13).
     pub fn allow_asking(&self, line: usize, object: &Object) -> Result<(), Stop>
         ensures gives { Answers T.seen O.seen (λ u. u) (asked_of line object.now) self.now result self.now }
         ensures quiet { (n : ℕ) → failures_after n result ≡ n }
@@ -168,7 +169,7 @@ impl<'a, T: Tree, O: Outputs, L: Ledger> Context<'a, T, O, L> {
         }
     }
 
-    /// Refuses a name that no method of a value has.
+    /// Refuses a name that no method of a value has (E8).
     pub fn value_method_at(&self, line: usize, whole: &Value, name: &MethodName) -> Result<(), Stop>
         ensures gives { Answers T.seen O.seen (λ u. u) (known_method (has_name (data_of whole.now) name.now) line name.now)
             self.now result self.now }
@@ -181,7 +182,7 @@ impl<'a, T: Tree, O: Outputs, L: Ledger> Context<'a, T, O, L> {
         }
     }
 
-    // What the method of a value answers, or the stop of its refusal, with what that is about.
+    // Returns the result of a method of a value, or stops with its refusal and detail.
     fn method_answered(
         &self,
         line: usize,
@@ -202,7 +203,7 @@ impl<'a, T: Tree, O: Outputs, L: Ledger> Context<'a, T, O, L> {
         }
     }
 
-    // Refuses keywords, which no method of a value takes. Values may be of any kind and number.
+    // Refuses keyword arguments, which no method of a value takes. Positional arguments of any type and number are accepted here.
     fn require_no_keyword(&self, line: usize, arguments: &Arguments) -> Result<(), Stop>
         ensures gives { Answers T.seen O.seen (λ u. u) (fitted line (checked any_values (arguments_data arguments.now)))
             self.now result self.now }
@@ -215,7 +216,7 @@ impl<'a, T: Tree, O: Outputs, L: Ledger> Context<'a, T, O, L> {
         self.fit(line, fits)
     }
 
-    /// A method of a value that is no object.
+    /// Calls a method of a value other than an object, and returns its result.
     pub fn value_method(
         &self,
         line: usize,

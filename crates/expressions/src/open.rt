@@ -1,4 +1,4 @@
-//! Folders that are entered, and their definition files.
+//! Enters folders and reads their build files, for `subdir` of the page "Reference manual".
 ghost use Rattle.std.specs.Prelude.{◌≡◌, ℕ, List, IfOk, Some, false, length, string_bytes, bytes_eq};
 ghost use Rattle.std.specs.List.{list_any};
 ghost use Rattle.std.specs.Str.{is_utf8};
@@ -33,14 +33,14 @@ use world::{Place, Stop};
 impl<'a, T: Tree, O: Outputs, L: Ledger> Context<'a, T, O, L> {
     ghost use Rattle.expressions.specs.Contexts.{Answers, Fails, Given, HasRoom, Same, fault_on, stand_of};
 
-    /// The present line.
+    /// Returns the present line.
     pub fn line(&self) -> usize
         ensures { result ≡ self.now.store.now.line }
     {
         self.store.line()
     }
 
-    /// The present place.
+    /// Returns the present place.
     pub fn place(&self) -> Result<Place, AllocError>
         ensures file { IfOk result (λ place. string_bytes place.file ≡ self.now.store.now.file) }
         ensures folder { IfOk result (λ place. string_bytes place.folder ≡ self.now.store.now.folder) }
@@ -53,7 +53,8 @@ impl<'a, T: Tree, O: Outputs, L: Ledger> Context<'a, T, O, L> {
         })
     }
 
-    /// The folder that a text names in the present one: error 12 where it names none or one that was entered, error 22 past 4,096 folders.
+    /// Returns the folder that a text names below the present one. Refuses with E12 if it names none or one that was entered before, and
+    /// with E22 past 4,096 folders.
     pub fn fresh(&self, text: &str) -> Result<String, Stop>
         ensures gives { Answers T.seen O.seen string_bytes (fresh text.now) self.now result self.now }
         ensures new { IfOk result (λ path. list_any (bytes_eq (string_bytes path)) self.now.store.now.entered ≡ false) }
@@ -65,7 +66,7 @@ impl<'a, T: Tree, O: Outputs, L: Ledger> Context<'a, T, O, L> {
         }
     }
 
-    // Refuses to enter a folder, since the text that names it breaks the rule.
+    // Refuses to enter a folder with E12, since the text that names it breaks the rule.
     fn refuse_folder<A>(&self, rule: Rule, text: &str) -> Result<A, Stop>
         ensures { Refuses (fault_on self.now self.now.store.now.line Refusal.Subdir (broken rule text.now)) result }
     {
@@ -73,7 +74,7 @@ impl<'a, T: Tree, O: Outputs, L: Ledger> Context<'a, T, O, L> {
         self.refuse(self.store.line(), Refusal::Subdir, detail.as_str())
     }
 
-    // The folder that a text names, unless it was entered or too many were.
+    // Returns the folder that a text names, unless it was entered before or too many were.
     fn not_entered(&self, text: &str, folder: String) -> Result<String, Stop>
         ensures gives { Answers T.seen O.seen string_bytes
             (fresh_by text.now (Some (string_bytes folder)) self.now.store.now.entered) self.now result self.now }
@@ -90,7 +91,8 @@ impl<'a, T: Tree, O: Outputs, L: Ledger> Context<'a, T, O, L> {
         }
     }
 
-    /// Enters a folder and gives the code of its definition file: error 14 where that is absent, and those of its bytes.
+    /// Enters a folder and returns the code of its build file. Refuses with E14 if the file is absent, and with E22 or E1 to E4 for its
+    /// bytes.
     pub fn open(&mut self, folder: &str) -> Result<Code, Stop>
         requires new { list_any (bytes_eq folder.now) self.old.store.now.entered ≡ false }
         requires room { HasRoom T.seen O.seen self.old }
@@ -109,7 +111,7 @@ impl<'a, T: Tree, O: Outputs, L: Ledger> Context<'a, T, O, L> {
         }
     }
 
-    // Enters a folder whose definition file has so many bytes, and gives the code of these.
+    // Enters a folder whose build file has this many bytes, and returns the code of the file.
     fn enter_folder(&mut self, folder: &str, file: String, size: u64) -> Result<Code, Stop>
         requires new { list_any (bytes_eq folder.now) self.old.store.now.entered ≡ false }
         requires room { HasRoom T.seen O.seen self.old }
@@ -132,7 +134,7 @@ impl<'a, T: Tree, O: Outputs, L: Ledger> Context<'a, T, O, L> {
         self.read(size)
     }
 
-    // The code of the present definition file, which has so many bytes.
+    // Returns the code of the present build file, which has this many bytes.
     fn read(&mut self, size: u64) -> Result<Code, Stop>
         requires room { HasRoom T.seen O.seen self.old }
         ensures same { Same self.old self.new }
@@ -152,7 +154,7 @@ impl<'a, T: Tree, O: Outputs, L: Ledger> Context<'a, T, O, L> {
         self.code_of(&bytes)
     }
 
-    // The code that bytes of the present definition file spell.
+    // Returns the code of the present build file, from its bytes.
     fn code_of(&mut self, bytes: &[u8]) -> Result<Code, Stop>
         ensures same { Same self.old self.new }
         ensures device { Fails T.seen O.seen self.old result self.new }
@@ -169,7 +171,7 @@ impl<'a, T: Tree, O: Outputs, L: Ledger> Context<'a, T, O, L> {
         }
     }
 
-    // The code of a file.
+    // Returns the code of a parsed file.
     fn flatten(&mut self, file: &File<'_>) -> Result<Code, Stop>
         ensures same { Same self.old self.new }
         ensures device { Fails T.seen O.seen self.old result self.new }
@@ -181,7 +183,7 @@ impl<'a, T: Tree, O: Outputs, L: Ledger> Context<'a, T, O, L> {
         Ok(code)
     }
 
-    // The code that a text of the present definition file spells.
+    // Returns the code of the present build file, from its text.
     fn code_of_text(&mut self, text: &str) -> Result<Code, Stop>
         ensures same { Same self.old self.new }
         ensures device { Fails T.seen O.seen self.old result self.new }

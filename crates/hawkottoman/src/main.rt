@@ -1,15 +1,15 @@
-//! `meson setup` for C projects: from the words of a command line and the bytes of a source tree to the bytes of a build folder.
+//! Runs `meson setup` for C projects: from a command line and the bytes of a source tree to the bytes of a build directory.
 //!
-//! `main` hands the words and the runtime to [`run`]. What that does of a project is `meson::perform`, whose crate states the theorem of
-//! the whole.
+//! `main` passes the command line and the runtime to [`run`], which evaluates a project by `meson::perform`. The crate `meson` states the
+//! theorem about the whole.
 //!
 //! # Decisions
 //!
-//! **`run` is lent its streams.** [`run`] takes the runtime for files and memory, and two writers: one for the log and help, one for
-//! faults and refusals. So a test can read what a run says, and only `main` names the standard streams.
+//! **`run` gets its streams as arguments.** [`run`] takes the runtime for files and memory, and two writers: one for the log and help, one
+//! for faults and refusals. So a test can read what a run prints, and only `main` names the standard streams.
 //!
-//! **Closed streams are taken first.** The numbers of standard streams that are closed are taken by the root folder, opened for reading,
-//! so that no output gets one and what is said goes nowhere but into an error.
+//! **Closed streams are taken first.** The program opens the root folder for reading once for each closed standard stream. So no output
+//! gets the number of a standard stream, and a write to a closed stream fails.
 #![tactic(auto)]
 
 #[cfg(test)]
@@ -61,8 +61,8 @@ fn main(rt: HostRuntime) -> ExitCode {
     ExitCode::from(status)
 }
 
-// Takes the numbers of the standard streams that are closed, so that no file gets one and a write to a closed stream fails: a folder
-// that is open for reading takes no bytes.
+// Takes the numbers of the closed standard streams, so that no file gets one and a write to a closed stream fails. A folder that is open
+// for reading takes no bytes.
 fn hold_streams(rt: &HostRuntime) -> io::Result<Vec<File>> {
     let mut held = Vec::new(rt.alloc());
     for _ in 0..=STANDARD_ERROR {
@@ -75,7 +75,7 @@ fn hold_streams(rt: &HostRuntime) -> io::Result<Vec<File>> {
     Ok(held)
 }
 
-// The words of the command line, of which the first is the program's name.
+// Returns the words of the command line. The first is the program's name.
 fn words(rt: &HostRuntime) -> io::Result<Vec<String>> {
     Ok(env::args(rt)?.collect(rt.alloc())?)
 }

@@ -1,4 +1,4 @@
-//! A command line without even the program's name, which no shell gives.
+//! Tests a command line without even the program's name, which no shell gives.
 use crate::program::run;
 use std::test::Fail;
 

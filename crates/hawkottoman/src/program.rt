@@ -1,4 +1,4 @@
-//! A run of the program, over a folder of a disk.
+//! Runs the program over a folder of a disk.
 ghost use Rattle.std.specs.Prelude.{◌≡◌, ◌≢◌, ◌<◌, ◌≤◌, map, string_bytes};
 ghost use Rattle.std.specs.IoError.{error_kind};
 ghost use Rattle.command.specs.CommandLine.{IsLine, IsRefused, IsTaken};
@@ -20,21 +20,22 @@ use std::rt::Files;
 use std::{fs, io};
 use support::paths::path_below;
 
-// The exit status for words that are no command line.
+// The exit status for arguments that are no command line.
 const BAD_LINE: u8 = 4;
 
-// Where the sources are read. The system follows the path of each file, and by this one it needs not go through the folders above.
+// The path below which the sources are read. With this path, the system need not walk through the folders above for each file.
 const CURRENT_FOLDER: &str = ".";
 
-// The most bytes that are read of a machine file, which may be a pipe or a device. A text that is too long for a value fits.
+// The maximum number of bytes that are read of a machine file, which may be a pipe or a device. Every text that is short enough for a value
+// fits.
 const MACHINE_FILE_BYTES: usize = 33_554_432;
 
-/// Configures the project in the current folder, whose path is `root`, or tells what that asks of the machine file or which fault it ends
-/// in, as the words say, of which the first is the program's name. The log goes to `log`, fault lines and the program's own texts to
-/// `faults`, outputs to the folder that the words name, below `root`.
+/// Runs the command line `words` for the project in the current folder, whose path is `root`. The first word is the program's name.
 ///
-/// Answers the exit status: 0 done, 1 a fault of the sources, 2 a device failed, 3 memory ran out,
-/// 4 the words are no command line.
+/// `setup` configures the project, `questions` prints what that asks of the machine file, and `fault` prints the fault in which it ends.
+/// The log goes to `log`, fault lines and the program's own texts to `faults`, and outputs to the folder that the words name, below `root`.
+///
+/// Returns the exit status: 0 done, 1 a fault of the sources, 2 a device failed, 3 memory ran out, 4 the words are no command line.
 pub fn run<R: Files<File = File> + AllocGlobal, L: Write + Drop, F: Write + Drop>(
     rt: &R,
     words: &[String],
@@ -67,7 +68,7 @@ pub fn run<R: Files<File = File> + AllocGlobal, L: Write + Drop, F: Write + Drop
     }
 }
 
-// Does what the line says. A folder that holds a `meson.build` is one of sources, and none to build in.
+// Does what the line says. A folder with a `meson.build` is a source directory, so nothing is built in it.
 fn perform_line<R: Files<File = File> + AllocGlobal, L: Write + Drop, F: Write + Drop>(
     rt: &R,
     line: Line,
@@ -96,7 +97,7 @@ fn place_below(alloc: Global, root: &str, folder: &str) -> Result<OutputPlace, A
     })
 }
 
-// What a line is done over: the path of the folder of the sources, and the bytes of the machine file.
+// Holds the path of the source directory and the bytes of the machine file.
 #[derive(Clone, Copy)]
 struct Place<'a> {
     root: &'a str,
@@ -114,8 +115,8 @@ fn perform_over<T: Tree, O: Outputs>(
     requires tree { HasRoom (T.seen tree.old).failures }
     requires out { HasRoom (O.seen out.old).failures }
 
-    // Over a steady tree, status `Done` or `Fault` is that of the run that the line's task names, over this root, the line's folder and
-    // words, and these bytes of a machine file. With status `Device` or `Memory` the outputs took a beginning of it.
+    // If the tree is steady, status `Done` or `Fault` is that of the run of the line's task. The run is over this root, the line's folder
+    // and words, and these bytes of a machine file. With status `Device` or `Memory` the outputs took a beginning of it.
     ensures run { (files : DeviceFiles) (said : MachineSaid) → Holds (T.seen tree.old) files → IsSaid place.now.machine.now said
         → Agrees (run_by line.task files
         (settings_of place.now.root.now (string_bytes line.folder) (map string_bytes line.words.items)) said)
@@ -136,7 +137,7 @@ fn perform_over<T: Tree, O: Outputs>(
     }
 }
 
-// Does what the line says over the sources in this folder. Only `setup` writes, so only it takes the lock of the build folder.
+// Does what the line says over the sources in this folder. Only `setup` writes, so only it locks the build directory.
 fn perform_on_disk<'o, R: Files<File = File> + AllocGlobal, L: Write + Drop, F: Write + Drop>(
     rt: &R,
     line: Line,
@@ -151,12 +152,12 @@ fn perform_on_disk<'o, R: Files<File = File> + AllocGlobal, L: Write + Drop, F: 
         out.claim()?;
     }
     let status = perform_over(rt.alloc(), line, place, &mut tree, out);
-    // The status says how the run ended, also if what it left unfinished can't be removed.
+    // The status says how the run ended, even if an unfinished output can't be removed.
     let _ = out.clean_up();
     Ok(status)
 }
 
-// Whether there is a `meson.build` in the folder below this root.
+// Returns whether there is a `meson.build` in the folder below this root.
 fn holds_sources<R: Files + AllocGlobal>(rt: &R, root: &str, folder: &str) -> io::Result<bool> {
     let path = format!(in rt.alloc(); "{root}/{folder}/meson.build")?;
     match fs::symlink_metadata(rt, path.as_str()) {
@@ -168,14 +169,14 @@ fn holds_sources<R: Files + AllocGlobal>(rt: &R, root: &str, folder: &str) -> io
     }
 }
 
-// Says why nothing is built in the folder.
+// Writes why nothing is built in the folder.
 fn tell_of_sources<F: Write>(folder: &str, faults: &mut F) -> io::Result<()> {
     faults.write_all(b"meson: ")?;
     faults.write_all(folder.as_bytes())?;
     faults.write_all(b" holds a meson.build: it is a folder of sources\n")
 }
 
-// The bytes of the machine file; none where none is named.
+// Returns the bytes of the machine file, or none if none is named.
 fn machine_bytes<R: Files<File = File> + AllocGlobal>(
     rt: &R,
     root: &str,
@@ -195,7 +196,7 @@ fn machine_bytes<R: Files<File = File> + AllocGlobal>(
     Ok(bytes)
 }
 
-// The status of a run that failed so before its outputs were begun.
+// Returns the status of a run that failed with this error before its outputs were begun.
 fn status_of(error: &io::Error) -> Status
     ensures memory { error_kind error.now ≡ ErrorKind.OutOfMemory → result ≡ Status.Memory }
     ensures device { error_kind error.now ≢ ErrorKind.OutOfMemory → result ≡ Status.Device }
@@ -207,7 +208,7 @@ fn status_of(error: &io::Error) -> Status
     }
 }
 
-// Says why a run ended early, and gives its exit status.
+// Writes why a run ended early, and returns its exit status.
 fn say_ending<F: Write>(status: Status, faults: &mut F) -> u8
     ensures { result ≡ exit_status status }
 {

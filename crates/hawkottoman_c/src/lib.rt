@@ -1,4 +1,4 @@
-//! The library for C: one export for each call of `embedding`. `include/hawkottoman.h` documents them.
+//! Exports one function for C for each call of `embedding`. `include/hawkottoman.h` documents them.
 #![tactic(auto)]
 
 ghost use Rattle.std.specs.Prelude.{ℕ, List};
@@ -75,7 +75,7 @@ pub extern "C" fn hawkottoman_questions(
     embedding::questions(alloc, &given, room, length).status()
 }
 
-/// Says in which fault the project ends and what that is about, as `meson fault` does.
+/// Reports the fault in which the project ends, and its details, as `meson fault` does.
 #[unsafe(no_mangle)]
 pub extern "C" fn hawkottoman_fault(
     alloc: Global,

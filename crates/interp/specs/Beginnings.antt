@@ -1,4 +1,4 @@
--- How an evaluation begins.
+-- Defines how an evaluation begins.
 use Rattle.std.specs.Prelude.{◌≡◌, ℕ, Bool, true, false, List, [], Option, Some, None, Result, Ok, Err}
 use Rattle.syntax.specs.Tree.{StatementTree, AssignTree, AppendTree, ValueTree, BreakTree, ContinueTree, IfTree, ForeachTree, Statements}
 use Rattle.syntax.specs.Tree.{NoStatement, MoreStatements}
@@ -18,11 +18,12 @@ use Rattle.world.specs.declared.stop.Stop.{Stop}
 use Rattle.world.specs.declared.stop.Stop.TheVariants as stops
 use Rattle.interp.specs.Evaluation.{MachineSaid, defined, definitions, is_project}
 
--- the line of a statement that is no call of `project`
+-- Returns the line of a statement that is no call of `project`.
 abbrev pub line_unless : ℕ → Bool → Option ℕ
 line_unless line true = None
 line_unless line false = Some line
 
+-- Returns the line of a statement, or `None` if it is a call of `project`.
 abbrev pub other_line : StatementTree → Option ℕ
 other_line (ValueTree e line) = line_unless line (is_project e)
 other_line (AssignTree name line value) = Some line
@@ -32,17 +33,17 @@ other_line (ContinueTree line) = Some line
 other_line (IfTree line branches otherwise) = Some line
 other_line (ForeachTree line first second items items_line body) = Some line
 
--- the line of what stands where a call of `project` should begin a file, none where one does
+-- Returns the line at which a file should begin with a call of `project`, or `None` if it does begin with one.
 abbrev pub line_before : Statements → Option ℕ
 line_before NoStatement = Some 1
 line_before (MoreStatements s ss) = other_line s
 
--- by that line
+-- Refuses at that line.
 abbrev pub begun_at : Option ℕ → Plan (Unit {0})
 begun_at None = give tt
 begun_at (Some line) = refuse line refusals.ProjectCall []
 
--- a machine file was read that says this, or it is refused
+-- Relates the reading of a machine file to the result: it was read, or it is refused.
 abbrev pub Reads : {A : Type 0} → (A → List Section) → MachineSaid → Result A Stop → Type 0
 Reads view (Ok sections) (Ok x) = view x ≡ sections
 Reads view (Ok sections) (Err (stops.Refused fault)) = ⊥
@@ -51,7 +52,7 @@ Reads view (Err f) (Err (stops.Refused fault)) = fault_view fault ≡ told f
 Reads view said (Err stops.Device) = ⊥
 Reads view said (Err stops.Memory) = Unit {0}
 
--- the world before the root file, over a machine file that says this, or it is refused
+-- Relates the reading of a machine file to the world before the root file, or to its refusal.
 abbrev pub Starts : SettingsData → MachineSaid → Result Kept Stop → Type 0
 Starts s (Ok sections) (Ok kept) = world_of kept ≡ first_world s sections
 Starts s (Ok sections) (Err (stops.Refused fault)) = ⊥
@@ -60,7 +61,7 @@ Starts s (Err f) (Err (stops.Refused fault)) = fault_view fault ≡ told f
 Starts s said (Err stops.Device) = ⊥
 Starts s said (Err stops.Memory) = Unit {0}
 
--- over these files, a call did from one store to another what the root file does, and so where long loops are refused
+-- Over these files, a call did what the root file does, from one store to another. It also did so with long loops refused.
 pub record RootGives (files : Files) (old : Kept) (out : OutputState) (ticks : ℕ) (result : Result (Unit {0})
     Stop) (new : Kept) (out_now : OutputState) (ticks_now : ℕ) : Type 0 where
   pub gives : Gives (λ u. u) (carry files definitions (world_of old)) result (world_of new) (seen out ticks old.names)

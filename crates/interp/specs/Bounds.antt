@@ -1,10 +1,10 @@
--- How far an evaluation may go.
+-- Defines the limits of an evaluation.
 use Rattle.std.specs.Prelude.{ℕ, Bool}
 
 pub record Bounds : Type 0 where
-  -- whether a loop over more than 65,536 values is refused
+  -- Whether a loop over more than 65,536 values is refused.
   pub few : Bool
-  -- how many more folders may stand inside one another
+  -- How many more folders may be nested.
   pub left : ℕ
 
 abbrev pub bounds : Bool → ℕ → Bounds

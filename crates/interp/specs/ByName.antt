@@ -1,4 +1,4 @@
--- Functions and methods by their names: looking them up, and calling them.
+-- Defines how functions and methods are looked up and called by their names.
 use Rattle.std.specs.Prelude.{ℕ, Bool, true, false, List, Option, Some, None, ok_or, Result, Ok, Err}
 use Rattle.arguments.specs.Arguments.{ArgumentsData}
 use Rattle.arguments.specs.Disablers.{gives_disabler}
@@ -25,95 +25,101 @@ use Rattle.world.specs.Operation.{of_operation}
 
 -- ---- what a name names
 
--- A name that names nothing is E23 if the manual has it and it is left out, else E8.
+-- Returns the refusal of a name that names nothing: E23 if the manual has it and it is left out, else E8.
 abbrev pub unnamed : Bool → Refusal
 unnamed true = refusals.LeftOut
 unnamed false = refusals.UnknownFunction
 
--- the function with a name
+-- Returns the function with a name.
 abbrev pub function_of : List ℕ → Result Function Refusal
 function_of name = ok_or (function_named name) (unnamed (is_left_out name))
 
--- whether there is a method with a name, and whether the name is left out
+-- Succeeds if there is a method with a name, or refuses the name, given whether it is left out.
 abbrev pub known : Bool → Bool → Result (Unit {0}) Refusal
 known true left_out = Ok tt
 known false left_out = Err (unnamed left_out)
 
--- a method of an object, or of a plain value; no method of a plain value is left out
+-- Looks up a method of an object or of a plain value. No method of a plain value is left out.
 abbrev pub method_in : Option Object → Data → List ℕ → Result (Unit {0}) Refusal
 method_in (Some o) d name = known (has_object_method o name) (is_left_out_method o name)
 method_in None d name = known (has_name d name) false
 
+-- Looks up a method of a receiver, given whether that is a disabler.
 abbrev pub method_by : Bool → Data → List ℕ → Result (Unit {0}) Refusal
 method_by true d name = Ok tt
 method_by false d name = method_in (object_in d) d name
 
--- whether a receiver has a method with a name; a disabler has every method
+-- Looks up a method of a receiver. A disabler has every method.
 abbrev pub method_of : Data → List ℕ → Result (Unit {0}) Refusal
 method_of d name = method_by (is_disabler d) d name
 
+-- Returns a result without its value.
 abbrev pub done : {A : Type 0} → Result A Refusal → Result (Unit {0}) Refusal
 done (Ok a) = Ok tt
 done (Err refusal) = Err refusal
 
--- Whether a name names a function, or with a receiver a method of the receiver; if not, its refusal.
+-- Looks up a function, or a method of the receiver if there is one.
 abbrev pub lookup : Option Data → List ℕ → Result (Unit {0}) Refusal
 lookup None name = done (function_of name)
 lookup (Some d) name = method_of d name
 
 -- ---- the call
 
+-- Returns a disabler if the call is turned off, and else calls the function.
 abbrev pub function_called_by : Bool → Function → ArgumentsData → Deed (Option Data)
 function_called_by true f a = give (Some disabler)
 function_called_by false f a = call f a
 
--- a function on evaluated arguments; a disabler among them turns the call off
+-- Calls a function on evaluated arguments. A disabler among them turns the call off.
 abbrev pub function_called : Function → ArgumentsData → Deed (Option Data)
 function_called f a = function_called_by (is_turned_off f a) f a
 
--- what a method of a value gives, or its refusal, with what that is about
+-- Returns the value of a method, or its refusal with details.
 abbrev pub answered_with : (OperationRefusal → List ℕ) → Result Data OperationRefusal → Deed Data
 answered_with detail (Ok d) = give d
 answered_with detail (Err refusal) = refuse (of_operation refusal) (detail refusal)
 
+-- Returns the value of a method of a plain value, or refuses with its details.
 abbrev pub method_answered : Data → List ℕ → List Data → Deed Data
 method_answered d name ds = answered_with (method_detail d name ds) (method_answer d name ds)
 
--- a method of a plain value: it takes values of any kind and number, and no keyword
+-- Calls a method of a plain value, which takes values of any kind and number, and no keyword.
 unfoldable pub value_method : Data → List ℕ → ArgumentsData → Deed (Option Data)
 value_method d name a = do
   _ ← fit any_values a
   e ← method_answered d name a.positional
   give (Some e)
 
+-- Calls a method of an object or of a plain value.
 abbrev pub method_called_on : Option Object → Data → List ℕ → ArgumentsData → Deed (Option Data)
 method_called_on (Some o) d name a = object_method o name a
 method_called_on None d name a = value_method d name a
 
--- a disabler among the arguments turns the call off
+-- Returns a disabler if one is among the arguments, and else calls the method.
 abbrev pub method_called_unless : Bool → Data → List ℕ → ArgumentsData → Deed (Option Data)
 method_called_unless true d name a = give (Some disabler)
 method_called_unless false d name a = method_called_on (object_in d) d name a
 
+-- Calls a method of a receiver, given whether that is a disabler.
 abbrev pub method_called_by : Bool → Data → List ℕ → ArgumentsData → Deed (Option Data)
 method_called_by true d name a = give (Some (disabler_method name a))
 method_called_by false d name a = method_called_unless (gives_disabler a) d name a
 
--- a method of a receiver on evaluated arguments
+-- Calls a method of a receiver on evaluated arguments.
 abbrev pub method_called : Data → List ℕ → ArgumentsData → Deed (Option Data)
 method_called d name a = method_called_by (is_disabler d) d name a
 
--- a call of a function that was looked up, or the refusal of its name
+-- Calls a function that was looked up, or refuses its name.
 abbrev pub function_call : Result Function Refusal → List ℕ → ArgumentsData → Deed (Option Data)
 function_call (Ok f) name a = function_called f a
 function_call (Err refusal) name a = refuse refusal name
 
--- a call of a method that was looked up, or the refusal of its name
+-- Calls a method that was looked up, or refuses its name.
 abbrev pub method_call : Result (Unit {0}) Refusal → Data → List ℕ → ArgumentsData → Deed (Option Data)
 method_call (Ok u) d name a = method_called d name a
 method_call (Err refusal) d name a = refuse refusal name
 
--- A call by a name: first the name is looked up, then the function or the method is called on evaluated arguments.
+-- Calls a function or a method by its name: looks the name up, then calls it on evaluated arguments.
 abbrev pub call_by_name : Option Data → List ℕ → ArgumentsData → Deed (Option Data)
 call_by_name None name a = function_call (function_of name) name a
 call_by_name (Some d) name a = method_call (method_of d name) d name a

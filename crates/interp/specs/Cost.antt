@@ -1,4 +1,4 @@
--- How many rules the evaluation of a tree of files can end at most.
+-- Defines how many rules the evaluation of a tree of files can end at most.
 use Rattle.std.specs.Prelude.{ℕ, ◌+◌, ◌*◌, ◌-◌, Bool, ◌||◌, ◌&&◌, List, length, drop, [], ◌∷◌, Result, Ok, Err, codes, bytes_eq}
 use Rattle.std.specs.Prelude.{if◌then◌else◌}
 use Rattle.std.specs.Str.{is_utf8}
@@ -12,7 +12,7 @@ use Rattle.syntax.specs.Tree.{StatementTree, AssignTree, AppendTree, ValueTree, 
 use Rattle.syntax.specs.Tree.{NoStatement, MoreStatements, Branches, NoBranch, MoreBranches, FileTree, statements}
 use Rattle.world.specs.Deed.{Files}
 
--- an expression costs one, and what its parts cost
+-- Returns the cost of an expression: one, plus the cost of its parts.
 abbrev mutual
   pub value_cost : ExpressionTree → ℕ
   value_cost (NameTree name line) = 1
@@ -49,7 +49,7 @@ abbrev mutual
   chain_cost NoOperand = 0
   chain_cost (MoreOperands operator e es) = value_cost e + chain_cost es
 
--- so does a statement, but a loop costs its body, and one, for each round that a list can give
+-- Returns the cost of a statement: one, plus the cost of its parts. A loop costs its body plus one for each iteration that a list allows.
 abbrev mutual
   pub statement_cost : StatementTree → ℕ
   statement_cost (AssignTree name line value) = 1 + value_cost value
@@ -68,19 +68,20 @@ abbrev mutual
   statements_cost NoStatement = 0
   statements_cost (MoreStatements s ss) = statement_cost s + statements_cost ss
 
--- a file that parses is a node, and its statements are its parts
+-- Returns the cost of a file that parses: one for the file, plus the cost of its statements.
 abbrev pub parsed_cost : Result FileTree SyntaxFault → ℕ
 parsed_cost (Ok tree) = 1 + statements_cost (statements tree)
 parsed_cost (Err fault) = 0
 
--- the root's definition file, or one in a folder
+-- Returns whether the path is that of the root's definition file, or of one in a folder.
 abbrev pub is_definition_file : List ℕ → Bool
 is_definition_file path = bytes_eq path (codes "meson.build") || bytes_eq (drop (length path - 12) path) (codes "/meson.build")
 
--- a definition file that is UTF-8 and parses; other files cost nothing
+-- Returns the cost of a definition file that is UTF-8 and parses. Other files cost nothing.
 abbrev pub file_cost : List ℕ × List ℕ → ℕ
 file_cost file = if is_definition_file file.0 && is_utf8 file.1 then parsed_cost (parsed file.1) else 0
 
+-- Returns the cost of all files of a tree.
 abbrev pub tree_cost : Files → ℕ
 tree_cost [] = 0
 tree_cost (file ∷ files) = file_cost file + tree_cost files

@@ -1,4 +1,4 @@
--- What a call of `subdir` does, up to the folder that it enters.
+-- Defines what a call of `subdir` does, up to the folder that it enters.
 use Rattle.std.specs.Prelude.{ℕ, Bool, true, false, List, Option, Some, None, codes}
 use Rattle.values.specs.Data.{Data}
 use Rattle.arguments.specs.Arguments.{ArgumentsData}
@@ -16,29 +16,32 @@ use Rattle.interp.specs.declared.flow.Flow.{Flow}
 use Rattle.interp.specs.declared.flow.Flow.TheVariants.{Next}
 use Rattle.expressions.specs.Forms.{fitted}
 
--- the statement has ended, or the folder that a text names is entered
+-- The statement has ended, or the folder that a text names is entered.
 pub data WayData : Type 0 where
   Ends : Flow → WayData
   Enters : List ℕ → WayData
 
--- `subdir` enters a folder, `subdir_done` leaves the file, and others are called
+-- Returns what a function does as a statement: `subdir` enters a folder, `subdir_done` leaves the file, and others are called.
 abbrev pub action_of : Function → Action
 action_of functions.Subdir = Enter
 action_of functions.SubdirDone = Leave
 action_of f = Call
 
--- all dependencies of `if_found` are found
+-- Returns whether all dependencies of `if_found` are found.
 abbrev pub found_or : Option Data → Bool
 found_or None = true
 found_or (Some d) = are_found d
 
+-- Returns whether the keyword `if_found` lets `subdir` enter its folder.
 abbrev pub is_wanted : ArgumentsData → Bool
 is_wanted a = found_or (keyword (codes "if_found") a)
 
+-- Enters the folder of a call of `subdir`, or passes over it.
 abbrev pub entered_by : Bool → ArgumentsData → WayData
 entered_by true a = Enters (text_at 0 a)
 entered_by false a = Ends Next
 
+-- Does nothing if a disabler turns `subdir` off, and else enters its folder.
 abbrev pub subdir_by : Bool → ℕ → ArgumentsData → Plan WayData
 subdir_by true line a = give (Ends Next)
 subdir_by false line a = do
@@ -46,11 +49,11 @@ subdir_by false line a = do
   _ ← at line
   give (entered_by (is_wanted a) a)
 
--- `subdir`; a disabler among the arguments turns it off
+-- Runs `subdir`. A disabler among its arguments turns it off.
 abbrev pub entering : ℕ → ArgumentsData → Plan WayData
 entering line a = subdir_by (gives_disabler a) line a
 
--- here `into` is what it does to enter the folder that a text names
+-- Continues in this way. `into` is what the run does to enter the folder that a text names.
 abbrev pub by_way : (List ℕ → Plan Flow) → WayData → Plan Flow
 by_way into (Ends flow) = give flow
 by_way into (Enters text) = into text

@@ -1,4 +1,4 @@
--- What a whole evaluation comes to.
+-- Defines what a whole evaluation results in.
 use Rattle.std.specs.Prelude.{◌≡◌, ℕ, ◌+◌, ◌≤◌, List, ◌++◌, length, true, Result, Ok, Err}
 use Rattle.ports.specs.Outputs.{OutputState, Sends}
 use Rattle.ports.specs.Tree.{TreeState}
@@ -11,15 +11,15 @@ use Rattle.world.specs.Trace.{Begins, Mark, Seen, steps_of}
 use Rattle.world.specs.declared.stop.Stop.{Stop}
 use Rattle.world.specs.declared.stop.Stop.TheVariants as stops
 
--- the run ended in the world that is given, or in this fault, whatever it asked; or a device failed or no memory was left after a
--- beginning of its marks
+-- Holds if the run ended in this world, or in this fault, whatever it asked, or if a device failed or memory ran out after a beginning of
+-- its marks.
 abbrev pub Evaluated : Run (Unit {0}) → Result Kept Stop → Seen → Seen → Type 0
 Evaluated run (Ok store) old new = Ends run (Done tt) (world_of store) old new
 Evaluated run (Err (stops.Refused fault)) old new = Faults run (Faulted (fault_view fault)) (world_after run).asked old new
 Evaluated run (Err stops.Device) old new = Begins (marks_of run) old new
 Evaluated run (Err stops.Memory) old new = Begins (marks_of run) old new
 
--- A run that stopped: it ticked at most the cost, and for each rule that ended before the last of the steps that the outputs took.
+-- The run stopped: it ticked at most the cost, and once for each rule that ended before the last step that the outputs took.
 pub record TickedSome (marks : List Mark) (cost : ℕ) (old new : Seen) : Type 0 where
   pub made : List Mark
   pub left : List Mark
@@ -28,14 +28,14 @@ pub record TickedSome (marks : List Mark) (cost : ℕ) (old new : Seen) : Type 0
   pub most : new.ticks ≤ old.ticks + cost
   pub least : old.ticks + below (length (steps_of made)) (counts_from 0 marks) ≤ new.ticks
 
--- how an evaluation has ticked that ended so
+-- Holds if an evaluation with this result has ticked as it should.
 abbrev pub Ticked : {A B : Type 0} → Run A → ℕ → Result B Stop → Seen → Seen → Type 0
 Ticked run cost (Ok x) old new = TicksAll (marks_of run) cost old.ticks new.ticks
 Ticked run cost (Err (stops.Refused fault)) old new = TicksAll (marks_of run) cost old.ticks new.ticks
 Ticked run cost (Err stops.Device) old new = TickedSome (marks_of run) cost old new
 Ticked run cost (Err stops.Memory) old new = TickedSome (marks_of run) cost old new
 
--- one of the devices has failed once more where the answer says so, and else none has
+-- One of the devices has failed once more if the result says so, and else none has.
 pub record FailsOnce {B : Type 0} (tree : TreeState) (out : OutputState) (result : Result B Stop) (tree_now : TreeState)
     (out_now : OutputState) : Type 0 where
   pub of_tree : tree.failures ≤ tree_now.failures

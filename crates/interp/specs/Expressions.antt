@@ -1,4 +1,4 @@
--- What expressions mean: one paragraph for each form of node.
+-- Defines what expressions mean, with a paragraph for each form of node.
 use Rattle.std.specs.Prelude.{ℕ, Bool, true, false, List, [], ◌∷◌, ◌++◌, Option, Some, None}
 use Rattle.syntax.specs.ExpressionTree.{ExpressionTree, NameTree, LiteralTree, ListTree, DictionaryTree, FunctionTree, PostfixTree}
 use Rattle.syntax.specs.ExpressionTree.{PrefixTree, ChainTree, TernaryTree, ExpressionTrees, NoExpression, MoreExpressions, EntryTrees}
@@ -26,57 +26,60 @@ use Rattle.interp.specs.Entering.{action_of, by_way, entering}
 
 -- ---- calls
 
--- a disabler among the arguments turns the call off
+-- Returns a disabler if one among the arguments turns the call off, and else calls the function.
 abbrev pub called_by : Bool → ℕ → Function → ArgumentsData → Plan (Option Data)
 called_by true line f a = give (Some disabler)
 called_by false line f a = do
   _ ← at line
   deed (call f a)
 
--- a function on its evaluated arguments
+-- Calls a function on evaluated arguments.
 abbrev pub called : ℕ → Function → ArgumentsData → Plan (Option Data)
 called line f a = called_by (is_turned_off f a) line f a
 
 -- ---- methods
 
+-- Refuses a name that no method of an object has, and an object that may not be queried yet.
 abbrev pub known_object_method : Bool → ℕ → Object → List ℕ → Plan (Unit {0})
 known_object_method true line o name = asked_of line o
 known_object_method false line o name = refused_name line name (is_left_out_method o name)
 
--- whether an object has a method of a name, and may be asked yet
+-- Checks that an object has a method of this name and may be queried yet.
 abbrev pub object_method_at : ℕ → Object → List ℕ → Plan (Unit {0})
 object_method_at line o name = known_object_method (has_object_method o name) line o name
 
+-- Checks that a receiver has a method of this name, given whether that is a disabler.
 abbrev pub method_at_by : Bool → Option Object → ℕ → Data → List ℕ → Plan (Unit {0})
 method_at_by true o line d name = give tt
 method_at_by false (Some o) line d name = object_method_at line o name
 method_at_by false None line d name = known_method (has_name d name) line name
 
--- whether a receiver has a method of a name; a disabler has all
+-- Checks that a receiver has a method of this name. A disabler has all.
 abbrev pub method_at : ℕ → Data → List ℕ → Plan (Unit {0})
 method_at line d name = method_at_by (is_disabler d) (object_in d) line d name
 
--- a method of an object
+-- Calls a method of an object.
 abbrev pub object_method_called : ℕ → Object → List ℕ → ArgumentsData → Plan (Option Data)
 object_method_called line o name a = do
   _ ← at line
   deed (object_method o name a)
 
--- by whether a disabler is among the arguments: it turns the call off
+-- Calls a method, unless a disabler among the arguments turns the call off.
 abbrev pub method_by : Bool → Option Object → ℕ → Data → List ℕ → ArgumentsData → Plan (Option Data)
 method_by true o line d name a = give (Some disabler)
 method_by false (Some o) line d name a = object_method_called line o name a
 method_by false None line d name a = value_method line d name a
 
+-- Calls a method of a receiver, given whether that is a disabler.
 abbrev pub method_called_by : Bool → ℕ → Data → List ℕ → ArgumentsData → Plan (Option Data)
 method_called_by true line d name a = give (Some (disabler_method name a))
 method_called_by false line d name a = method_by (gives_disabler a) (object_in d) line d name a
 
--- a method of a receiver on its evaluated arguments: it gives a value, or nothing
+-- Calls a method of a receiver on evaluated arguments. It may have no value.
 abbrev pub method_called : ℕ → Data → List ℕ → ArgumentsData → Plan (Option Data)
 method_called line d name a = method_called_by (is_disabler d) line d name a
 
--- a method of a receiver, whose arguments are evaluated so
+-- Calls a method of a receiver, and evaluates its arguments first.
 abbrev pub method_of : ℕ → Data → List ℕ → Plan ArgumentsData → Plan (Option Data)
 method_of line d name evaluated = do
   _ ← method_at line d name
@@ -85,9 +88,9 @@ method_of line d name evaluated = do
 
 -- ---- expressions
 
--- Here `into` is what it does to enter the folder that a text names.
+-- `into` is what the run does to enter the folder that a text names.
 module _ (into : List ℕ → Plan Flow) where
-  -- A call of `subdir` inside of an expression enters its folder. It gives nothing, so it is refused then.
+  -- Enters the folder of a call of `subdir` inside an expression. The call has no value, so it is refused then.
   abbrev pub entered_inside : Bool → ℕ → ArgumentsData → Plan Data
   entered_inside true line a = give disabler
   entered_inside false line a = do
@@ -95,6 +98,7 @@ module _ (into : List ℕ → Plan Flow) where
     _ ← by_way into way
     refuse line refusals.Type []
 
+  -- Calls a function inside an expression, by what it does as a statement.
   abbrev pub inside_by : Action → ℕ → Function → ArgumentsData → Plan Data
   inside_by Enter line f a = entered_inside (gives_disabler a) line a
   inside_by Leave line f a = do
@@ -104,7 +108,7 @@ module _ (into : List ℕ → Plan Flow) where
     d ← called line f a
     needed line d
 
-  -- a function inside of an expression, on its evaluated arguments: it has to give a value
+  -- Calls a function inside an expression, on evaluated arguments. It must have a value.
   abbrev pub called_inside : ℕ → Function → ArgumentsData → Plan Data
   called_inside line f a = inside_by (action_of f) line f a
 
@@ -135,7 +139,7 @@ module _ (into : List ℕ → Plan Flow) where
       d ← ruled (value_of test)
       chosen line (boolean_in d) (is_disabler d) (ruled (value_of one)) (ruled (value_of other))
 
-    -- the items so far, and those of the rest
+    -- The items so far, followed by those of the rest.
     pub values_of : Items → ExpressionTrees → Plan Items
     values_of ds NoExpression = give ds
     values_of ds (MoreExpressions e es) = do
@@ -155,7 +159,7 @@ module _ (into : List ℕ → Plan Flow) where
       d ← ruled (value_of e)
       arguments_of (with_argument a name d) es
 
-    -- what is asked of a value in turn: methods and indexes; of nothing nothing is asked
+    -- Applies methods and indexes to a value in turn.
     pub links_of : ℕ → Option Data → LinkTrees → Plan (Option Data)
     links_of line o NoLink = give o
     links_of line o (MoreLinks l ls) = do
@@ -169,14 +173,14 @@ module _ (into : List ℕ → Plan Flow) where
       i ← ruled (value_of index)
       part_at line d i
 
-    -- a chain of operators, with the value so far
+    -- Applies a chain of operators to the value so far.
     pub chain_of : ℕ → Data → OperandTrees → Plan Data
     chain_of line d NoOperand = give d
     chain_of line d (MoreOperands operator e es) = do
       x ← combined line (meaning_of operator) d (ruled (value_of e))
       chain_of line x es
 
-  -- what an expression gives that is a statement: its last method may give nothing
+  -- Evaluates an expression that is a statement. Its last method may have no value.
   abbrev pub given_by : ExpressionTree → Plan (Option Data)
   given_by (PostfixTree first ls line) = ruled (value_of first) >>= λ d. links_of line (Some d) ls
   given_by e = do

@@ -1,4 +1,4 @@
--- Folders, and the files that they are entered by.
+-- Defines how folders are entered, and the files by which they are entered.
 use Rattle.std.specs.Prelude.{ℕ, Bool, zero, suc, List, []}
 use Rattle.support.specs.declared.faults.refusal.Refusal.TheVariants as refusals
 use Rattle.world.specs.Deed.{refuse, read}
@@ -9,7 +9,7 @@ use Rattle.interp.specs.declared.flow.Flow.TheVariants.{Next}
 use Rattle.interp.specs.Bounds.{Bounds}
 use Rattle.interp.specs.Statements.{do_all}
 
--- The folder that a text names is entered, and its definition file does what it does, where so many more may stand inside one another.
+-- Enters the folder that a text names and runs its definition file. The number is that of the folders that may still be nested.
 abbrev pub folder_by : Bool → ℕ → List ℕ → Plan Flow
 folder_by few zero text = do
   path ← fresh text
@@ -22,6 +22,6 @@ folder_by few (suc left) text = do
   _ ← go_back outer
   give Next
 
--- so within these bounds
+-- Does so within these bounds.
 abbrev pub folder : Bounds → List ℕ → Plan Flow
 folder b = folder_by b.few b.left

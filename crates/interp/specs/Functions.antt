@@ -1,4 +1,4 @@
--- The functions of the page "Reference manual", on evaluated arguments.
+-- Defines the functions of the Meson manual's page "Reference manual", on evaluated arguments.
 use Rattle.std.specs.Prelude.{Bool, false, not, ◌&&◌, Option, None, codes, if◌then◌else◌, [], ◌∷◌}
 use Rattle.values.specs.Data.{Data}
 use Rattle.arguments.specs.Arguments.{ArgumentsData}
@@ -24,7 +24,7 @@ use Rattle.values.specs.declared.language_names.functions.Function.{Function}
 use Rattle.values.specs.declared.language_names.functions.Function.TheVariants as functions
 use Rattle.calls.specs.language_calls.Turning.{makes_file}
 
--- what a function takes
+-- Returns what arguments a function takes.
 abbrev pub row_of : Function → RowData
 row_of functions.Assert = values (Boolean ∷ Text ∷ []) 1
 row_of functions.Disabler = values [] 0
@@ -43,7 +43,7 @@ row_of functions.SubdirDone = values [] 0
 row_of functions.UnsetVariable = values (Text ∷ []) 1
 row_of functions.Warning = any_values
 
--- what a function does with arguments that its row has let through: a value, or none
+-- Runs a function on arguments that its row accepts. It may have no value.
 abbrev pub does : Function → ArgumentsData → Deed (Option Data)
 does functions.Assert a = assert a
 does functions.Disabler a = give_disabler
@@ -57,30 +57,32 @@ does (functions.OfProject f) a = project_function f a
 does functions.Project a = project a
 does functions.Range a = range a
 does functions.SetVariable a = set_variable a
--- beside the folder that it enters
+-- Does nothing besides entering the folder, which is defined elsewhere.
 does functions.Subdir a = give None
--- as a part of an expression; a statement ends the file
+-- Does nothing as a part of an expression. As a statement it ends the file.
 does functions.SubdirDone a = give None
 does functions.UnsetVariable a = unset_variable a
 does functions.Warning a = warning a
 
--- `configure_file` with another format than `'meson'`, which is left out
+-- Returns whether `configure_file` gets a format other than `'meson'`, which is left out.
 abbrev pub has_other_format : Function → ArgumentsData → Bool
 has_other_format f a = makes_file f && not (has_meson_format a)
 
--- what a function takes beside these arguments
+-- Returns what a function takes if it gets these arguments.
 abbrev pub row_for : Function → ArgumentsData → RowData
 row_for f a = if has_other_format f a then other_format_row else row_of f
 
--- a disabler among the arguments of `project`, which turns no call of it off, and which it does not take
+-- Returns whether `project` gets a disabler. It does not turn the call off, and `project` does not take it.
 abbrev pub has_unwanted_disabler : Function → ArgumentsData → Bool
 has_unwanted_disabler functions.Project a = gives_disabler a
 has_unwanted_disabler f a = false
 
+-- Refuses a disabler among the arguments of `project` (E9).
 unfoldable pub without_disabler : Function → ArgumentsData → Deed (Unit {0})
 without_disabler f a = need (not (has_unwanted_disabler f a)) refusals.Arguments (codes "arguments: takes no disabler")
 
--- a function on its arguments, which its row looks at first; then `project` given a disabler is E9, also where its row lets that through
+-- Calls a function on its arguments, after checking them against its row. A disabler among the arguments of `project` is E9, even if its
+-- row accepts it.
 unfoldable pub call : Function → ArgumentsData → Deed (Option Data)
 call f a = do
   _ ← fit (row_for f a) a

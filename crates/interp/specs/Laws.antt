@@ -1,4 +1,4 @@
--- What holds of every evaluation.
+-- States what holds of every evaluation.
 use Rattle.std.specs.Prelude.{◌≡◌, ℕ, ◌≤◌, IsTrue, List, Option, None, Some, Ok, Err}
 use Rattle.arguments.specs.Arguments.{ArgumentsData}
 use Rattle.expressions.specs.Forms.{function_inside}
@@ -17,50 +17,49 @@ use Rattle.interp.specs.Cost.{tree_cost}
 use Rattle.interp.specs.Expressions.{called, method_of}
 use Rattle.interp.specs.Evaluation.{IsSaid, MachineSaid, evaluated, evaluated_few, sections_of}
 
--- two machine files agree on these questions: both have sections, which answer them the same, or both have the same fault
+-- Holds if two machine files agree on these questions: both have sections that give the same answers, or both have the same fault.
 abbrev pub SayAlike : MachineSaid → MachineSaid → List Asked → Type 0
 SayAlike (Ok sections) (Ok others) asked = AgreeOn sections others asked
 SayAlike (Ok sections) (Err fault) asked = ⊥
 SayAlike (Err fault) (Ok others) asked = ⊥
 SayAlike (Err fault) (Err other) asked = other ≡ fault
 
--- Of any two trees of files that agree on the paths looked at by the evaluation of the first, and two machine files that agree on the
--- questions that it asks, both evaluations are equal: in outcome, in the marks, and in the world after it, but for what stands beside the
--- answers in the machine file.
+-- Take two trees that agree on the paths that the evaluation of the first looks at, and two machine files that agree on the questions that
+-- it asks. Then both evaluations are equal: in outcome, in the marks, and in the world after it, except for the parts of the machine file
+-- that no question is about.
 abbrev pub DependsOnLooked : Type 0
 DependsOnLooked = (f g : Files) (settings : SettingsData) (said other : MachineSaid)
     → Agree f g (world_after (evaluated f settings said)).looked → SayAlike said other (world_after (evaluated f settings said)).asked
     → evaluated g settings other ≡ ran_over (sections_of other) (evaluated f settings said)
 
--- After an evaluation the project has noted the paths that were looked at, each once, in the order of the first look, by whether the tree
--- has a file there.
+-- After an evaluation the project has noted the paths that were looked at: each once, in the order of the first look, as present or absent.
 pub record NotesWhatItLooksAt : Type 0 where
   pub looks : (files : Files) (settings : SettingsData) (said : MachineSaid)
       → NotesLooks files (world_after (evaluated files settings said))
   pub present : (files : Files) (settings : SettingsData) (said : MachineSaid)
       → PresentAreFiles files (world_after (evaluated files settings said))
 
--- After an evaluation that is done each output of `configure_file` has been closed.
+-- After a successful evaluation each output of `configure_file` has been closed.
 abbrev pub ClosesWhatItMakes : Type 0
 ClosesWhatItMakes = (files : Files) (settings : SettingsData) (said : MachineSaid) → ClosesOutputs (evaluated files settings said)
 
--- An evaluation in which no loop is over more than 65,536 values ends no more rules than its tree of files costs.
+-- An evaluation in which no loop is over more than 65,536 values ends at most as many rules as its tree of files costs.
 abbrev pub StepsWithinCost : Type 0
 StepsWithinCost = (files : Files) (settings : SettingsData) (said : MachineSaid)
     → ends_of (marks_of (evaluated_few files settings said)) ≤ tree_cost files
 
--- Bytes are read as a machine file that says one thing, and no other.
+-- Bytes have exactly one reading as a machine file.
 pub record MachineFilesSay : Type 0 where
   pub something : (bytes : List ℕ) → (said : MachineSaid) × IsSaid bytes said
   pub once : (bytes : List ℕ) (said other : MachineSaid) → IsSaid bytes said → IsSaid bytes other → said ≡ other
 
--- what evaluation does of a call at a line, inside of an expression, whose arguments have these values
+-- Returns what evaluation does for a call at a line, inside an expression, with these argument values.
 abbrev pub evaluated_call : ℕ → Option Data → List ℕ → ArgumentsData → Plan (Option Data)
 evaluated_call line None name a = function_inside line name >>= λ f. called line f a
 evaluated_call line (Some d) name a = method_of line d name (give a)
 
--- A call by a name, where `project` was called, is what evaluation does of that call at the present line: in outcome, in the world after it
--- and in the marks.
+-- A call by a name, after `project` was called, is what evaluation does for that call at the present line: in outcome, in the world after
+-- it, and in the marks.
 abbrev pub CallsAsEvaluated : Type 0
 CallsAsEvaluated = (files : Files) (w : World) (receiver : Option Data) (name : List ℕ) (a : ArgumentsData) → IsTrue w.facts.is_begun
     → perform files (call_by_name receiver name a) w ≡ carry files (evaluated_call w.facts.line receiver name a) w

@@ -1,4 +1,4 @@
--- How far the parts of nodes reach: a number above those of all parts. Evaluation goes down by it.
+-- Defines how far the parts of nodes reach: a number above those of all parts. Evaluation descends by it.
 use Rattle.std.specs.Prelude.{ℕ, suc, max, Bool, true, false, List, [], ◌∷◌, slice_index_or}
 use Rattle.code.specs.declared.code.Code.{Code}
 use Rattle.code.specs.declared.node.Node.{Node}
@@ -9,6 +9,7 @@ use Rattle.code.specs.declared.node.OperandNode.{OperandNode}
 use Rattle.code.specs.declared.node.LinkNode.{LinkNode}
 use Rattle.code.specs.declared.node.LinkNode.TheVariants.{Method, Index}
 
+-- Returns a number that is no less than any that f gives for the items.
 abbrev pub above : {X : Type 0} → (X → ℕ) → List X → ℕ
 above f [] = 0
 above f (x ∷ xs) = max (f x) (above f xs)
@@ -29,8 +30,9 @@ abbrev pub above_link : LinkNode → ℕ
 above_link (Method name items) = above above_argument items.items
 above_link (Index i) = suc i
 
--- ---- nodes that have parts
+-- ---- nodes with parts
 
+-- Returns whether a node has parts.
 abbrev pub has_parts : Node → Bool
 has_parts (nodes.Name number line) = false
 has_parts (nodes.Literal line literal) = false
@@ -42,11 +44,11 @@ has_parts (nodes.Prefix prefix value line) = true
 has_parts (nodes.Chain first others line) = true
 has_parts (nodes.Ternary test one other line) = true
 
--- the node with this number has parts; there is always one
+-- Returns whether the node with this number has parts; there always is one.
 abbrev pub has_parts_at : Code → ℕ → Bool
 has_parts_at c i = has_parts (slice_index_or c.nodes.items i (nodes.Name 0 0))
 
--- those that are no chain and of which nothing is asked
+-- Returns whether the node has parts, but is neither a chain nor a value with methods or indexes.
 abbrev pub is_rare : Node → Bool
 is_rare (nodes.Name number line) = false
 is_rare (nodes.Literal line literal) = false

@@ -1,4 +1,4 @@
--- The functions of the page "Reference manual" that say something of the project.
+-- Defines the functions of the Meson manual's page "Reference manual" that declare something of the project.
 use Rattle.std.specs.Prelude.{Option}
 use Rattle.values.specs.Data.{Data}
 use Rattle.arguments.specs.Arguments.{ArgumentsData}
@@ -27,7 +27,7 @@ use Rattle.world.specs.Deed.{Deed}
 use Rattle.values.specs.declared.language_names.functions.ProjectFunction.{ProjectFunction}
 use Rattle.values.specs.declared.language_names.functions.ProjectFunction.TheVariants as functions
 
--- what a function takes
+-- Returns what arguments a function takes.
 abbrev pub project_function_row : ProjectFunction → RowData
 project_function_row functions.AddProjectArguments = project_words_row
 project_function_row functions.AddProjectLinkArguments = project_words_row
@@ -49,7 +49,7 @@ project_function_row functions.SharedLibrary = shared_library_row
 project_function_row functions.StaticLibrary = target_row
 project_function_row functions.Test = test_row
 
--- what a function does with arguments that its row has let through: a value, or none
+-- Runs a function on arguments that its row accepts. It may have no value.
 abbrev pub project_function : ProjectFunction → ArgumentsData → Deed (Option Data)
 project_function functions.AddProjectArguments a = add_project_arguments a
 project_function functions.AddProjectLinkArguments a = add_project_link_arguments a

@@ -1,4 +1,4 @@
--- What statements do: one paragraph for each form of node.
+-- Defines what statements do, with a paragraph for each form of node.
 use Rattle.std.specs.Prelude.{ℕ, Bool, true, false, List, [], ◌∷◌, length, nat_le, Result, Ok, Err}
 use Rattle.syntax.specs.ExpressionTree.{ExpressionTree, FunctionTree}
 use Rattle.syntax.specs.Tree.{StatementTree, AssignTree, AppendTree, ValueTree, BreakTree, ContinueTree, IfTree, ForeachTree, Statements}
@@ -18,49 +18,51 @@ use Rattle.interp.specs.Acting.{performed}
 use Rattle.interp.specs.Entering.{by_way}
 use Rattle.interp.specs.Expressions.{value_of, given_by}
 
--- after a statement
+-- Continues after a statement.
 abbrev pub on_next : Flow → Plan Flow → Plan Flow
 on_next Next others = others
 on_next Continued others = give Continued
 on_next Broken others = give Broken
 on_next Finished others = give Finished
 
--- after a round
+-- Continues after an iteration.
 abbrev pub after_round : Flow → Plan Flow → Plan Flow
 after_round Next others = others
 after_round Continued others = others
 after_round Broken others = give Next
 after_round Finished others = give Finished
 
--- the rounds that are left
+-- Runs the iterations that are left.
 abbrev pub rounds_of : (Round → Plan Flow) → List Round → Plan Flow
 rounds_of round [] = give Next
 rounds_of round (r ∷ rs) = do
   flow ← ruled (round r)
   after_round flow (rounds_of round rs)
 
--- Whether there are no more rounds than may be; `few`: those of a loop are counted.
+-- Returns whether there are no more iterations than allowed. `few`: the iterations of a loop are limited.
 abbrev pub are_allowed : Bool → List Round → Bool
 are_allowed false rounds = true
 are_allowed true rounds = nat_le (length rounds) 65536
 
+-- Runs the iterations of a loop, or refuses with E22 if there are too many.
 abbrev pub walked_by : Bool → ℕ → Plan Flow → Plan Flow
 walked_by true line rounds = rounds
 walked_by false line rounds = refuse line refusals.Limit []
 
+-- Runs the iterations of a loop, or refuses the value that it is over.
 abbrev pub walked : Bool → ℕ → (Round → Plan Flow) → Result (List Round) Refusal → Plan Flow
 walked few line round (Ok rounds) = walked_by (are_allowed few rounds) line (rounds_of round rounds)
 walked few line round (Err refusal) = refuse line refusal []
 
--- what is done of an `if` by what is chosen of it
+-- Continues with the part of an `if` that was chosen.
 abbrev pub by_choice : Choice → Plan Flow → Plan Flow → Plan Flow
 by_choice Body body others = body
 by_choice Others body others = others
 by_choice Skip body others = give Next
 
--- Here `into` is what it does to enter the folder that a text names.
+-- `into` is what the run does to enter the folder that a text names.
 module _ (into : List ℕ → Plan Flow) where
-  -- an expression that is a statement: a call may give nothing
+  -- Runs an expression as a statement. A call may have no value.
   abbrev pub stated : ExpressionTree → Plan Flow
   stated (FunctionTree name es line) = ruled (performed into line name es >>= λ way. by_way into way)
   stated e = do
@@ -69,8 +71,8 @@ module _ (into : List ℕ → Plan Flow) where
 
 -- ---- statements
 
--- So is `into` here; and `few` is whether a loop over more than 65,536 values is refused. What definition files mean is said without that
--- refusal. With it the rules that end can be counted before any run; and since no value has so many items, a run of the program is both.
+-- `into` is the same here, and `few` says whether a loop over more than 65,536 values is refused. The meaning of definition files has no
+-- such refusal. With it, the rules that end can be counted before any run. No value has so many items, so a run of the program is both.
 module _ (into : List ℕ → Plan Flow) (few : Bool) where
   abbrev mutual
     pub does : StatementTree → Plan Flow

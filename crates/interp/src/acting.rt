@@ -1,4 +1,4 @@
-//! Calls that are statements.
+//! Runs calls that are statements.
 ghost use Rattle.std.specs.Prelude.{◌≡◌, ◌≤◌, ℕ, IfOk, length, map};
 ghost use Rattle.code.specs.Nodes.{argument_at};
 ghost use Rattle.syntax.specs.ExpressionTree.{arguments as argument_trees};
@@ -21,27 +21,27 @@ use std::sync::ledger::Ledger;
 use values::language_names::{Function, FunctionName};
 use world::Stop;
 
-/// What a function does as a statement.
+/// Says what a function does as a statement.
 #[derive(Clone, Copy)]
 pub enum Action {
-    /// It is called, and what it gives is let go.
+    /// The function is called, and its value is dropped.
     Call,
-    /// It enters a folder.
+    /// The function enters a folder.
     Enter,
-    /// It leaves the file.
+    /// The function leaves the file.
     Leave,
 }
 
-/// How a call that is a statement goes on.
+/// Says how a call that is a statement continues.
 #[derive(Drop)]
 pub enum Way {
     /// The statement has ended.
     Ends(Flow),
-    /// The folder that this text names is entered.
+    /// The run enters the folder that this text names.
     Enters(String),
 }
 
-/// What a function does as a statement.
+/// Returns what a function does as a statement.
 pub fn action_of(function: Function) -> Action
     ensures { result ≡ action_of function }
 {
@@ -52,7 +52,7 @@ pub fn action_of(function: Function) -> Action
     }
 }
 
-// The folder of a call of `subdir`, where all dependencies of `if_found` are found.
+// Returns the folder of a call of `subdir`, if all dependencies of `if_found` are found.
 fn way_into(alloc: Global, arguments: &Arguments) -> Result<Way, AllocError>
     ensures { IfOk result (λ way. way_view way ≡ entered_by (is_wanted (arguments_data arguments.now)) (arguments_data arguments.now)) }
 {
@@ -71,7 +71,7 @@ impl<'a, T: Tree, O: Outputs, L: Ledger> Evaluator<'a, T, O, L> {
     ghost use Rattle.expressions.specs.Contexts.{Answers, Fails, HasRoom, Same};
     ghost use Rattle.interp.specs.Evaluates.{Evaluates, FailsInside};
 
-    /// `subdir`, up to its folder.
+    /// Runs `subdir`, up to its folder (Meson reference manual, `subdir`).
     pub fn subdir(&mut self, line: usize, arguments: &Arguments) -> Result<Way, Stop>
         ensures same { Same self.old.context self.new.context }
         ensures device { Fails T.seen O.seen self.old.context result self.new.context }
@@ -87,7 +87,7 @@ impl<'a, T: Tree, O: Outputs, L: Ledger> Evaluator<'a, T, O, L> {
         Ok(way_into(self.context.alloc, arguments)?)
     }
 
-    // `subdir_done`
+    // Runs `subdir_done` (Meson reference manual, `subdir_done`).
     fn subdir_done(&self, line: usize, arguments: &Arguments) -> Result<Way, Stop>
         ensures gives { Answers T.seen O.seen way_view (leaving line (arguments_data arguments.now))
             self.now.context result self.now.context }
@@ -101,7 +101,7 @@ impl<'a, T: Tree, O: Outputs, L: Ledger> Evaluator<'a, T, O, L> {
         Ok(Way::Ends(Flow::Finished))
     }
 
-    // A function as a statement, on its evaluated arguments: a value is let go.
+    // Runs a function as a statement, on evaluated arguments, and drops its value.
     fn call_as_statement(
         &mut self,
         line: usize,
@@ -124,7 +124,7 @@ impl<'a, T: Tree, O: Outputs, L: Ledger> Evaluator<'a, T, O, L> {
         }
     }
 
-    /// A call that is a statement, up to the folder that it enters.
+    /// Runs a call that is a statement, up to the folder that it enters.
     pub fn perform(
         &mut self,
         code: &Code,

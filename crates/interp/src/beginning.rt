@@ -1,4 +1,4 @@
-//! The first statement of the root file.
+//! Checks the first statement of the root file.
 ghost use Rattle.std.specs.Prelude.{◌≡◌, ◌<◌, ℕ, List, length};
 ghost use Rattle.code.specs.Nodes.{tree_of};
 ghost use Rattle.code.specs.Statements.{statement_at};
@@ -10,7 +10,7 @@ ghost use Rattle.interp.specs.Evaluation.{is_project};
 use code::Code;
 use code::node::{Node, StatementNode};
 
-// Whether an expression is a call of `project`.
+// Returns whether an expression is a call of `project`.
 fn is_project(node: &Node) -> bool
     ensures { (names : List (List ℕ)) (ts : List ExpressionTree)
         → result ≡ is_project (tree_of names ts node.now) }
@@ -21,7 +21,7 @@ fn is_project(node: &Node) -> bool
     }
 }
 
-// The line of a statement that is no call of `project`.
+// Returns the line of a statement that is no call of `project`.
 fn other_line(code: &Code, number: usize) -> Option<usize>
     requires { number < length code.now.statements.items }
     ensures { (names : List (List ℕ)) → result ≡ other_line (statement_at (statements_by names code.now) number) }
@@ -43,7 +43,7 @@ fn other_line(code: &Code, number: usize) -> Option<usize>
     }
 }
 
-/// The line of what stands where the file should begin with a call of `project`, none where it does.
+/// Returns the line at which the file should begin with a call of `project`, or `None` if it does begin with one.
 pub fn line_before_project(code: &Code) -> Option<usize>
     ensures { (names : List (List ℕ)) → result ≡ line_before (file_by names code.now) }
 {

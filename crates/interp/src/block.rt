@@ -1,4 +1,4 @@
-//! Lists of statements in the code of a file.
+//! Finds the lists of statements in the code of a file.
 ghost use Rattle.std.specs.Prelude.{◌≡◌};
 ghost use Rattle.std.specs.List.{list_all};
 ghost use Rattle.interp.specs.Blocks.{branch_or, is_simple_at, part_of, statements_of};
@@ -6,16 +6,16 @@ ghost use Rattle.interp.specs.Blocks.{branch_or, is_simple_at, part_of, statemen
 use code::Code;
 use code::node::{BranchNode, IfNode, StatementNode};
 
-/// A list of statements.
+/// Names a list of statements.
 #[derive(Clone, Copy)]
 pub enum Block {
     /// The statements of the file itself.
     File,
-    /// Those of a part of a statement: a branch of an `if` by its place, its `else` behind the last branch, or the body of a loop.
+    /// The statements of a part of a statement: a branch of an `if` by its index, its `else` after the last branch, or the body of a loop.
     Part { statement: usize, part: usize },
 }
 
-// The statements of a branch, or of `else` where there is no such branch.
+// Returns the statements of a branch, or those of `else` if there is no such branch.
 fn branch_or<'a>(branches: &'a [BranchNode], otherwise: &'a [usize], part: usize) -> &'a [usize]
     ensures { result.now ≡ branch_or otherwise.now branches.now part }
 {
@@ -26,7 +26,7 @@ fn branch_or<'a>(branches: &'a [BranchNode], otherwise: &'a [usize], part: usize
     }
 }
 
-// The statements of a part of a statement.
+// Returns the statements of a part of a statement.
 fn part_of(node: &StatementNode, part: usize) -> &[usize]
     ensures { result.now ≡ part_of node.now part }
 {
@@ -44,7 +44,7 @@ fn part_of(node: &StatementNode, part: usize) -> &[usize]
     }
 }
 
-/// The numbers of the statements of a block.
+/// Returns the numbers of the statements of a block.
 pub fn statements_of(code: &Code, block: Block) -> &[usize]
     ensures { result.now ≡ statements_of code.now block }
 {
@@ -60,7 +60,7 @@ pub fn statements_of(code: &Code, block: Block) -> &[usize]
     }
 }
 
-/// Whether each statement of a block gives a variable a value or leaves the block, so that none of them needs the stack.
+/// Returns whether each statement of a block sets a variable or leaves the block. Then none of them needs the stack.
 pub fn are_simple(code: &Code, block: Block) -> bool
     ensures { result ≡ list_all (is_simple_at code.now) (statements_of code.now block) }
 {

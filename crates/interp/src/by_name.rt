@@ -22,7 +22,7 @@ use values::language_names::{Function, FunctionName, MethodName, is_left_out};
 use values::{Object, Text, Value};
 use world::{Caller, Stop, of_operation};
 
-/// The name of a function or of a method. `CallName::new` looks up what the text names, so later calls compare no names. Contracts see a
+/// Holds the name of a function or of a method. `CallName::new` looks the text up once, so later calls compare no names. Contracts see a
 /// name as its text.
 #[derive(Drop)]
 pub struct CallName {
@@ -41,7 +41,7 @@ impl Model for CallName {
 }
 
 impl CallName {
-    /// Returns the name with this text, or E22 if the text is longer than a text value can be.
+    /// Returns the name with this text. Fails with E22 if the text is longer than a text value can be.
     pub fn new(alloc: Global, text: &str) -> Result<Result<CallName, values::Refusal>, AllocError>
         ensures { IfOk result (λ r. r ≡ within_bytes text.now) }
     {
@@ -69,7 +69,7 @@ impl CallName {
         self.function.function()
     }
 
-    // Returns the name as it is given to methods.
+    // Returns the name in the form that methods take.
     fn method(&self) -> &MethodName
         ensures { result.now ≡ self.now }
     {
@@ -88,7 +88,8 @@ fn unnamed(is_left_out: bool) -> Refusal
     }
 }
 
-// Returns the function with a name. E23 if the name is left out, E8 if it is unknown.
+// Returns the function with a name. Fails with E23 if Meson has the function and this program leaves it out, or with E8 if the name is
+// unknown.
 fn function_of(name: &CallName) -> Result<Function, Refusal>
     ensures { result ≡ function_of name.now }
 {
@@ -98,7 +99,7 @@ fn function_of(name: &CallName) -> Result<Function, Refusal>
     }
 }
 
-// Succeeds if there is a method. E23 if its name is left out, else E8.
+// Succeeds if there is a method. Fails with E23 if its name is left out, or else with E8.
 fn known(is_there: bool, is_left_out: bool) -> Result<(), Refusal>
     ensures { result ≡ known is_there is_left_out }
 {
@@ -141,7 +142,8 @@ fn function_known(name: &CallName) -> Result<(), Refusal>
     }
 }
 
-/// Looks up a function, or with a receiver a method of the receiver. E23 if the name is left out, E8 if it is unknown. Allocates nothing.
+/// Looks up a function, or a method of the receiver if there is one. Fails with E23 if the name is left out, or with E8 if it is unknown.
+/// Allocates nothing.
 pub fn lookup(receiver: Option<&Value>, name: &CallName) -> Result<(), Refusal>
     ensures { result ≡ lookup (option_map (λ v. data_of v.now) receiver.entry) name.now }
 {
@@ -167,7 +169,7 @@ fn function_called<T: Tree, O: Outputs>(
     functions::call(caller, function, arguments)
 }
 
-// Returns what a method of a plain value gives. A refusal says what it is about.
+// Returns the value of a method of a plain value. A refusal gets its details.
 fn method_answered<T: Tree, O: Outputs>(
     caller: &Caller<'_, T, O>,
     receiver: &Value,
@@ -265,10 +267,10 @@ fn call_method<T: Tree, O: Outputs>(
     }
 }
 
-/// Calls a function by its name, or with a receiver a method of the receiver. The arguments are evaluated. Returns the value of the call,
-/// or none if it gives nothing.
+/// Calls a function by its name, or a method of the receiver if there is one, on evaluated arguments. Returns the value of the call, or
+/// `None` if it has none.
 ///
-/// First the name is looked up, as [`lookup`] does. If it is refused, the caller stays as it was. Then a disabler among the arguments turns
+/// First the name is looked up, as [`lookup`] does. If it is refused, the caller stays unchanged. Then a disabler among the arguments turns
 /// the call off. Then the arguments are checked against what the function or method takes.
 ///
 /// `subdir` checks its arguments and does nothing else: only [`evaluate`](crate::evaluate) enters folders. Only `evaluate` requires that

@@ -1,4 +1,4 @@
-//! Calls: of functions, and of methods.
+//! Calls functions, and methods of values.
 ghost use Rattle.std.specs.Prelude.{◌≡◌, ℕ, false, option_map};
 ghost use Rattle.expressions.specs.Contexts.{Answers, Fails, HasRoom, Same};
 ghost use Rattle.world.specs.Prelude.{arguments_data, data_of, failures_after};
@@ -17,7 +17,7 @@ use values::language_names::{Function, MethodName};
 use values::{Object, Value};
 use world::{Caller, Stop};
 
-// A function on its arguments, at a line.
+// Calls a function on its arguments, at a line.
 fn carry_out<T: Tree, O: Outputs, L: Ledger>(
     context: &mut Context<'_, T, O, L>,
     line: usize,
@@ -40,7 +40,7 @@ fn carry_out<T: Tree, O: Outputs, L: Ledger>(
     call(&mut caller, function, arguments)
 }
 
-// A method of an object on its arguments, at a line.
+// Calls a method of an object on its arguments, at a line.
 fn object_method_of<T: Tree, O: Outputs, L: Ledger>(
     context: &mut Context<'_, T, O, L>,
     line: usize,
@@ -65,7 +65,7 @@ fn object_method_of<T: Tree, O: Outputs, L: Ledger>(
 }
 
 impl<'a, T: Tree, O: Outputs, L: Ledger> Evaluator<'a, T, O, L> {
-    /// A function on its evaluated arguments: it gives a value, or nothing.
+    /// Calls a function on evaluated arguments. Returns its value, or `None` if it has none.
     pub fn call_function(
         &mut self,
         line: usize,
@@ -84,7 +84,7 @@ impl<'a, T: Tree, O: Outputs, L: Ledger> Evaluator<'a, T, O, L> {
         carry_out(&mut self.context, line, function, arguments)
     }
 
-    // Refuses a name that no method of an object has, and what may not be asked yet.
+    // Refuses a name that no method of an object has, and an object that may not be queried yet.
     fn object_method_at(&self, line: usize, object: &Object, name: &MethodName) -> Result<(), Stop>
         ensures gives { Answers T.seen O.seen (λ u. u) (object_method_at line object.now name.now)
             self.now.context result self.now.context }
@@ -101,7 +101,8 @@ impl<'a, T: Tree, O: Outputs, L: Ledger> Evaluator<'a, T, O, L> {
         }
     }
 
-    // Refuses a name that no method of a receiver has.
+    /// Fails with E8 for a name that no method of a receiver has, and with E23 for one that is left out. Fails with E13 for an object that
+    /// may not be queried yet. A disabler takes any name.
     pub fn method_at(&self, line: usize, whole: &Value, name: &MethodName) -> Result<(), Stop>
         ensures gives { Answers T.seen O.seen (λ u. u) (method_at line (data_of whole.now) name.now)
             self.now.context result self.now.context }
@@ -116,7 +117,7 @@ impl<'a, T: Tree, O: Outputs, L: Ledger> Evaluator<'a, T, O, L> {
         }
     }
 
-    // A method of a receiver on its evaluated arguments: it gives a value, or nothing.
+    /// Calls a method of a receiver on evaluated arguments. Returns its value, or `None` if it has none.
     pub fn method_called(
         &mut self,
         line: usize,

@@ -1,4 +1,4 @@
-//! Statements that enter a folder.
+//! Enters folders from statements.
 ghost use Rattle.std.specs.Prelude.{Bool};
 ghost use Rattle.interp.specs.Bounds.{bounds};
 ghost use Rattle.interp.specs.Folders.{folder};
@@ -18,8 +18,8 @@ use world::Stop;
 impl<'a, T: Tree, O: Outputs, L: Ledger> Evaluator<'a, T, O, L> {
     ghost use Rattle.expressions.specs.Contexts.{Fails, HasRoom, Same};
 
-    /// Enters the folder that a text names, where so many more may stand inside one another: its file is to be done, and then left for
-    /// the present place.
+    /// Enters the folder that a text names: its file is run next, and then left for the present place. `left` is how many more folders may
+    /// be nested.
     pub fn enter(&mut self, text: &str, left: usize, stack: &mut Vec<Frame>) -> Result<Flow, Stop>
         requires room { HasRoom T.seen O.seen self.old.context }
         ensures same { Same self.old.context self.new.context }

@@ -1,4 +1,4 @@
-//! A whole evaluation.
+//! Runs a whole evaluation.
 ghost use Rattle.std.specs.Prelude.{Bool, ◌≡◌, ℕ, [], IfOk, length};
 ghost use Rattle.std.specs.Rc.{rc_value};
 ghost use Rattle.machine.specs.machine_file.View.{machine_in};
@@ -25,18 +25,18 @@ use std::sync::ledger::Ledger;
 use support::faults::Refusal;
 use world::{Settings, Steps, Stop, Store, end_rule, ends_keep_up};
 
-/// What an evaluation is given beside its devices.
+/// Holds what an evaluation is given besides its devices.
 #[derive(Clone, Copy)]
 pub struct Inputs<'a> {
     pub settings: &'a Settings,
-    /// The bytes of the machine file; none where there is no such file.
+    /// The bytes of the machine file, or none if there is no machine file.
     pub machine: &'a [u8],
 }
 
 impl<'a, T: Tree, O: Outputs, L: Ledger> Evaluator<'a, T, O, L> {
     ghost use Rattle.expressions.specs.Contexts.{Answers, Fails, HasRoom as HasRooms, Same};
 
-    // The statements of the root file, of which the first has to be a call of `project`.
+    // Runs the statements of the root file, the first of which must be a call of `project`.
     fn root_statements(&mut self, code: Code) -> Result<Flow, Stop>
         requires known { code.names ≡ length self.old.context.store.now.names }
         requires room { HasRooms T.seen O.seen self.old.context }
@@ -51,7 +51,7 @@ impl<'a, T: Tree, O: Outputs, L: Ledger> Evaluator<'a, T, O, L> {
         }
     }
 
-    // The root file, where no folder was entered.
+    // Runs the root file, before any folder is entered.
     fn definitions(&mut self) -> Result<(), Stop>
         requires new { self.old.context.store.now.entered ≡ [] }
         requires room { HasRooms T.seen O.seen self.old.context }
@@ -66,8 +66,10 @@ impl<'a, T: Tree, O: Outputs, L: Ledger> Evaluator<'a, T, O, L> {
     }
 }
 
-/// Evaluates the definitions of a tree, from its root file on, in a new world. What was done stands in the store, also after a fault: the
-/// questions that were asked of the machine file until then are [`Store::questions`].
+/// Evaluates the definitions of a tree, from its root file on, in a new world.
+///
+/// The store holds what was done, even after a fault. [`Store::questions`] are the questions that were asked of the machine file until
+/// then.
 pub fn definitions<T: Tree, O: Outputs, L: Ledger>(
     alloc: Global,
     store: &mut Store,
@@ -91,7 +93,8 @@ pub fn definitions<T: Tree, O: Outputs, L: Ledger>(
     evaluator.definitions()
 }
 
-/// The machine file that these bytes spell. A file that is none is the fault; nothing was looked at then.
+/// Returns the machine file that these bytes spell. Fails with the fault of the machine file if they spell none; the tree was not looked at
+/// then.
 pub fn read_machine(alloc: Global, bytes: &[u8]) -> Result<Rc<Machine>, Stop>
     ensures reads { (said : MachineSaid) → IsSaid bytes.now said → Reads (λ m. machine_in (rc_value m)) said result }
     ensures quiet { (n : ℕ) → failures_after n result ≡ n }
@@ -102,7 +105,7 @@ pub fn read_machine(alloc: Global, bytes: &[u8]) -> Result<Rc<Machine>, Stop>
     }
 }
 
-// The world in which the root file is evaluated, over the machine file.
+// Returns the world in which the root file is evaluated, over the machine file.
 fn start(alloc: Global, inputs: &Inputs<'_>) -> Result<Store, Stop>
     ensures starts { (said : MachineSaid) → IsSaid inputs.now.machine.now said
         → Starts (settings_view inputs.now.settings.now) said result }
@@ -114,7 +117,7 @@ fn start(alloc: Global, inputs: &Inputs<'_>) -> Result<Store, Stop>
     Ok(store)
 }
 
-/// Evaluates the machine file and then the definitions of a tree, from its root file on, and gives the world after them.
+/// Evaluates the machine file and then the definitions of a tree, from its root file on, and returns the world after them.
 pub fn evaluate<T: Tree, O: Outputs, L: Ledger>(
     alloc: Global,
     tree: &mut T,
@@ -132,7 +135,7 @@ pub fn evaluate<T: Tree, O: Outputs, L: Ledger>(
         (seen (O.seen out.old) steps.old []) (seen (O.seen out.new) steps.new []) }
     ensures device { FailsOnce (T.seen tree.old) (O.seen out.old) result (T.seen tree.new) (O.seen out.new) }
 {
-    // The law that `ticks` rests on; the call does nothing.
+    // This call proves the law that the clause `ticks` rests on. It does nothing.
     ends_keep_up();
     let mut store = start(alloc, inputs)?;
     definitions(alloc, &mut store, tree, out, steps)?;

@@ -1,13 +1,13 @@
-//! What evaluates definition files.
+//! Holds the state of an evaluation.
 use arguments::Arguments;
 use expressions::Context;
 use ports::{Outputs, Tree};
 use std::sync::ledger::Ledger;
 
-/// What evaluates definition files.
+/// Evaluates definition files.
 #[derive(Drop)]
 pub struct Evaluator<'a, T, O, L: Ledger> {
     pub context: Context<'a, T, O, L>,
-    /// The lists of the arguments of a method that has answered, empty: the next method takes them and asks for no memory.
+    /// The empty lists of the arguments of an earlier method. The next method reuses their memory.
     pub room: &'a mut Arguments,
 }

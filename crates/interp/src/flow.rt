@@ -1,13 +1,13 @@
-//! How statements end.
+//! Says how statements end.
 ghost use Rattle.std.specs.Prelude.{◌≡◌};
 ghost use Rattle.interp.specs.Blocks.{behind_loop, goes_round, is_next};
 
-/// How a statement ends.
+/// Says how a statement ends.
 #[derive(Clone, Copy)]
 pub enum Flow {
     /// The next statement follows.
     Next,
-    /// The round of the loop is left.
+    /// The iteration of the loop is left.
     Continued,
     /// The loop is left.
     Broken,
@@ -16,7 +16,7 @@ pub enum Flow {
 }
 
 impl Flow {
-    /// Whether the next statement follows.
+    /// Returns whether the next statement follows.
     pub fn is_next(self) -> bool
         ensures { result ≡ is_next self }
     {
@@ -28,7 +28,7 @@ impl Flow {
         }
     }
 
-    /// Whether the next round of a loop follows, after a round.
+    /// Returns whether the next iteration of a loop follows, after an iteration that ended so.
     pub fn goes_round(self) -> bool
         ensures { result ≡ goes_round self }
     {
@@ -40,7 +40,7 @@ impl Flow {
         }
     }
 
-    /// How a loop ends that a round has left.
+    /// Returns how a loop ends after an iteration that left it.
     pub fn behind_loop(self) -> Flow
         ensures { result ≡ behind_loop self }
     {

@@ -1,4 +1,4 @@
-//! What is still to be done, on a stack of frames.
+//! Holds the work that is still to be done, on a stack of frames.
 ghost use Rattle.std.specs.Prelude.{◌≤◌, IsTrue, length, nat_lt};
 ghost use Rattle.code.specs.Statements.{second_within};
 ghost use Rattle.expressions.specs.Rounds.{rounds_in};
@@ -10,17 +10,17 @@ use std::rc::Rc;
 use values::Value;
 use world::Place;
 
-/// The statements of a block from a place on.
+/// Holds the statements of a block from an index on.
 #[derive(Drop)]
 pub struct BlockRest {
     pub code: Rc<Code>,
     pub block: Block,
     pub at: usize,
-    /// How many more folders may stand inside one another.
+    /// How many more folders may be nested.
     pub left: usize,
 }
 
-/// The head of a loop: its line, the names by their numbers, and the statements of a round.
+/// Holds the head of a loop: its line, its variables by their numbers, and its statements.
 #[derive(Clone, Copy)]
 pub struct LoopHead {
     pub line: usize,
@@ -29,31 +29,31 @@ pub struct LoopHead {
     pub body: Block,
 }
 
-/// The rounds of a loop over a value from one on.
+/// Holds the iterations of a loop over a value, from an index on.
 #[derive(Drop)]
 pub struct LoopRest {
     pub code: Rc<Code>,
     pub head: LoopHead,
     pub whole: Value,
     pub at: usize,
-    /// How many more folders may stand inside one another.
+    /// How many more folders may be nested.
     pub left: usize,
     pub ghost few: { length (rounds_in (data_of whole)) ≤ 65536 },
     pub ghost first: { IsTrue (nat_lt head.first code.value.names) },
     pub ghost second: { IsTrue (second_within code.value.names head.second) },
 }
 
-/// What is still to be done once something has ended.
+/// Names the work that follows once something has ended.
 #[derive(Drop)]
 pub enum Frame {
     /// The other statements of a block.
     Block(BlockRest),
-    /// The other rounds of a loop.
+    /// The other iterations of a loop.
     Loop(LoopRest),
     /// A rule ends.
     End,
     /// A file is left for the place before.
     Left(Place),
-    /// A call at this line is refused, since it gives nothing.
+    /// A call at this line is refused, because it has no value.
     Refuses(usize),
 }

@@ -1,4 +1,4 @@
-//! A function on its arguments.
+//! Calls functions on their arguments.
 ghost use Rattle.std.specs.Prelude.{◌≡◌, ◌&&◌, option_map};
 ghost use Rattle.arguments.specs.RowView.{row_data};
 ghost use Rattle.world.specs.Prelude.{Does, MayFail, arguments_data, data_of};
@@ -22,7 +22,7 @@ use values::Value;
 use values::language_names::Function;
 use world::{Caller, Stop};
 
-/// What a function takes.
+/// Returns what arguments a function takes.
 pub fn row(function: Function) -> Row
     ensures { row_data result ≡ row_of function }
 {
@@ -42,7 +42,7 @@ pub fn row(function: Function) -> Row
     }
 }
 
-// What the function takes beside these arguments: `configure_file` with another format than `'meson'` is told by a row of its own.
+// Returns what the function takes if it gets these arguments. `configure_file` with a format other than `'meson'` has a row of its own.
 fn row_for(function: Function, arguments: &Arguments) -> Row
     ensures { row_data result ≡ row_for function (arguments_data arguments.now) }
 {
@@ -53,7 +53,7 @@ fn row_for(function: Function, arguments: &Arguments) -> Row
     }
 }
 
-// A disabler among the arguments of `project`.
+// Returns whether `project` gets a disabler.
 fn has_unwanted_disabler(function: Function, arguments: &Arguments) -> bool
     ensures { result ≡ has_unwanted_disabler function (arguments_data arguments.now) }
 {
@@ -63,7 +63,7 @@ fn has_unwanted_disabler(function: Function, arguments: &Arguments) -> bool
     }
 }
 
-// Refuses a disabler that `project` is given.
+// Refuses a disabler among the arguments of `project`.
 fn refuse_disabler<T: Tree, O: Outputs>(
     caller: &Caller<'_, T, O>,
     function: Function,
@@ -91,7 +91,7 @@ fn fit<T: Tree, O: Outputs>(
     caller.fit(&row_for(function, arguments), arguments)
 }
 
-// What a function does with arguments that its row has let through.
+// Runs a function on arguments that its row accepts.
 fn act<T: Tree, O: Outputs>(
     caller: &mut Caller<'_, T, O>,
     function: Function,
@@ -120,8 +120,9 @@ fn act<T: Tree, O: Outputs>(
     }
 }
 
-/// A function on its arguments, which its row looks at first: it gives a value, or nothing. A disabler among those of `project` is E9,
-/// whatever its row says.
+/// Calls a function on its arguments, after checking them against its row. Returns its value, or `None` if it has none.
+///
+/// A disabler among the arguments of `project` is E9, whatever its row says.
 pub fn call<T: Tree, O: Outputs>(
     caller: &mut Caller<'_, T, O>,
     function: Function,

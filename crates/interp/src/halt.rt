@@ -1,4 +1,4 @@
-//! Why an expression came to no value.
+//! Says why an expression has no value.
 ghost use Rattle.std.specs.Prelude.{◌≡◌, ℕ};
 ghost use Rattle.interp.specs.Inside.{HaltEnds, RuleEnds, failures_halted, failures_inside};
 
@@ -7,23 +7,23 @@ use std::mem;
 use std::sync::ledger::Ledger;
 use world::{Steps, Stop};
 
-/// A folder that a call of `subdir` enters inside of an expression.
+/// Holds a folder that a call of `subdir` enters inside an expression.
 #[derive(Drop)]
 pub struct Inside {
     /// The text that names it.
     pub text: String,
     /// The line of the call.
     pub line: usize,
-    /// How many rules of the expression end behind it.
+    /// How many rules of the expression end after it.
     pub rules: usize,
 }
 
-/// Why an expression came to no value.
+/// Says why an expression has no value.
 #[derive(Drop)]
 pub enum Halt {
     /// The run stops.
     Stops(Stop),
-    /// The expression is left for a folder, and is refused behind it.
+    /// The expression is left for a folder, and refused after it.
     Enters(Box<Inside>),
 }
 
@@ -59,7 +59,7 @@ impl<T: Drop> From<AllocFailed<T>> for Halt {
     }
 }
 
-// The halt of a rule that ends: it ticks by a fault, and stands behind a folder that its expression was left for.
+// Returns the halt after a rule ended. A fault ticks. If the expression was left for a folder, the rule ends after the folder.
 #[cold]
 fn end_halted<L: Ledger>(halt: Halt, steps: &mut Steps<L>) -> Halt
     ensures ends { HaltEnds halt steps.old result steps.new }
@@ -82,8 +82,8 @@ fn end_halted<L: Ledger>(halt: Halt, steps: &mut Steps<L>) -> Halt
     }
 }
 
-/// Ticks where the rule of a node has ended, by a value or by a fault. Where its expression was left for a folder it ends behind that.
-/// The answer stays where it is.
+/// Ticks if the rule of a node has ended, with a value or with a fault. If its expression was left for a folder, the rule ends after the
+/// folder. The answer is changed in place.
 pub fn end_rule_inside<A, L: Ledger>(answer: &mut Result<A, Halt>, steps: &mut Steps<L>)
     ensures ends { RuleEnds answer.old steps.old answer.new steps.new }
     ensures quiet { (n : ℕ) → failures_inside n answer.new ≡ failures_inside n answer.old }

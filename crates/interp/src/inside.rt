@@ -1,4 +1,4 @@
-//! Calls inside of expressions, which have to give a value.
+//! Runs calls inside expressions, which must have a value.
 ghost use Rattle.std.specs.Prelude.{Bool};
 ghost use Rattle.arguments.specs.Disablers.{gives_disabler};
 ghost use Rattle.world.specs.Prelude.{arguments_data, data_of};
@@ -26,7 +26,7 @@ impl<'a, T: Tree, O: Outputs, L: Ledger> Evaluator<'a, T, O, L> {
     ghost use Rattle.expressions.specs.Contexts.{Fails, HasRoom, Same};
     ghost use Rattle.interp.specs.Evaluates.{FailsInside, Tries};
 
-    /// A function inside of an expression, on its evaluated arguments.
+    /// Calls a function inside an expression, on evaluated arguments.
     pub fn call_inside(
         &mut self,
         line: usize,
@@ -46,7 +46,7 @@ impl<'a, T: Tree, O: Outputs, L: Ledger> Evaluator<'a, T, O, L> {
         }
     }
 
-    // A function that enters no folder.
+    // Calls a function that enters no folder.
     fn call_for_value(
         &mut self,
         line: usize,
@@ -63,7 +63,7 @@ impl<'a, T: Tree, O: Outputs, L: Ledger> Evaluator<'a, T, O, L> {
         Ok(self.context.need(line, answer)?)
     }
 
-    // `subdir`: its folder is entered, and then it is refused, since it gives nothing.
+    // Runs `subdir` inside an expression: its folder is entered, and then the call is refused, because it has no value.
     fn leave_for_folder(&mut self, line: usize, arguments: &Arguments) -> Result<Value, Halt>
         ensures same { Same self.old.context self.new.context }
         ensures device { FailsInside T.seen O.seen self.old.context result self.new.context }
@@ -86,8 +86,8 @@ impl<'a, T: Tree, O: Outputs, L: Ledger> Evaluator<'a, T, O, L> {
         }
     }
 
-    /// Enters a folder inside of an expression, where so many more may stand inside one another: its file is to be done, then the call
-    /// is refused, and the rules of the expression end.
+    /// Enters a folder inside an expression: its file is run, then the call is refused, and the rules of the expression end. `left` is how
+    /// many more folders may be nested.
     pub fn enter_inside(
         &mut self,
         entry: Box<Inside>,

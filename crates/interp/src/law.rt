@@ -1,4 +1,4 @@
-//! What holds of every evaluation.
+//! States what holds of every evaluation, as functions that do nothing and whose contracts hold.
 ghost use Rattle.world.specs.Prelude.{data_of};
 ghost use Rattle.interp.specs.Laws.{CallsAsEvaluated, ClosesWhatItMakes, DependsOnLooked, MachineFilesSay};
 ghost use Rattle.interp.specs.Laws.{NotesWhatItLooksAt, StepsWithinCost};
@@ -6,41 +6,44 @@ ghost use Rattle.expressions.specs.Rounds.{HasFewRounds};
 
 use values::{Value, values_have_few_items};
 
-/// Of any two trees of files that agree on the paths looked at by the evaluation of the first, and two machine files that agree on the
-/// questions that it asks, both evaluations are equal, but for the machine file that stands in the last world.
+/// Proves that an evaluation depends only on what it looks at.
+///
+/// If two trees agree on the paths that the evaluation of the first looks at, and two machine files agree on the questions that it asks,
+/// both evaluations are equal. Only the machine file in the last world may differ.
 pub fn depends_on_looked()
     ensures { DependsOnLooked }
 {}
 
-/// After an evaluation the project has noted the paths that were looked at, each once, in the order of the first look, by whether the tree
-/// has a file there.
+/// Proves that after an evaluation the project has noted the paths that were looked at: each once, in the order of the first look, as
+/// present or absent.
 pub fn notes_what_it_looks_at()
     ensures { NotesWhatItLooksAt }
 {}
 
-/// After an evaluation that is done each path that `configure_file` made was closed.
+/// Proves that after a successful evaluation each output of `configure_file` was closed.
 pub fn closes_what_it_makes()
     ensures { ClosesWhatItMakes }
 {}
 
-/// A loop over a value has no more than 65,536 rounds: no list and no dictionary has more items.
+/// Proves that a loop over a value has no more than 65,536 iterations, because no list and no dictionary has more items.
 pub fn loops_are_few(value: &Value)
     ensures { HasFewRounds (data_of value.now) }
 {
     values_have_few_items(value);
 }
 
-/// An evaluation in which no loop is over more than 65,536 values ends no more rules than its tree of files costs.
+/// Proves that an evaluation in which no loop is over more than 65,536 values ends at most as many rules as its tree of files costs.
 pub fn steps_within_cost()
     ensures { StepsWithinCost }
 {}
 
-/// Bytes are read as a machine file that says one thing, and no other: sections, or a fault.
+/// Proves that every sequence of bytes has exactly one reading as a machine file: its sections, or a fault.
 pub fn machine_files_say()
     ensures { MachineFilesSay }
 {}
 
-/// A call by a name, once `project` was called, is what evaluation does of that call at the present line, for arguments with these values.
+/// Proves that a call by a name, after `project` was called, does what evaluation does for that call at the present line, with these
+/// argument values.
 pub fn calls_as_evaluated()
     ensures { CallsAsEvaluated }
 {}

@@ -1,4 +1,4 @@
-//! How frames are put on the stack.
+//! Puts frames on the stack.
 ghost use Rattle.std.specs.Prelude.{◌≡◌, ℕ};
 ghost use Rattle.world.specs.Prelude.{failures_after};
 ghost use Rattle.interp.specs.Frames.{Lays, LaysFolder};
@@ -17,7 +17,7 @@ pub fn lay(stack: &mut Vec<Frame>, frame: Frame) -> Result<(), Stop>
     Ok(())
 }
 
-/// Puts the statements of a folder's file on the stack, behind which it is left for the place before.
+/// Puts the statements of a folder's file on the stack, after which the file is left for the earlier place.
 pub fn lay_folder(stack: &mut Vec<Frame>, outer: Place, file: BlockRest) -> Result<(), Stop>
     ensures lays { LaysFolder stack.old.items outer file result stack.new.items }
     ensures quiet { (n : ℕ) → failures_after n result ≡ n }

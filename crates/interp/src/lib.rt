@@ -1,20 +1,20 @@
-//! What definition files do.
+//! Evaluates definition files.
 //!
 //! # Decisions
 //!
-//! **An expression is left for the folder that it enters.** A call of `subdir` inside of an expression carries out the folder's file and
-//! is refused then, since it gives nothing. No function of an expression calls itself through that file: its functions end with the
-//! folder's name and the number of rules that are still to end, and the statement puts those rules, the refusal and the file on the stack
-//! of frames. The definition is plain: it does what the file does, and refuses. What stands in the expression behind the call never comes,
-//! so nothing else of it has to be kept.
+//! **An expression is left for the folder that it enters.** A call of `subdir` inside an expression runs the folder's file and is refused
+//! then, because it has no value. The functions of expressions do not call themselves through that file. They end with the folder's name
+//! and the number of rules that are still to end. The statement then puts those rules, the refusal and the file on the stack of frames. The
+//! definition is plain: it does what the file does, and refuses. The rest of the expression is never evaluated, so nothing else of it has
+//! to be kept.
 //!
-//! **Plain statements are done where they stand.** Of a block, and of the rounds of a loop, all is done in place up to the first statement
-//! that needs the stack of frames: a loop, an expression that is a call, which may enter a folder, or an `if` with more in one of its parts
-//! than assignments and ends of rounds. Only then the rest of the block, and the other rounds, come on the stack. A loop over plain
-//! statements puts nothing there.
+//! **Plain statements are run in place.** A block and the iterations of a loop are run in place, up to the first statement that needs the
+//! stack of frames. That is a loop, an expression that is a call, which may enter a folder, or an `if` with other statements in its parts
+//! than assignments, `break` and `continue`. Only then are the rest of the block and the other iterations put on the stack. A loop over
+//! plain statements puts nothing there.
 //!
-//! **What an evaluation is given.** [`evaluate`] is lent the settings and the bytes of the machine file. Its world keeps settings of its
-//! own, so they are copied once for a run, and callers keep theirs.
+//! **What an evaluation is given.** [`evaluate`] borrows the settings and the bytes of the machine file. Its world keeps settings of its
+//! own, so a run copies them once, and callers keep theirs.
 #![tactic(auto)]
 
 mod acting;

@@ -1,4 +1,4 @@
-//! Expressions: one function for each form of node.
+//! Evaluates expressions, with one function for each form of node.
 ghost use Rattle.std.specs.Prelude.{◌≡◌, ◌<◌, ◌≤◌, suc, max, Some, true, length, map, option_map};
 ghost use Rattle.syntax.specs.ExpressionTree.{ListTree, DictionaryTree, ChainTree, expressions, entries as entry_trees};
 ghost use Rattle.syntax.specs.ExpressionTree.{arguments as argument_trees, links as link_trees, operands as operand_trees};
@@ -25,7 +25,7 @@ impl<'a, T: Tree, O: Outputs, L: Ledger> Evaluator<'a, T, O, L> {
     ghost use Rattle.interp.specs.Evaluates.{Evaluates, FailsInside};
     ghost use Rattle.expressions.specs.Contexts.{HasRoom, Same};
 
-    /// The value of the expression with this number.
+    /// Returns the value of the expression with this number.
     #[cycle(eval)]
     pub fn eval(&mut self, code: &Code, node: usize) -> Result<Value, Halt>
         requires here { node < length code.now.nodes.items }
@@ -40,8 +40,8 @@ impl<'a, T: Tree, O: Outputs, L: Ledger> Evaluator<'a, T, O, L> {
         answer
     }
 
-    /// The same, before its rule has ended. Most nodes are names and literals, and these are told where they are asked for: a function that
-    /// knows all forms makes places for the answers of all.
+    /// Returns the value before its rule has ended. Most nodes are names and literals, which this function handles itself, because one
+    /// function for all forms would reserve stack for all of them.
     #[cycle(eval)]
     #[inline(always)]
     pub fn form(&mut self, code: &Code, node: usize) -> Result<Value, Halt>
@@ -61,8 +61,8 @@ impl<'a, T: Tree, O: Outputs, L: Ledger> Evaluator<'a, T, O, L> {
         }
     }
 
-    // The same of a node that has parts. What a call answers is taken apart here, and not handed on as it is: so the answer of each form is
-    // put together from registers.
+    // Returns the value of a node that has parts, before its rule has ended. The result of a call is taken apart here and not passed on
+    // whole, so that the result of each form is put together from registers.
     #[cycle(eval)]
     #[inline(never)]
     fn compound(&mut self, code: &Code, node: usize) -> Result<Value, Halt>
@@ -89,7 +89,7 @@ impl<'a, T: Tree, O: Outputs, L: Ledger> Evaluator<'a, T, O, L> {
         }
     }
 
-    // The same of a form that is not asked for so often.
+    // Returns the value of a less frequent form, before its rule has ended.
     #[cycle(eval)]
     #[inline(never)]
     fn rare(&mut self, code: &Code, node: usize) -> Result<Value, Halt>
@@ -138,7 +138,7 @@ impl<'a, T: Tree, O: Outputs, L: Ledger> Evaluator<'a, T, O, L> {
         }
     }
 
-    // `[first, second]`
+    // Returns the value of `[first, second]`.
     #[cycle(eval)]
     #[inline(never)]
     fn list(&mut self, code: &Code, items: &[usize], line: usize) -> Result<Value, Halt>
@@ -157,7 +157,7 @@ impl<'a, T: Tree, O: Outputs, L: Ledger> Evaluator<'a, T, O, L> {
         Ok(self.context.list(line, values)?)
     }
 
-    // `{key : value, key : value}`
+    // Returns the value of `{key : value, key : value}`.
     #[cycle(eval)]
     #[inline(never)]
     fn dictionary(&mut self, code: &Code, entries: &[EntryNode], line: usize) -> Result<Value, Halt>
@@ -177,7 +177,7 @@ impl<'a, T: Tree, O: Outputs, L: Ledger> Evaluator<'a, T, O, L> {
         Ok(self.context.pair(line, pairs)?)
     }
 
-    /// The values of these arguments, in order.
+    /// Returns the values of these arguments, in order.
     #[cycle(eval)]
     #[inline(always)]
     pub fn arguments(&mut self, code: &Code, arguments: &[ArgumentNode]) -> Result<Arguments, Halt>
@@ -197,7 +197,7 @@ impl<'a, T: Tree, O: Outputs, L: Ledger> Evaluator<'a, T, O, L> {
         Ok(evaluated)
     }
 
-    /// What the last link gives of what is asked of an expression: a method may give nothing.
+    /// Returns the value of an expression after its methods and indexes. The last method may have none.
     #[cycle(eval)]
     pub fn ask_links(
         &mut self,
@@ -223,7 +223,7 @@ impl<'a, T: Tree, O: Outputs, L: Ledger> Evaluator<'a, T, O, L> {
         Ok(given)
     }
 
-    // What is asked of a value once.
+    // Applies one method or index to a value.
     #[cycle(eval)]
     fn link(
         &mut self,
@@ -255,7 +255,7 @@ impl<'a, T: Tree, O: Outputs, L: Ledger> Evaluator<'a, T, O, L> {
         }
     }
 
-    // `first + second - third`
+    // Returns the value of `first + second - third`.
     #[cycle(eval)]
     fn chain(
         &mut self,

@@ -1,4 +1,4 @@
-//! The operators of a chain.
+//! Applies the operators of a chain.
 ghost use Rattle.std.specs.Prelude.{◌≡◌, ℕ};
 ghost use Rattle.operations.specs.operators.Logic.{left_answer};
 ghost use Rattle.operations.specs.operators.Operations.{binary_answer};
@@ -16,7 +16,7 @@ use world::{Stop, of_operation};
 impl<'a, T: Tree, O: Outputs, L: Ledger> Evaluator<'a, T, O, L> {
     ghost use Rattle.expressions.specs.Contexts.{Answers};
 
-    /// What the left side of `and` or `or` decides.
+    /// Returns what the left side of `and` or `or` decides.
     pub fn decide(&self, line: usize, connective: Connective, left: Value) -> Result<Left, Stop>
         ensures gives { Answers T.seen O.seen left_view (answered line (left_answer connective (data_of left)))
             self.now.context result self.now.context }
@@ -28,7 +28,7 @@ impl<'a, T: Tree, O: Outputs, L: Ledger> Evaluator<'a, T, O, L> {
         }
     }
 
-    /// An operator between two values.
+    /// Applies an operator to two values.
     pub fn combine(
         &self,
         line: usize,

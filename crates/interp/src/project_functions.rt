@@ -1,4 +1,4 @@
-//! The functions that say something of the project.
+//! Calls the functions that declare something of the project.
 ghost use Rattle.std.specs.Prelude.{◌≡◌, option_map};
 ghost use Rattle.arguments.specs.RowView.{row_data};
 ghost use Rattle.world.specs.Prelude.{Does, MayFail, arguments_data, data_of};
@@ -25,7 +25,7 @@ use values::Value;
 use values::language_names::ProjectFunction;
 use world::{Caller, Stop};
 
-/// What a function takes.
+/// Returns what arguments a function takes.
 pub fn project_function_row(function: ProjectFunction) -> Row
     ensures { row_data result ≡ project_function_row function }
 {
@@ -51,7 +51,7 @@ pub fn project_function_row(function: ProjectFunction) -> Row
     }
 }
 
-/// What a function does with arguments that its row has let through: it gives a value, or nothing.
+/// Runs a function on arguments that its row accepts. Returns its value, or `None` if it has none.
 pub fn project_function<T: Tree, O: Outputs>(
     caller: &mut Caller<'_, T, O>,
     function: ProjectFunction,

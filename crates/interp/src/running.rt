@@ -1,4 +1,4 @@
-//! The statements of a file and of those that it enters, on one stack of frames.
+//! Runs the statements of a file and of the files that it enters, on one stack of frames.
 ghost use Rattle.std.specs.Prelude.{Bool, ◌≡◌, Ok, length};
 ghost use Rattle.interp.specs.Bounds.{bounds};
 ghost use Rattle.expressions.specs.Codes.{file_by};
@@ -27,7 +27,7 @@ use world::Stop;
 impl<'a, T: Tree, O: Outputs, L: Ledger> Evaluator<'a, T, O, L> {
     ghost use Rattle.expressions.specs.Contexts.{Answers, Fails, HasRoom, Same};
 
-    /// Does the statements of the root file: 63 folders may stand inside one another below the root.
+    /// Runs the statements of the root file. 63 folders may be nested below the root.
     pub fn run(&mut self, code: Code) -> Result<Flow, Stop>
         requires known { code.names ≡ length self.old.context.store.now.names }
         requires room { HasRoom T.seen O.seen self.old.context }
@@ -37,7 +37,7 @@ impl<'a, T: Tree, O: Outputs, L: Ledger> Evaluator<'a, T, O, L> {
             (do_all (folder (bounds few 63)) few (file_by self.old.context.store.now.names code)) self.old.context result self.new.context }
     {
         let shared = Rc::new(self.context.alloc, code)?;
-        // The code of the root file is needed to the end, and the process ends soon behind it: its parts are not let go one by one.
+        // The code of the root file is needed to the end, and the process ends soon after it, so its parts are not dropped one by one.
         forget(shared.clone()?);
         let mut stack = Vec::new(self.context.alloc);
         stack.push(Frame::Block(BlockRest {
@@ -56,7 +56,7 @@ impl<'a, T: Tree, O: Outputs, L: Ledger> Evaluator<'a, T, O, L> {
         Err(Stop::Memory)
     }
 
-    // What one frame does, which was taken from the stack. A fault ends the rules that are left on it.
+    // Runs one frame that was taken from the stack. A fault ends the rules that are left on the stack.
     fn step(&mut self, frame: Frame, flow: Flow, stack: &mut Vec<Frame>) -> Result<Flow, Stop>
         requires room { HasRoom T.seen O.seen self.old.context }
         ensures same { Same self.old.context self.new.context }
@@ -69,7 +69,7 @@ impl<'a, T: Tree, O: Outputs, L: Ledger> Evaluator<'a, T, O, L> {
         }
     }
 
-    // The same, before rules have ended by a fault.
+    // Runs one frame, before a fault ends the rules on the stack.
     fn turn(&mut self, frame: Frame, flow: Flow, stack: &mut Vec<Frame>) -> Result<Flow, Stop>
         requires room { HasRoom T.seen O.seen self.old.context }
         ensures same { Same self.old.context self.new.context }
@@ -91,7 +91,7 @@ impl<'a, T: Tree, O: Outputs, L: Ledger> Evaluator<'a, T, O, L> {
         }
     }
 
-    // After a statement: those of its block that are left, up to one that needs the stack.
+    // Runs the rest of a block after a statement, up to one that needs the stack.
     fn go_on(&mut self, rest: BlockRest, flow: Flow, stack: &mut Vec<Frame>) -> Result<Flow, Stop>
         requires room { HasRoom T.seen O.seen self.old.context }
         ensures same { Same self.old.context self.new.context }
@@ -115,7 +115,7 @@ impl<'a, T: Tree, O: Outputs, L: Ledger> Evaluator<'a, T, O, L> {
         }
     }
 
-    // What is left of a block: the statement that needs the stack, or the folder that is entered, and the rest behind it.
+    // Begins the statement that needs the stack, or enters the folder, and puts the rest of the block on the stack.
     fn go_into(
         &mut self,
         walk: Walk,
@@ -161,7 +161,7 @@ impl<'a, T: Tree, O: Outputs, L: Ledger> Evaluator<'a, T, O, L> {
         }
     }
 
-    // After a round: those that are left, up to a statement that needs the stack.
+    // Runs the iterations that are left after one, up to a statement that needs the stack.
     fn go_round(&mut self, rest: LoopRest, flow: Flow, stack: &mut Vec<Frame>) -> Result<Flow, Stop>
         requires room { HasRoom T.seen O.seen self.old.context }
         ensures same { Same self.old.context self.new.context }

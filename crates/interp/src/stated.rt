@@ -1,4 +1,4 @@
-//! Statements that begin: what they leave to do is put on the stack.
+//! Begins statements, and puts what they leave to do on the stack.
 ghost use Rattle.std.specs.Prelude.{Bool, ◌≡◌, ◌<◌, ◌≤◌, ℕ, IsTrue, List, length, map, nat_lt, option_map};
 ghost use Rattle.code.specs.Nodes.{tree_at};
 ghost use Rattle.code.specs.Statements.{branch_at, name_at, second_within, statement_at};
@@ -33,8 +33,8 @@ impl<'a, T: Tree, O: Outputs, L: Ledger> Evaluator<'a, T, O, L> {
     ghost use Rattle.expressions.specs.Contexts.{HasRoom, Same};
     ghost use Rattle.interp.specs.Evaluates.{FailsInside};
 
-    /// Begins the statement with this number, whose end is on the stack, and puts its parts on it; so many more folders may stand inside
-    /// one another.
+    /// Begins the statement with this number, whose end is on the stack, and puts its parts there. `left` is how many more folders may be
+    /// nested.
     pub fn begin(
         &mut self,
         code: &Rc<Code>,
@@ -79,7 +79,7 @@ impl<'a, T: Tree, O: Outputs, L: Ledger> Evaluator<'a, T, O, L> {
         }
     }
 
-    // An expression alone: a call may enter a folder, and what others give is let go.
+    // Runs an expression as a statement. A call may enter a folder, and a value is dropped.
     fn state(
         &mut self,
         code: &Code,
@@ -108,7 +108,7 @@ impl<'a, T: Tree, O: Outputs, L: Ledger> Evaluator<'a, T, O, L> {
         }
     }
 
-    // A loop begins, whose rounds are all still to be done.
+    // Begins a loop, and puts all of its iterations on the stack.
     fn begin_loop(
         &mut self,
         code: &Rc<Code>,
@@ -145,7 +145,7 @@ impl<'a, T: Tree, O: Outputs, L: Ledger> Evaluator<'a, T, O, L> {
         }
     }
 
-    // An `if` begins: the statements of the part that is chosen are to be done.
+    // Begins an `if`, and puts the statements of the chosen part on the stack.
     fn begin_branch(
         &mut self,
         code: &Rc<Code>,
@@ -182,7 +182,7 @@ impl<'a, T: Tree, O: Outputs, L: Ledger> Evaluator<'a, T, O, L> {
         }
     }
 
-    /// The place of the branch whose condition is the first that holds, or the place behind them; none where a disabler skips all.
+    /// Returns the index of the first branch whose condition holds, or the index after them. Returns `None` if a disabler skips all.
     pub fn choose_part(&mut self, code: &Code, parts: &[BranchNode]) -> Result<Option<usize>, Halt>
         requires here { above above_branch parts.now ≤ length code.now.nodes.items }
         requires room { HasRoom T.seen O.seen self.old.context }

@@ -1,4 +1,4 @@
-//! Rounds of a loop that are done where they stand.
+//! Runs iterations of a loop in place.
 ghost use Rattle.std.specs.Prelude.{◌≤◌, IsTrue, length, nat_lt};
 ghost use Rattle.code.specs.Statements.{second_within};
 ghost use Rattle.expressions.specs.Rounds.{round_data, rounds_in};
@@ -17,19 +17,19 @@ use std::sync::ledger::Ledger;
 use values::Value;
 use world::{Stop, end_rule};
 
-/// How far the rounds of a loop were done.
+/// Says how far the iterations of a loop were run.
 #[derive(Drop)]
 pub enum Tour {
     /// To their end, or until one of them left the loop.
     Ends(Flow),
-    /// As far as a round was done, which goes on so, and then other rounds follow from one on.
+    /// To a statement inside one iteration, which is still to be done. The iterations from `at` on follow.
     Stands { walk: Walk, at: usize },
 }
 
 impl<'a, T: Tree, O: Outputs, L: Ledger> Evaluator<'a, T, O, L> {
     ghost use Rattle.expressions.specs.Contexts.{Fails, HasRoom, Same};
 
-    /// Does the rounds of a loop over a value from one on, as far as they need no stack.
+    /// Runs the iterations of a loop over a value, from an index on, as long as they need no stack.
     pub fn tour(
         &mut self,
         code: &Code,
@@ -65,7 +65,7 @@ impl<'a, T: Tree, O: Outputs, L: Ledger> Evaluator<'a, T, O, L> {
         Ok(Tour::Ends(Flow::Next))
     }
 
-    // A round: its variables take their values, and then its statements are done.
+    // Runs an iteration: sets its variables, and runs its statements.
     #[inline(always)]
     fn walk_round(&mut self, code: &Code, head: &LoopHead, round: Round) -> Result<Walk, Stop>
         requires first { IsTrue (nat_lt head.now.first code.now.names) }

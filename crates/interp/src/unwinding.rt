@@ -1,4 +1,4 @@
-//! Rules that end by a fault.
+//! Ends the rules on the stack after a fault.
 ghost use Rattle.std.specs.Prelude.{◌≡◌, ◌+◌};
 ghost use Rattle.interp.specs.Frames.{pending, unwound};
 
@@ -6,7 +6,7 @@ use crate::frames::Frame;
 use std::sync::ledger::Ledger;
 use world::{Steps, Stop};
 
-// Ticks for each rule on a stack.
+// Ticks for each end of a rule on the stack.
 fn end_all<L: Ledger>(stack: &[Frame], steps: &mut Steps<L>)
     ensures { steps.new ≡ steps.old + pending stack.now }
 {
@@ -21,7 +21,7 @@ fn end_all<L: Ledger>(stack: &[Frame], steps: &mut Steps<L>)
     }
 }
 
-/// The stop of a run, once the rules on its stack have ended where it is a fault.
+/// Returns the stop of a run, after ending the rules on its stack if it is a fault.
 pub fn unwind<L: Ledger>(stop: Stop, stack: &[Frame], steps: &mut Steps<L>) -> Stop
     ensures same { result ≡ stop }
     ensures ticks { steps.new ≡ steps.old + unwound stop stack.now }

@@ -1,4 +1,4 @@
-//! Statements that are done where they stand: nothing of them comes on the stack of frames.
+//! Runs statements in place, without the stack of frames.
 ghost use Rattle.std.specs.Prelude.{true, ◌≡◌, ◌<◌, ◌≤◌, ℕ, List, drop, length, map, option_map};
 ghost use Rattle.std.specs.List.{list_all};
 ghost use Rattle.code.specs.Nodes.{tree_at};
@@ -28,14 +28,14 @@ use std::sync::ledger::Ledger;
 use values::Value;
 use world::{Stop, end_rule};
 
-/// How far the statements of a block were done.
+/// Says how far the statements of a block were run.
 #[derive(Drop)]
 pub enum Walk {
     /// To their end, or until one of them left the block.
     Ends(Flow),
-    /// Up to the statement with this number, whose parts come on the stack; those behind it stand from this place on.
+    /// Up to the statement with this number, whose parts are put on the stack. The statements from `at` on follow.
     Begins { number: usize, at: usize },
-    /// Up to a folder that is entered inside of an expression of the statement before this place.
+    /// Up to a folder that is entered inside an expression of the statement before `at`.
     Enters { entry: Box<Inside>, at: usize },
 }
 
@@ -43,7 +43,7 @@ impl<'a, T: Tree, O: Outputs, L: Ledger> Evaluator<'a, T, O, L> {
     ghost use Rattle.expressions.specs.Contexts.{Fails, HasRoom, Same};
     ghost use Rattle.interp.specs.Evaluates.{Evaluates, FailsInside};
 
-    /// Does the statements of a block from a place on, as far as they need no stack.
+    /// Runs the statements of a block, from an index on, as long as they need no stack.
     pub fn walk(&mut self, code: &Code, block: Block, from: usize) -> Result<Walk, Stop>
         requires room { HasRoom T.seen O.seen self.old.context }
         ensures same { Same self.old.context self.new.context }
@@ -77,7 +77,7 @@ impl<'a, T: Tree, O: Outputs, L: Ledger> Evaluator<'a, T, O, L> {
         Ok(Walk::Ends(Flow::Next))
     }
 
-    // Does a statement that needs no stack; nothing is done of one that does. A call may enter a folder.
+    // Runs a statement that needs no stack. Returns `None`, and runs nothing, if it may need one. A call may enter a folder.
     fn plain(&mut self, code: &Code, number: usize) -> Result<Option<Flow>, Halt>
         requires there { number < length code.now.statements.items }
         requires room { HasRoom T.seen O.seen self.old.context }
@@ -105,7 +105,7 @@ impl<'a, T: Tree, O: Outputs, L: Ledger> Evaluator<'a, T, O, L> {
         }
     }
 
-    // Does a statement that gives a variable a value, or leaves its block.
+    // Runs a statement that sets a variable or leaves its block.
     #[inline(always)]
     fn simple(&mut self, code: &Code, number: usize) -> Result<Flow, Halt>
         requires there { number < length code.now.statements.items }
@@ -130,7 +130,7 @@ impl<'a, T: Tree, O: Outputs, L: Ledger> Evaluator<'a, T, O, L> {
         }
     }
 
-    // Does an `if` whose parts have simple statements alone; nothing is done of another.
+    // Runs an `if` whose parts have only simple statements. Returns `None`, and runs nothing, for another.
     fn branch(
         &mut self,
         code: &Code,
@@ -170,7 +170,7 @@ impl<'a, T: Tree, O: Outputs, L: Ledger> Evaluator<'a, T, O, L> {
         }
     }
 
-    // Does the simple statements of a block.
+    // Runs the simple statements of a block.
     fn do_simple(&mut self, code: &Code, block: Block) -> Result<Flow, Halt>
         requires simple { list_all (is_simple_at code.now) (statements_of code.now block) ≡ true }
         requires room { HasRoom T.seen O.seen self.old.context }
@@ -192,7 +192,7 @@ impl<'a, T: Tree, O: Outputs, L: Ledger> Evaluator<'a, T, O, L> {
         Ok(Flow::Next)
     }
 
-    // `name = value`
+    // Runs `name = value`.
     #[inline(always)]
     fn assign_value(
         &mut self,
@@ -215,7 +215,7 @@ impl<'a, T: Tree, O: Outputs, L: Ledger> Evaluator<'a, T, O, L> {
         Ok(Flow::Next)
     }
 
-    // `name += value`: the sum of what the variable has and the value.
+    // Runs `name += value`: adds the value to that of the variable.
     #[inline(always)]
     fn append_value(
         &mut self,
@@ -238,7 +238,7 @@ impl<'a, T: Tree, O: Outputs, L: Ledger> Evaluator<'a, T, O, L> {
         Ok(Flow::Next)
     }
 
-    /// What an expression gives that is a statement and no call of a function: its last method may give nothing.
+    /// Evaluates an expression that is a statement and not a call of a function. Its last method may have no value.
     pub fn alone(&mut self, code: &Code, value: usize) -> Result<Option<Value>, Halt>
         requires here { value < length code.now.nodes.items }
         requires room { HasRoom T.seen O.seen self.old.context }
@@ -252,7 +252,7 @@ impl<'a, T: Tree, O: Outputs, L: Ledger> Evaluator<'a, T, O, L> {
         answer
     }
 
-    // The same, before its rule has ended.
+    // Evaluates such an expression, before its rule has ended.
     fn give(&mut self, code: &Code, value: usize) -> Result<Option<Value>, Halt>
         requires here { value < length code.now.nodes.items }
         requires room { HasRoom T.seen O.seen self.old.context }

@@ -1,4 +1,4 @@
--- What both kinds of target show.
+-- Defines what both kinds of target show.
 use Rattle.std.specs.Prelude.{Bool, List, [], ◌∷◌, codes}
 use Rattle.serde_json.specs.Data.{Data, boolean, string}
 use Rattle.build.specs.edge.Texts.{Path, Text}

@@ -1,4 +1,4 @@
--- What lines of questions stand for.
+-- Defines the lines of questions, without their place in memory.
 use Rattle.std.specs.Prelude.{option_map}
 use Rattle.machine.specs.machine_file.QuestionsView.{asides_in}
 use Rattle.machine.specs.machine_file.View.{entries_of, value_in}

@@ -1,4 +1,4 @@
-//! The document, member by member.
+//! Builds and prints the document, member by member.
 ghost use Rattle.std.specs.Prelude.{◌≡◌, IfOk, OnOk, Some, string_bytes};
 ghost use Rattle.serde_json.specs.Data.{no_members, object};
 ghost use Rattle.serde_json.specs.Read.{read};
@@ -70,7 +70,7 @@ fn put_parts(
     put(members, alloc, "tests", list_of(alloc, project.tests())?)
 }
 
-/// The introspection document of a project.
+/// Returns the introspection document of a project.
 pub fn introspect(alloc: Global, project: &Project) -> Result<Value, AllocError>
     ensures { IfOk result (λ v. view v ≡ document_of project.now) }
 {
@@ -92,7 +92,7 @@ fn send_files<S: Serializer>(alloc: Global, project: &Project, out: &mut S) -> R
     out.end_map()
 }
 
-// The document of a project, a value for each entry of a list and for each of the other members.
+// Borrows a project for its document, which is serialized with one value at a time for each entry of a list and each other member.
 #[derive(Clone, Copy)]
 struct Document<'a> {
     alloc: Global,
@@ -127,7 +127,7 @@ impl Serialize for Document<'_> {
     }
 }
 
-/// The text of the introspection document, with no space between its parts. A reader of JSON reads it as the document.
+/// Returns the text of the introspection document, with no space between its parts. A reader of JSON reads it as the document.
 pub fn document_text(alloc: Global, project: &Project) -> Result<String, AllocError>
     ensures text { IfOk result (λ s. string_bytes s ≡ document_text project.now) }
     ensures reads_back { IfOk result (λ s. read (string_bytes s) ≡ Some (document_of project.now)) }

@@ -1,4 +1,4 @@
-//! What each part of the document shows of one option, dependency, target or test.
+//! Builds the value of one option, dependency, target or test.
 ghost use Rattle.std.specs.Prelude.{◌≡◌, IfOk, OnOk, fold, map, string_bytes, take};
 ghost use Rattle.build.specs.edge.Texts.{texts};
 ghost use Rattle.serde_json.specs.Data.{no_members, number, object};
@@ -36,7 +36,7 @@ fn type_name(kind: OptionType) -> &'static str
     }
 }
 
-// A number. It fits 64 bits, so its digits are read as it.
+// Returns a number. It fits in 64 bits, so its digits are read as the same number.
 fn integer(n: i64) -> Value
     ensures shows { view result ≡ number (of_integer n) }
     ensures reads { Reads (number (of_integer n)) }
@@ -137,14 +137,14 @@ fn kind_name(kind: Kind) -> &'static str
     }
 }
 
-// The definition file of a folder.
+// Returns the definition file of a folder.
 fn definition_file(alloc: Global, folder: &str) -> Result<String, AllocError>
     ensures { IfOk result (λ s. string_bytes s ≡ definition_file folder.now) }
 {
     path_in(alloc, folder, "meson.build")
 }
 
-// What both kinds of target show.
+// Holds what both kinds of target show.
 #[derive(Clone, Copy)]
 struct Entry<'a> {
     is_default: bool,
@@ -189,7 +189,7 @@ fn entry_value(alloc: Global, entry: &Entry) -> Result<Value, AllocError>
     Ok(Value::from(members))
 }
 
-// The first of the paths, if there is one.
+// Returns a list of the first of the paths, if there is one.
 fn first_alone(paths: &[String]) -> &[String]
     ensures { result.now ≡ take 1 paths.now }
 {
@@ -197,7 +197,7 @@ fn first_alone(paths: &[String]) -> &[String]
     &paths[..count]
 }
 
-// The first of the paths is the file of a build target.
+// Returns the value of a build target. The first of the paths is its file.
 fn build_value(alloc: Global, target: &BuildTarget, paths: &[String]) -> Result<Value, AllocError>
     requires { texts paths.now ≡ default_paths (Build (build_view target.now)) }
     ensures { IfOk result (λ v. view v ≡ build_entry (build_view target.now)) }
@@ -262,7 +262,7 @@ impl Shown for Facts {
     }
 }
 
-/// Where files are installed, each by its path.
+/// Shows the destination of each installed file, under the file's path.
 #[derive(Clone, Copy)]
 pub struct Destinations<'a> {
     pub installs: &'a [Install],

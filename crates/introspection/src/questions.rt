@@ -1,4 +1,4 @@
-//! What a run asks a machine file, as lines of JSON.
+//! Writes what a run asks a machine file, as lines of JSON.
 ghost use Rattle.std.specs.Prelude.{◌≡◌, ◌++◌, IfOk, OnOk, codes, map, option_map, string_bytes};
 ghost use Rattle.serde_json.specs.Events.{SendsValue};
 ghost use Rattle.machine.specs.machine_file.QuestionsView.{asides_in, question_in};
@@ -14,26 +14,26 @@ use serde::{Described, Serialize, Serializer};
 use serde_json::Value;
 use std::alloc::{AllocError, Global};
 
-/// What a machine file answers.
+/// Holds the answer of a machine file.
 #[derive(Clone, Copy)]
 pub enum Reply<'a> {
-    /// The value at a key, where there is one.
+    /// The value of a key, if the file has it.
     Value(Option<&'a MachineValue>),
-    /// What a section says, where it is there.
+    /// The entries of a section, if the file has it.
     Section(Option<&'a Section>),
 }
 
-/// What is asked for, the answer, and what the call said beside it.
+/// Holds what is asked for, the answer, and what else the call stated.
 #[derive(Clone, Copy)]
 pub struct QuestionLine<'a> {
     pub section: &'a str,
-    /// The key; none where the whole section is asked for.
+    /// The key, or `None` if the whole section is asked for.
     pub key: Option<&'a str>,
     pub reply: Reply<'a>,
     pub asides: &'a [Aside],
 }
 
-// Adds the options of these names.
+// Appends the lines of the options with these names.
 fn add_options<'a>(
     lines: &mut Vec<QuestionLine<'a>>,
     machine: &'a Machine,
@@ -55,7 +55,7 @@ fn add_options<'a>(
     Ok(())
 }
 
-// The lines of options: those that are built in, and then those that the project declares.
+// Returns the lines of options: first the built-in ones, then those that the project declares.
 fn option_lines<'a>(
     alloc: Global,
     machine: &'a Machine,
@@ -73,7 +73,7 @@ fn option_lines<'a>(
     Ok(lines)
 }
 
-/// The lines of a question: one, or one for each option that is asked for, with what this machine file answers.
+/// Returns the lines of a question, with the answer of this machine file: one, or one for each option that is asked for.
 pub fn question_lines<'a>(
     alloc: Global,
     machine: &'a Machine,
@@ -108,7 +108,7 @@ pub fn question_lines<'a>(
     }
 }
 
-// A value of a machine file.
+// Serializes a value of a machine file.
 fn send_value<S: Serializer>(value: &MachineValue, out: &mut S) -> Result<(), S::Error>
     ensures { OnOk result (SendsValue (shown_value (value_in value.now)) (S.written out.old) (S.written out.new)) }
 {
@@ -120,7 +120,7 @@ fn send_value<S: Serializer>(value: &MachineValue, out: &mut S) -> Result<(), S:
     }
 }
 
-// What a section says, in the order of its lines.
+// Serializes the entries of a section, in the order of its lines.
 fn send_section<S: Serializer>(section: &Section, out: &mut S) -> Result<(), S::Error>
     ensures { OnOk result (SendsValue (ordered (map entry_member (entries_of section.now))) (S.written out.old) (S.written out.new)) }
 {
@@ -165,7 +165,7 @@ fn send_beside<S: Serializer>(asides: &[Aside], out: &mut S) -> Result<(), S::Er
     out.end_map()
 }
 
-// A line, asked in the definition file `file` at the line `place` of it.
+// Holds a line that was asked in the definition file `file`, at the line `place`.
 #[derive(Clone, Copy)]
 struct Placed<'a, 'q> {
     line: &'a QuestionLine<'q>,
@@ -196,7 +196,7 @@ impl Serialize for Placed<'_, '_> {
     }
 }
 
-// A line without the place.
+// Holds a line without its place.
 #[derive(Clone, Copy)]
 struct Label<'a, 'q> {
     line: &'a QuestionLine<'q>,
@@ -222,7 +222,8 @@ impl Serialize for Label<'_, '_> {
 }
 
 impl QuestionLine<'_> {
-    /// The text of this line, asked in the definition file `file` at the line `place` of it, from 1: a JSON object, without a newline.
+    /// Returns the text of this line, asked in the definition file `file` at the line `place`, from 1. It is a JSON object without a
+    /// newline.
     pub fn text(&self, alloc: Global, file: &str, place: usize) -> Result<String, AllocError>
         ensures { IfOk result (λ s. string_bytes s ≡ line_text (line_in self.now) file.now place) }
     {
@@ -234,7 +235,7 @@ impl QuestionLine<'_> {
         printed(alloc, &placed)
     }
 
-    /// The text without the place, by which lines are told apart.
+    /// Returns the text without the place. Two lines are the same question if these texts are equal.
     pub fn label(&self, alloc: Global) -> Result<String, AllocError>
         ensures { IfOk result (λ s. string_bytes s ≡ label_text (line_in self.now)) }
     {

@@ -1,4 +1,4 @@
-//! What is sent to a serializer, and the text that `serde_json` prints of it.
+//! Sends values to a serializer, and prints them with `serde_json`.
 ghost use Rattle.std.specs.Prelude.{◌≡◌, IfOk, OnOk, Some, [], map, string_bytes};
 ghost use Rattle.serde.specs.Event.{Log};
 ghost use Rattle.serde_json.specs.Sent.{IsTextOf};
@@ -9,7 +9,7 @@ use crate::shown::Shown;
 use serde::{Serialize, Serializer};
 use std::alloc::{AllocError, Global};
 
-/// Sends one value, which is let go once it is sent.
+/// Sends one value, and drops it.
 pub fn send<T: Shown, S: Serializer>(alloc: Global, item: &T, out: &mut S) -> Result<(), S::Error>
     ensures { OnOk result (Sends (T.shown item.now) (S.written out.old) (S.written out.new)) }
 {
@@ -19,7 +19,7 @@ pub fn send<T: Shown, S: Serializer>(alloc: Global, item: &T, out: &mut S) -> Re
     }
 }
 
-/// Sends the list of these, one value after another.
+/// Sends the list of these items, one value after another.
 pub fn send_list<T: Shown, S: Serializer>(
     alloc: Global,
     items: &[T],
@@ -34,7 +34,7 @@ pub fn send_list<T: Shown, S: Serializer>(
     out.end_seq()
 }
 
-/// The text that is printed of what this sends.
+/// Returns the text that is printed of what `sender` sends.
 pub fn printed<T: Serialize>(alloc: Global, sender: &T) -> Result<String, AllocError>
     ensures { IfOk result (λ s. (log : Log) × T.writes sender.now (Some []) log × IsTextOf log (string_bytes s)) }
 {

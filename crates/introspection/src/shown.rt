@@ -1,4 +1,4 @@
-//! What can be shown as a JSON value, and lists of it.
+//! Shows values of the project as JSON values, and lists of them.
 ghost use Rattle.std.specs.Prelude.{◌≡◌, IfOk, OnOk, map, string_bytes};
 ghost use Rattle.serde_json.specs.Data.{Data, string};
 ghost use Rattle.serde_json.specs.View.{members_view, view};
@@ -9,11 +9,11 @@ ghost use Rattle.introspection.specs.Sending.{Reads};
 use serde_json::{Map, Value, put};
 use std::alloc::{AllocError, Global};
 
-/// What the document shows as one value.
+/// Shows something as one value of the document.
 pub trait Shown {
     ghost shown: { Self → Data };
 
-    /// The value. It is read from its own text.
+    /// Returns the value. A reader reads its text as this value.
     fn value(&self, alloc: Global) -> Result<Value, AllocError>
         ensures shows { IfOk result (λ v. view v ≡ shown self.now) }
         ensures reads { IfOk result (λ _. Reads (shown self.now)) };
@@ -27,7 +27,7 @@ impl Shown for String {
     }
 }
 
-/// The list of the values of these.
+/// Returns the list of the values of these.
 pub fn list_of<T: Shown>(alloc: Global, items: &[T]) -> Result<Value, AllocError>
     ensures { IfOk result (λ v. view v ≡ list (map T.shown items.now)) }
 {
@@ -38,14 +38,14 @@ pub fn list_of<T: Shown>(alloc: Global, items: &[T]) -> Result<Value, AllocError
     Ok(Value::from(values))
 }
 
-/// The list of these texts.
+/// Returns the list of these texts.
 pub fn strings(alloc: Global, items: &[String]) -> Result<Value, AllocError>
     ensures { IfOk result (λ v. view v ≡ strings (texts items.now)) }
 {
     list_of(alloc, items)
 }
 
-/// Puts a key with this text.
+/// Adds a member with this key and text.
 pub fn put_text(
     members: &mut Map<String, Value>,
     alloc: Global,
@@ -58,7 +58,7 @@ pub fn put_text(
     put(members, alloc, key, value)
 }
 
-/// Puts a key with the list of these texts.
+/// Adds a member with this key and the list of these texts.
 pub fn put_texts(
     members: &mut Map<String, Value>,
     alloc: Global,

@@ -1,24 +1,23 @@
-//! What options take, and which texts and lists of texts are values of them.
+//! Defines what options take, and converts texts and lists of texts to their values.
 //!
-//! The rules are those of the Meson manual's page "Build options": a value is written as a text on a command line and in
-//! `default_options`, and as a value of its own in a machine file. [`value_of_text`] reads the first, [`value_of_given`] the
-//! second.
+//! The rules are those of the Meson manual's page "Build options". A value is a text on a command line and in `default_options`, and a
+//! value of its own type in a machine file. [`value_of_text`] reads the first, [`value_of_given`] the second.
 //!
 //! # Decisions
 //!
-//! **Words are cut by a machine, and written as a relation says.** `c_args` is cut character by character, with six places where a
-//! character can stand. Beside this machine `Shell.Reads` says how words are written: pieces that stand bare, behind a backslash, or in
-//! single or double quotes, and blanks between words. [`words_of`] is proved to give the words as which a text is written, and none where
+//! **A machine cuts words, and a relation says how they are written.** The machine cuts `c_args` character by character, with six places
+//! where a character can be. The relation `Shell.Reads` says how words are written: as pieces that are bare, after a backslash, or in
+//! single or double quotes, with blanks between words. [`words_of`] is proved to return the words as which a text is written, and `None` if
 //! there are no such words.
 //!
-//! **A list for an option that takes none is its printed text.** In a machine file a list for a string option is `['a', 'b']`, and nothing
-//! in it is escaped. An array and words take the items themselves, so a quote or a comma in one is safe.
+//! **A list counts as its printed text for an option that takes none.** A list for a string option in a machine file is `['a', 'b']`.
+//! Nothing in it is escaped. An array and words take the items themselves, so a quote or a comma in an item is safe.
 //!
-//! **Choices stand twice.** An option's choices are kept in their order, since an array without a value has them all, one that stands
-//! there twice too, and once more in a table in which they are looked up.
+//! **Choices are stored twice.** An option's choices are stored in their order, because an array without a value has all of them, with
+//! repetitions. They are also stored in a set for look-ups.
 //!
-//! **A value tells its option's type.** A combo's value is a form of its own, though it is a text as a string's is. So nothing is kept
-//! beside a value to say which type its option has.
+//! **A value shows its option's type.** A combo's value has a form of its own, although it is a text as a string's value is. So no separate
+//! field stores the type of an option.
 
 mod built_in;
 mod choices;

@@ -1,4 +1,4 @@
--- What `meson questions` tells: what a run asks of the machine file, as lines, and how the run ends.
+-- Defines what `meson questions` prints: what a run asks of the machine file, as lines, and how the run ends.
 use Rattle.std.specs.Prelude.{ℕ, List, [], ◌∷◌, ◌++◌, map, codes, Option, Some, None, if◌then◌else◌}
 use Rattle.std.specs.List.{flat_map, list_any}
 use Rattle.std.specs.Str.{bytes_eq}
@@ -16,40 +16,40 @@ use Rattle.world.specs.World.{Asked}
 use Rattle.interp.specs.Evaluation.{MachineSaid, evaluated, sections_of}
 use Rattle.meson.specs.Laws.{asked_by}
 
--- a line of a question: what it says beside its place, and the whole text, of the place of the call that asked
+-- Returns a line of a question twice: without its place, and whole, with the place of the call that asked.
 abbrev pub shown : Asked → Line → List ℕ × List ℕ
 shown a l = (label_text l, line_text l a.file a.line)
 
--- the lines of a question that was asked, with what these sections answer
+-- Returns the lines of a question that was asked, with the answer of these sections.
 abbrev pub lines_asked : List Section → Asked → List (List ℕ × List ℕ)
 lines_asked sections a = map (shown a) (lines_of a.question (answer_to sections a.question.topic))
 
--- of lines that say the same beside their places the first alone, each with a newline; these were told before
+-- Keeps the first of the lines that differ only in their places, each with a newline. `told` holds the labels that occurred before.
 abbrev pub first_told : List (List ℕ) → List (List ℕ × List ℕ) → List ℕ
 first_told told [] = []
 first_told told (l ∷ ls) =
     if list_any (bytes_eq l.0) told then first_told told ls else l.1 ++ (codes "\n" ++ first_told (told ++ l.0 ∷ []) ls)
 
--- the lines of all questions, in the order of the asking, each once
+-- Returns the lines of all questions, in the order in which they are asked, each once.
 abbrev pub questions_text : List Section → List Asked → List ℕ
 questions_text sections asked = first_told [] (flat_map (lines_asked sections) asked)
 
--- the fault in which a run ends
+-- Returns the fault in which a run ends.
 abbrev pub fault_of : {A : Type 0} → Outcome A → Option FaultData
 fault_of (Done x) = None
 fault_of (Faulted f) = Some f
 
--- how the telling ends
+-- Returns the steps of a run's fault, if it has one, and the status.
 abbrev pub ending_with : Option FaultData → Whole
 ending_with None = record { steps = []; status = statuses.Done }
 ending_with (Some f) = faulted_with f
 
--- lines for the log, and then that end
+-- Returns lines for the log, followed by that end.
 abbrev pub lines_then : List ℕ → Option FaultData → Whole
 lines_then text fault = told_before (logs text) (ending_with fault)
 
--- the lines of all that the run of these files, settings and what a machine file says asks of the machine file, for the log, and then the
--- line of the run's fault; nothing else is written
+-- Returns what `meson questions` prints for these files, settings and reading of a machine file: the lines of all questions, in the log,
+-- then the line of the run's fault. Nothing else is written.
 abbrev pub questions_of : Files → SettingsData → MachineSaid → Whole
 questions_of files s said =
     lines_then (questions_text (sections_of said) (asked_by files s said)) (fault_of (outcome_of (evaluated files s said)))

@@ -1,4 +1,4 @@
--- One run: what the outputs are asked to take, and how the run ends.
+-- Defines one run of `setup`: what the outputs are asked to take, and how the run ends.
 use Rattle.std.specs.Prelude.{◌≡◌, ◌≤◌, ℕ, ◌+◌, Result, Ok, Err}
 use Rattle.ports.specs.Outputs.{OutputState}
 use Rattle.support.specs.View.{fault_view}
@@ -15,65 +15,66 @@ use Rattle.world.specs.declared.stop.Stop.{Stop}
 use Rattle.world.specs.declared.stop.Stop.TheVariants as stops
 use Rattle.interp.specs.Evaluation.{MachineSaid, evaluated}
 
--- what was told by the evaluation, and then all outputs of the project on success, or the line of its fault
+-- Returns what the evaluation wrote, followed by all outputs of the project on success, or else by the line of its fault.
 abbrev pub whole_of : Run (Unit {0}) → Whole
 whole_of (ran (Done x) w ms) = told_before (steps_of ms) (done_with w.facts.project)
 whole_of (ran (Faulted f) w ms) = told_before (steps_of ms) (faulted_with f)
 
--- the run of these files, settings and what a machine file says
+-- Returns the run of these files, settings and reading of a machine file.
 abbrev pub run_of : Files → SettingsData → MachineSaid → Whole
 run_of files s said = whole_of (evaluated files s said)
 
--- the project that the definitions of these files describe
+-- Returns the project that the definitions of these files describe.
 abbrev pub project_of : Files → SettingsData → MachineSaid → WorldData
 project_of files s said = (world_after (evaluated files s said)).facts.project
 
--- of a run whose outputs are all written, and nothing of another
+-- Holds if all outputs of the run are written and `p` holds. Other statuses promise nothing.
 abbrev pub OnDone : Status → Type 0 → Type 0
 OnDone statuses.Done p = p
 OnDone statuses.Fault p = Unit {0}
 OnDone statuses.Device p = Unit {0}
 OnDone statuses.Memory p = Unit {0}
 
--- of the project of an evaluation that was done, and nothing of another
+-- Holds if the evaluation succeeded and `p` holds of its project. Other results promise nothing.
 abbrev pub OnProject : Result Kept Stop → (WorldData → Type 0) → Type 0
 OnProject (Ok kept) p = p kept.project
 OnProject (Err stop) p = Unit {0}
 
--- of a stop at a fault, and nothing of another
+-- Holds if the run stopped at a fault and `p` holds. Other stops promise nothing.
 abbrev pub OnFault : Stop → Type 0 → Type 0
 OnFault (stops.Refused fault) p = p
 OnFault stops.Device p = Unit {0}
 OnFault stops.Memory p = Unit {0}
 
--- of an evaluation that came to its end, and nothing of another
+-- Holds if the evaluation came to its end and `p` holds. Other stops promise nothing.
 abbrev pub OnEnd : {A : Type 0} → Result A Stop → Type 0 → Type 0
 OnEnd (Ok x) p = p
 OnEnd (Err stop) p = OnFault stop p
 
--- the outputs were asked to take this, ended so, and failed once where the status says so
+-- The outputs were asked to take the steps of the run. The run ended with this status, and the outputs failed once if the status is
+-- `Device`.
 pub record Concludes (run : Whole) (status : Status) (old new : OutputState) : Type 0 where
   pub agrees : Agrees run status old new
   pub failures : new.failures ≡ old.failures + failed_devices status
 
--- the outputs were asked for nothing
+-- The outputs were asked for nothing.
 pub record Keeps (stopped status : Status) (old new : OutputState) : Type 0 where
   pub ended : status ≡ stopped
   pub same : new ≡ old
 
--- what is done where a run stopped so, and the status
+-- Holds of the status and the outputs after a run that stopped.
 abbrev pub Stops : Stop → Status → OutputState → OutputState → Type 0
 Stops (stops.Refused fault) status old new = Concludes (faulted_with (fault_view fault)) status old new
 Stops stops.Device status old new = Keeps statuses.Device status old new
 Stops stops.Memory status old new = Keeps statuses.Memory status old new
 
--- what is done after an evaluation that answered so, and the status
+-- Holds of the status and the outputs after an evaluation with this result.
 abbrev pub Settles : Result Kept Stop → Status → OutputState → OutputState → Type 0
 Settles (Ok kept) status old new = Concludes (done_with kept.project) status old new
 Settles (Err stop) status old new = Stops stop status old new
 
--- The counts of two devices' failures, before and after: neither falls, and together they rise by what the status tells. So one of them
--- has failed once where the status is `Device`, and else none has.
+-- Relates the counts of two devices' failures, before and after: neither falls, and together they rise by one if the status is `Device`. So
+-- exactly one of them has failed once if the status is `Device`, and else none has.
 pub record FailsOnce (status : Status) (tree out tree_after out_after : ℕ) : Type 0 where
   pub of_tree : tree ≤ tree_after
   pub of_out : out ≤ out_after

@@ -1,4 +1,4 @@
--- What each task's run comes to.
+-- Defines the result of each task.
 use Rattle.outputs.specs.build_file.Concluding.{Whole}
 use Rattle.command.specs.declared.line.Task.{Task}
 use Rattle.command.specs.declared.line.Task.TheVariants.{Setup, Questions, Fault}
@@ -9,7 +9,7 @@ use Rattle.meson.specs.Ending.{fault_told}
 use Rattle.meson.specs.Questions.{questions_of}
 use Rattle.meson.specs.Setup.{run_of}
 
--- the run of these files, settings and what a machine file says: of `setup`, `questions` or `fault`
+-- Returns the run of these files, settings and reading of a machine file for `setup`, `questions` or `fault`.
 abbrev pub run_by : Task → Files → SettingsData → MachineSaid → Whole
 run_by Setup files s said = run_of files s said
 run_by Questions files s said = questions_of files s said

@@ -1,4 +1,4 @@
--- How lines are told one after another.
+-- Relates the code that collects the lines of questions to their definition.
 use Rattle.std.specs.Prelude.{◌≡◌, ◌≢◌, ℕ, List, [], ◌++◌, Some, None, option_map, string_bytes, Result, Ok, Err}
 use Rattle.support.specs.View.{fault_view}
 use Rattle.ports.specs.Outputs.{OutputState}
@@ -17,33 +17,34 @@ use Rattle.meson.specs.Setup.{Concludes, Stops}
 use Rattle.meson.specs.declared.asking.Asking.{Asking}
 use Rattle.meson.specs.declared.telling.Telling.{Telling}
 
--- these lines were told: whatever is told then, all of it is what would have been told before
+-- These lines were added: whatever is added later, the whole text is the one that the definition gives.
 abbrev pub Tells : Telling → List (List ℕ × List ℕ) → Telling → Type 0
 Tells old lines new = (rest : List (List ℕ × List ℕ))
     → string_bytes new.text ++ first_told new.labels rest ≡ string_bytes old.text ++ first_told old.labels (lines ++ rest)
 
--- all that a run asked, as a text, and its fault
+-- The asking holds all questions of a run, as a text, and its fault.
 pub record Is (run : Run (Unit {0})) (text : List ℕ) (a : Asking) : Type 0 where
   pub lines : string_bytes a.lines ≡ text
   pub fault : option_map fault_view a.fault ≡ fault_of (outcome_of run)
 
--- the run was asked for its questions, or it ended before its first; where a device failed or no memory was left nothing is told
+-- Holds if the run was asked for its questions, or if it ended before its first question. If a device failed or no memory was left, nothing
+-- is promised.
 abbrev pub Asks : Run (Unit {0}) → List ℕ → Result Asking Stop → Type 0
 Asks run text (Ok a) = Is run text a
 Asks run text (Err (stops.Refused fault)) = (text ≡ []) × (outcome_of run ≡ Faulted (fault_view fault))
 Asks run text (Err stops.Device) = Unit {0}
 Asks run text (Err stops.Memory) = Unit {0}
 
--- the lines of all that a run asks, with what these sections answer
+-- Returns the lines of all that a run asks, with the answers of these sections.
 abbrev pub text_of : List Section → Run (Unit {0}) → List ℕ
 text_of sections run = questions_text sections (world_after run).asked
 
--- the definitions of these files, over a machine file with these sections, were asked
+-- Holds if the definitions of these files, over a machine file with these sections, were asked.
 abbrev pub AsksOver : Files → SettingsData → List Section → Result Asking Stop → Type 0
 AsksOver files s sections result =
     Asks (carry files definitions (first_world s sections)) (text_of sections (carry files definitions (first_world s sections))) result
 
--- what was made of definitions that ended
+-- Relates how the definitions ended to the asking that was made.
 abbrev pub EndedWith : Result (Unit {0}) Stop → List ℕ → Asking → Type 0
 EndedWith (Ok u) text a = (string_bytes a.lines ≡ text) × (option_map fault_view a.fault ≡ None)
 EndedWith (Err (stops.Refused fault)) text a =
@@ -51,14 +52,14 @@ EndedWith (Err (stops.Refused fault)) text a =
 EndedWith (Err stops.Device) text a = ⊥
 EndedWith (Err stops.Memory) text a = ⊥
 
--- the same of definitions that may have stopped, over outputs that failed so often; where these failed no memory was left
+-- Relates how the definitions ended, over outputs with this count of failures, to the result. If the outputs failed, no memory was left.
 abbrev pub Ended : Result (Unit {0}) Stop → List ℕ → ℕ → Result Asking Stop → Type 0
 Ended ended text failures (Ok a) = EndedWith ended text a
 Ended ended text failures (Err (stops.Refused fault)) = ⊥
 Ended ended text failures (Err stops.Device) = (ended ≡ Err stops.Device) × (failures ≡ 0)
 Ended ended text failures (Err stops.Memory) = ended ≡ Err stops.Device → failures ≢ 0
 
--- what was done after a run was asked for its questions, and the status
+-- Relates the result of asking to the status and the outputs after it.
 abbrev pub Told : Result Asking Stop → Status → OutputState → OutputState → Type 0
 Told (Ok a) status old new = Concludes (lines_then (string_bytes a.lines) (option_map fault_view a.fault)) status old new
 Told (Err stop) status old new = Stops stop status old new

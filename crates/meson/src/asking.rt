@@ -1,4 +1,4 @@
-//! What a run asks of the machine file, told in place of what it writes.
+//! Answers `meson questions`: runs the evaluation and prints what it asks the machine file, instead of writing outputs.
 ghost use Rattle.std.specs.Prelude.{◌≡◌, ◌<◌, [], IfOk, option_map, string_bytes};
 ghost use Rattle.std.specs.Rc.{rc_value};
 ghost use Rattle.ports.specs.Endings.{HasRoom};
@@ -27,14 +27,14 @@ use std::sync::ledger::{Blank, Ledger};
 use support::faults::Fault;
 use world::{Asked, Settings, Steps, Stop, Store, new_steps};
 
-// What a run asked of the machine file, as lines, and its fault.
+/// Holds the questions of a run as lines of JSON, and the fault in which it ended.
 #[derive(Drop)]
 pub struct Asking {
     pub lines: String,
     pub fault: Option<Fault>,
 }
 
-// How the telling ends: by the fault, where there is one.
+// Writes the line of the fault, if there is one, and returns the status.
 fn end<O: Outputs>(fault: &Option<Fault>, out: &mut O) -> Status
     requires { HasRoom (O.seen out.old).failures }
     ensures { Concludes (ending_with (option_map fault_view fault.now)) result (O.seen out.old) (O.seen out.new) }
@@ -46,7 +46,7 @@ fn end<O: Outputs>(fault: &Option<Fault>, out: &mut O) -> Status
 }
 
 impl Asking {
-    // What was asked, with what this machine file answers, and how the run ended.
+    // Returns the lines of these questions, each with the answer of this machine file, and the fault.
     fn of(
         alloc: Global,
         machine: &Machine,
@@ -60,7 +60,7 @@ impl Asking {
         Ok(Asking { lines, fault })
     }
 
-    // Tells the lines in the log, and then the fault.
+    // Writes the lines to the log, then the line of the fault.
     fn tell<O: Outputs>(&self, out: &mut O) -> Status
         requires { HasRoom (O.seen out.old).failures }
         ensures { Concludes (lines_then (string_bytes self.now.lines) (option_map fault_view self.now.fault)) result (O.seen out.old)
@@ -73,7 +73,10 @@ impl Asking {
     }
 }
 
-// What was asked, where the definitions ended so, over outputs that keep nothing and have failed so often: they do where no memory is left.
+// Returns what a run asked, given how the definitions ended.
+//
+// The definitions ran over outputs that keep nothing, and `failures` counts the failures of those outputs. They fail only if no memory is
+// left.
 fn tell_after(
     alloc: Global,
     machine: &Machine,
@@ -92,7 +95,7 @@ fn tell_after(
     }
 }
 
-// Evaluates the definitions in a new world.
+// Evaluates the definitions in a new world and returns what they asked.
 fn ask_in<T: Tree, L: Ledger>(
     alloc: Global,
     store: &mut Store,
@@ -112,7 +115,7 @@ fn ask_in<T: Tree, L: Ledger>(
     tell_after(alloc, machine, store.questions(), ended, nothing.failures())
 }
 
-// Evaluates the definitions over a machine file.
+// Evaluates the definitions over this machine file and returns what they asked.
 fn ask_over<T: Tree, L: Ledger>(
     alloc: Global,
     tree: &mut T,
@@ -129,7 +132,7 @@ fn ask_over<T: Tree, L: Ledger>(
     ask_in(alloc, &mut store, tree, machine, steps)
 }
 
-// Evaluates the definitions, where the machine file has no fault.
+// Reads the machine file and, if it has no fault, evaluates the definitions.
 fn ask<T: Tree, L: Ledger>(
     alloc: Global,
     tree: &mut T,
@@ -146,7 +149,7 @@ fn ask<T: Tree, L: Ledger>(
     ask_over(alloc, tree, inputs.settings, &machine, steps)
 }
 
-// What a run asks, where its rules are counted on this ledger.
+// Returns what a run asks. The ledger counts the rules of its evaluation.
 fn ask_with<T: Tree, L: Ledger>(
     alloc: Global,
     tree: &mut T,
@@ -166,7 +169,7 @@ fn ask_with<T: Tree, L: Ledger>(
     ask(alloc, tree, inputs, &mut steps)
 }
 
-// What the run over these bytes asks of the machine file, and its fault.
+// Returns what the run over these bytes asks of the machine file, and the fault in which it ends.
 pub(crate) fn ask_run<T: Tree>(
     alloc: Global,
     tree: &mut T,
@@ -183,7 +186,7 @@ pub(crate) fn ask_run<T: Tree>(
     ask_with::<T, Brand>(alloc, tree, &inputs, Blank::new(1))
 }
 
-// What is done with what a run asked: its lines are told, and its fault.
+// Writes the lines of a run that was asked for its questions, or the fault at which it stopped.
 fn settle<O: Outputs>(answer: Result<Asking, Stop>, out: &mut O) -> Status
     requires { HasRoom (O.seen out.old).failures }
     ensures { Told answer result (O.seen out.old) (O.seen out.new) }
@@ -194,8 +197,10 @@ fn settle<O: Outputs>(answer: Result<Asking, Stop>, out: &mut O) -> Status
     }
 }
 
-/// Tells what the run of [`setup`](crate::running::setup) over the same bytes asks of the machine file: in the log one line of JSON for
-/// each question, in the order of the first asking, and then the line of the run's fault, where it has one. Nothing else is written.
+/// Writes each question that the run of [`setup`](crate::running::setup) over the same bytes asks of the machine file.
+///
+/// The log gets one line of JSON for each question, in the order in which they are first asked. If the run has a fault, its line follows.
+/// Nothing else is written.
 pub fn questions<T: Tree, O: Outputs>(
     alloc: Global,
     tree: &mut T,
@@ -206,12 +211,12 @@ pub fn questions<T: Tree, O: Outputs>(
     requires tree { HasRoom (T.seen tree.old).failures }
     requires out { HasRoom (O.seen out.old).failures }
 
-    // Over a steady tree, status `Done` or `Fault` is that of the run, and outputs that tell took all of these lines, and nothing else.
+    // If the tree is steady, status `Done` or `Fault` is that of the run, and outputs that tell took all of these lines and nothing else.
     // With status `Device` or `Memory` they took a beginning. The questions and their answers are those of the run that `setup` does.
     ensures run { (files : Files) (said : MachineSaid) → Holds (T.seen tree.old) files → IsSaid machine.now said
         → Agrees (questions_of files (settings_view settings.now) said) result (O.seen out.old) (O.seen out.new) }
 
-    // Of any devices: one of them has failed once where the status is `Device`, and else none has.
+    // For any devices: status `Device` means that exactly one of them has failed, once. With every other status, none has failed.
     ensures device { FailsOnce result (T.seen tree.old).failures (O.seen out.old).failures (T.seen tree.new).failures
         (O.seen out.new).failures }
 {

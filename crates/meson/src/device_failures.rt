@@ -1,4 +1,4 @@
-//! Runs over devices in memory that fail once, take and give a few bytes a call, or answer for a few paths only.
+//! Tests runs over devices in memory that fail once, take or give a few bytes a call, or answer for a few paths only.
 ghost use Rattle.std.specs.Prelude.{◌<◌};
 
 use crate::expected::{Expected, outputs};
@@ -10,12 +10,12 @@ use std::alloc::{AllocError, Global};
 use std::test::Fail;
 use support::text_lists::strings;
 
-/// How a run went over a device that was to fail once.
+/// Says how a run went over a device with a planned failure.
 #[derive(Clone, Copy, Debug, PartialEq, Eq)]
 pub enum Ran {
-    /// The call did not come: the run is whole.
+    /// The planned call did not come, and the run is whole.
     Whole,
-    /// The call failed: the status says so, and the events are a beginning of those of the whole run.
+    /// The call failed: the status is `Device`, and the events are a beginning of those of the whole run.
     Failed,
     Wrong,
 }
@@ -33,7 +33,7 @@ fn judge(failures: u64, status: Status, expected: Expected<'_>, out: &MemOutputs
     }
 }
 
-// Runs where outputs take so many bytes a call and fail at this call.
+// Runs with outputs that take at most `piece` bytes a call and fail at the planned call.
 fn run_to_outputs(
     alloc: Global,
     given: &Given<'_>,
@@ -49,7 +49,7 @@ fn run_to_outputs(
     Ok(judge(failures, status, given.expected, &out))
 }
 
-// Runs where the tree gives so many bytes a call and fails at this call.
+// Runs with a tree that gives at most `piece` bytes a call and fails at the planned call.
 fn run_from_tree(
     alloc: Global,
     given: &Given<'_>,
@@ -65,10 +65,10 @@ fn run_from_tree(
     Ok(judge(failures, status, given.expected, &out))
 }
 
-// More than the calls of one kind in each run of these tests.
+// More than the number of calls of one kind in any run of these tests.
 const CALLS: u64 = 4096;
 
-// How many calls of a kind a run makes of its outputs, where the run goes right whichever of them fails.
+// Returns how many calls of a kind a run makes of its outputs. Returns `None` if a run goes wrong when one of them fails.
 fn calls_of_outputs(
     alloc: Global,
     given: &Given<'_>,
@@ -87,7 +87,7 @@ fn calls_of_outputs(
     Ok(None)
 }
 
-// The same of the tree.
+// Returns how many calls of a kind a run makes of its tree. Returns `None` if a run goes wrong when one of them fails.
 fn calls_of_tree(
     alloc: Global,
     given: &Given<'_>,
@@ -106,7 +106,7 @@ fn calls_of_tree(
     Ok(None)
 }
 
-// The 777 bytes of `build.ninja` and the 1236 of the document, the begin and the end of both.
+// Counts the calls: 777 bytes of `build.ninja`, 1236 bytes of the document, and the opening and closing of both.
 #[test]
 fn each_call_of_the_outputs_fails(rt: HostRuntime) -> Result<(), Fail> {
     for (call, calls) in [
@@ -131,7 +131,7 @@ fn each_call_of_the_outputs_fails_in_larger_pieces(rt: HostRuntime) -> Result<()
     Ok(())
 }
 
-// The bytes of the fault line.
+// Counts one call for each byte of the fault line.
 #[test]
 fn each_call_of_the_outputs_fails_at_a_fault(rt: HostRuntime) -> Result<(), Fail> {
     let made = calls_of_outputs(rt.alloc(), &EMPTY, 1, OutputCall::Any)?;
@@ -139,7 +139,7 @@ fn each_call_of_the_outputs_fails_at_a_fault(rt: HostRuntime) -> Result<(), Fail
     Ok(())
 }
 
-// The bytes of the definition file, and how large it and the three other paths are that are looked at.
+// Counts one call for each byte of the definition file, and one `size` for it and for each of the three other paths that the run looks at.
 #[test]
 fn each_call_of_the_tree_fails(rt: HostRuntime) -> Result<(), Fail> {
     for (call, calls) in [

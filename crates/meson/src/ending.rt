@@ -1,4 +1,4 @@
-//! The fault in which a run ends and what it is about, told in place of what the run writes.
+//! Answers `meson fault`: runs the evaluation and prints the fault in which it ends and the details of that fault.
 ghost use Rattle.std.specs.Prelude.{◌++◌, ◌<◌, codes, option_map};
 ghost use Rattle.ports.specs.Endings.{HasRoom, ended};
 ghost use Rattle.ports.specs.Outputs.{Writes, logs};
@@ -25,7 +25,7 @@ fn log_line<O: Outputs>(text: &str, out: &mut O) -> Result<(), DeviceFault>
     log_all(out, b"\n")
 }
 
-// Tells what a fault is about, in a line of the log.
+// Writes the details of a fault as one line of the log.
 fn tell_detail<O: Outputs>(fault: &Fault, out: &mut O) -> Status
     requires { HasRoom (O.seen out.old).failures }
     ensures { Concludes (detail_told (fault_view fault.now)) result (O.seen out.old) (O.seen out.new) }
@@ -36,7 +36,7 @@ fn tell_detail<O: Outputs>(fault: &Fault, out: &mut O) -> Status
     }
 }
 
-// Tells the line of a fault, and behind it what it is about.
+// Writes the line of a fault, then its details.
 fn tell<O: Outputs>(fault: &Fault, out: &mut O) -> Status
     requires { HasRoom (O.seen out.old).failures }
     ensures { Concludes (told_whole (fault_view fault.now)) result (O.seen out.old) (O.seen out.new) }
@@ -47,7 +47,7 @@ fn tell<O: Outputs>(fault: &Fault, out: &mut O) -> Status
     }
 }
 
-// How the telling ends: with the fault, where there is one.
+// Writes the fault, if there is one, and returns the status.
 fn end<O: Outputs>(fault: &Option<Fault>, out: &mut O) -> Status
     requires { HasRoom (O.seen out.old).failures }
     ensures { Concludes (ending_told (option_map fault_view fault.now)) result (O.seen out.old) (O.seen out.new) }
@@ -58,7 +58,7 @@ fn end<O: Outputs>(fault: &Option<Fault>, out: &mut O) -> Status
     }
 }
 
-// What is done where a run stopped: its fault is told, and else nothing.
+// Writes the fault at which a run stopped. Other stops write nothing.
 fn tell_stop<O: Outputs>(stop: Stop, out: &mut O) -> Status
     requires { HasRoom (O.seen out.old).failures }
     ensures { TellsStop stop result (O.seen out.old) (O.seen out.new) }
@@ -70,7 +70,7 @@ fn tell_stop<O: Outputs>(stop: Stop, out: &mut O) -> Status
     }
 }
 
-// What is done after a run: its fault is told.
+// Writes the fault of a run, if it has one.
 fn settle<O: Outputs>(answer: Result<Asking, Stop>, out: &mut O) -> Status
     requires { HasRoom (O.seen out.old).failures }
     ensures { TellsFault answer result (O.seen out.old) (O.seen out.new) }
@@ -81,8 +81,10 @@ fn settle<O: Outputs>(answer: Result<Asking, Stop>, out: &mut O) -> Status
     }
 }
 
-/// Tells the fault in which the run of [`setup`](crate::running::setup) over the same bytes ends: its line, and in the log a line with
-/// what it is about, which is empty where the place says enough. Without a fault nothing is told. Nothing else is written.
+/// Writes the fault in which the run of [`setup`](crate::running::setup) over the same bytes ends.
+///
+/// The fault's line goes to the outputs as usual, and its details go to the log as one line, which is empty if the place says enough.
+/// Without a fault, nothing is written.
 pub fn fault<T: Tree, O: Outputs>(
     alloc: Global,
     tree: &mut T,
@@ -93,12 +95,12 @@ pub fn fault<T: Tree, O: Outputs>(
     requires tree { HasRoom (T.seen tree.old).failures }
     requires out { HasRoom (O.seen out.old).failures }
 
-    // Over a steady tree, status `Done` or `Fault` is that of the run, and outputs that tell took the line of its fault and its detail,
+    // If the tree is steady, status `Done` or `Fault` is that of the run, and outputs that tell took the line of its fault and its detail,
     // and nothing else. With status `Device` or `Memory` they took a beginning. The fault is that of the run that `setup` does.
     ensures run { (files : Files) (said : MachineSaid) → Holds (T.seen tree.old) files → IsSaid machine.now said
         → Agrees (fault_told files (settings_view settings.now) said) result (O.seen out.old) (O.seen out.new) }
 
-    // Of any devices: one of them has failed once where the status is `Device`, and else none has.
+    // For any devices: status `Device` means that exactly one of them has failed, once. With every other status, none has failed.
     ensures device { FailsOnce result (T.seen tree.old).failures (O.seen out.old).failures (T.seen tree.new).failures
         (O.seen out.new).failures }
 {

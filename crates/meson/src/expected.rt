@@ -1,4 +1,4 @@
-//! What a run is to come to.
+//! Describes the events that a test expects of a run.
 ghost use Rattle.std.specs.Prelude.{◌≡◌, IfOk};
 ghost use Rattle.ports.specs.memory.MemOutputs.{mem_outputs_seen};
 
@@ -6,19 +6,19 @@ use outputs::build_file::Status;
 use ports::memory::{Event, MemOutputs};
 use std::alloc::{AllocError, Global};
 
-/// The events of a run that meets no failure of a device.
+/// Describes the events of a run in which no device fails.
 #[derive(Clone, Copy)]
 pub enum Expected<'a> {
-    /// `build.ninja` and the introspection document are written with these texts.
+    /// The run writes `build.ninja` and the introspection document with these texts.
     Outputs {
         build_file: &'a str,
         document: &'a str,
     },
-    /// This line tells a fault, and nothing else is written.
+    /// The run reports a fault with this line and writes nothing else.
     Fault(&'a str),
 }
 
-// The event at this place of those of one output with this text.
+// Returns event number `at`, from 0, among the events of one output with this text.
 fn event_of_output<'a>(name: &'static [u8], text: &'a [u8], at: usize) -> Option<Event<&'a [u8]>> {
     if at == 0 {
         Some(Event::Open(name))
@@ -45,7 +45,7 @@ fn event_of_outputs<'a>(
 }
 
 impl<'a> Expected<'a> {
-    /// The event at this place.
+    /// Returns event number `at`, from 0, or `None` after the last.
     pub fn event(self, at: usize) -> Option<Event<&'a [u8]>> {
         match self {
             Expected::Outputs {
@@ -56,6 +56,7 @@ impl<'a> Expected<'a> {
         }
     }
 
+    /// Returns the status with which the run ends.
     pub fn status(self) -> Status {
         match self {
             Expected::Outputs { .. } => Status::Done,
@@ -63,18 +64,18 @@ impl<'a> Expected<'a> {
         }
     }
 
-    /// Whether what the outputs took is a beginning of these events.
+    /// Returns whether what the outputs took is a beginning of these events.
     pub fn is_begun(self, out: &MemOutputs) -> bool {
         (0..out.event_count()).all(|at| out.event(at) == self.event(at))
     }
 
-    /// Whether there is no event after as many as the outputs took.
+    /// Returns whether the outputs took as many events as there are, or more.
     pub fn has_ended(self, out: &MemOutputs) -> bool {
         self.event(out.event_count()).is_none()
     }
 }
 
-/// Outputs with room for each run of these tests.
+/// Returns outputs in memory with room for every run of these tests.
 pub fn outputs(alloc: Global) -> Result<MemOutputs, AllocError>
     ensures { IfOk result (λ out. (mem_outputs_seen out).failures ≡ 0) }
 {

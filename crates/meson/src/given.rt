@@ -1,4 +1,4 @@
-//! The projects that are run, and their outputs.
+//! Holds the projects that the tests run, and the outputs that they expect.
 ghost use Rattle.ports.specs.Endings.{HasRoom};
 ghost use Rattle.std.specs.Prelude.{◌≡◌, IfOk};
 ghost use Rattle.ports.specs.memory.MemTree.{mem_tree_seen};
@@ -11,7 +11,7 @@ use ports::{Outputs, Tree};
 use std::alloc::{AllocError, Global};
 use world::Settings;
 
-/// The bytes of the root's `meson.build`, the paths of the other files, which are empty, and what a run of these comes to.
+/// Describes a project: the bytes of its root `meson.build`, the paths of its other files, which are empty, and the expected outputs.
 #[derive(Clone, Copy)]
 pub struct Given<'a> {
     pub definitions: &'a str,
@@ -19,6 +19,7 @@ pub struct Given<'a> {
     pub expected: Expected<'a>,
 }
 
+/// The definition file of the smallest project: one executable of one source.
 pub const SMALLEST_PROJECT: &str = "project('p','c')\nexecutable('prog','main.c')\n";
 
 /// The `build.ninja` of the smallest project.
@@ -104,14 +105,14 @@ pub const SMALLEST: Given<'static> = Given {
     },
 };
 
-/// An empty definition file.
+/// A project with an empty definition file, which is a fault.
 pub const EMPTY: Given<'static> = Given {
     definitions: "",
     others: &[],
     expected: Expected::Fault("meson.build:1: ERROR: E13 project call\n"),
 };
 
-/// The tree of the given files.
+/// Returns a tree in memory with the files of the project.
 pub fn tree_of(alloc: Global, given: &Given<'_>) -> Result<MemTree, AllocError>
     ensures { IfOk result (λ tree. (mem_tree_seen tree).failures ≡ 0) }
 {
@@ -124,7 +125,7 @@ pub fn tree_of(alloc: Global, given: &Given<'_>) -> Result<MemTree, AllocError>
     MemTree::new(alloc, files)
 }
 
-/// Runs `setup` over these devices, for a build one folder below the sources. Want of memory of the run itself is a status.
+/// Runs `setup` over these devices, in the build directory `build` of `/s`. If the run itself is out of memory, its status is `Memory`.
 pub fn run_over<T: Tree, O: Outputs>(
     alloc: Global,
     tree: &mut T,

@@ -1,11 +1,11 @@
-//! `meson setup` for C projects as a library: from the bytes of a source tree to the bytes of a build folder.
+//! Runs `meson setup` for C projects as a library: from the bytes of a source tree to the bytes of a build directory.
 //!
-//! [`setup`] runs a project over any devices and states the theorem of the whole. [`questions`] lists what that run asks the machine
-//! file, and [`fault`] says in which fault it ends and what that is about. [`depends_on_looked`], [`lists_what_it_looks_at`],
+//! [`setup`] runs a project over any devices, and its contract is the theorem about the whole program. [`questions`] lists what that run
+//! asks the machine file. [`fault`] prints the fault in which that run ends. [`depends_on_looked`], [`lists_what_it_looks_at`],
 //! [`needs_are_there`] and [`machine_files_say`] are laws of every run: calls that do nothing, whose contracts hold.
 //!
-//! The crates of the layers are parts of this one, so that who lists `meson` alone has a parser, the order of versions, a template pass
-//! or a Ninja writer too, as `meson::syntax::parse`.
+//! This crate re-exports the crates of all layers. A user who depends on `meson` alone can also call a parser, the order of versions, a
+//! template pass or a Ninja writer, for example `meson::syntax::parse`.
 #![tactic(auto)]
 
 mod asking;

@@ -1,4 +1,4 @@
-//! One run, from the bytes of a tree to the events of the outputs.
+//! Runs `setup`: from the bytes of a tree to the events of the outputs.
 ghost use Rattle.std.specs.Prelude.{◌≡◌, ◌<◌};
 ghost use Rattle.ports.specs.Endings.{HasRoom};
 ghost use Rattle.outputs.specs.build_file.Means.{Means};
@@ -18,7 +18,7 @@ use std::mem::forget;
 use std::sync::ledger::{Blank, Ledger};
 use world::{Settings, Stop, Store, new_steps};
 
-// What is done where a run stopped: the line of its fault is told, and else nothing.
+// Writes the line of the fault at which a run stopped, and returns the status. Other stops write nothing.
 pub(crate) fn tell_fault<O: Outputs>(stop: Stop, out: &mut O) -> Status
     requires { OnFault stop (HasRoom (O.seen out.old).failures) }
     ensures { Stops stop result (O.seen out.old) (O.seen out.new) }
@@ -30,7 +30,7 @@ pub(crate) fn tell_fault<O: Outputs>(stop: Stop, out: &mut O) -> Status
     }
 }
 
-// What is done after an evaluation: all outputs of its project are written, or the line of its fault.
+// Writes all outputs of the project after a successful evaluation, or else the line of the fault.
 fn settle<O: Outputs>(alloc: Global, answer: Result<Store, Stop>, out: &mut O) -> Status
     requires { OnEnd answer (HasRoom (O.seen out.old).failures) }
     ensures settles { Settles answer result (O.seen out.old) (O.seen out.new) }
@@ -39,7 +39,7 @@ fn settle<O: Outputs>(alloc: Global, answer: Result<Store, Stop>, out: &mut O) -
     match answer {
         Ok(store) => {
             let status = conclude(alloc, store.project(), out);
-            // The process ends next, and what it holds with it.
+            // The process ends next and frees this memory.
             forget(store);
             status
         }
@@ -47,7 +47,7 @@ fn settle<O: Outputs>(alloc: Global, answer: Result<Store, Stop>, out: &mut O) -
     }
 }
 
-// A run whose rules are counted on this ledger.
+// Runs the project. The ledger counts the rules of its evaluation.
 fn run_with<T: Tree, O: Outputs, L: Ledger>(
     alloc: Global,
     tree: &mut T,
@@ -69,18 +69,18 @@ fn run_with<T: Tree, O: Outputs, L: Ledger>(
     ensures device { FailsOnce result (T.seen tree.old).failures (O.seen out.old).failures (T.seen tree.new).failures
         (O.seen out.new).failures }
 {
-    // The law that `there` rests on; the call does nothing.
+    // This call proves the law that the clause `there` rests on. It does nothing.
     needs_are_there();
     let mut steps = new_steps::<L>(blank);
     let answer = evaluate(alloc, tree, inputs, out, &mut steps);
     settle(alloc, answer, out)
 }
 
-/// Configures a build folder: reads the definitions of the tree and writes `build.ninja` and
-/// `meson-info/introspect.json` to the outputs.
+/// Configures a build directory: reads the definitions of the tree and writes `build.ninja` and `meson-info/introspect.json` to the
+/// outputs.
 ///
-/// The files, the settings and the bytes of the machine file determine a run: what the outputs are asked to take, in order and
-/// byte for byte, and the status.
+/// The files, the settings and the bytes of the machine file determine the run: what the outputs are asked to take, in order and byte for
+/// byte, and the status.
 pub fn setup<T: Tree, O: Outputs>(
     alloc: Global,
     tree: &mut T,
@@ -91,21 +91,22 @@ pub fn setup<T: Tree, O: Outputs>(
     requires tree { HasRoom (T.seen tree.old).failures }
     requires out { HasRoom (O.seen out.old).failures }
 
-    // Over a steady tree, status `Done` or `Fault` is that of the run, and outputs that tell took all of its steps. With status
-    // `Device` or `Memory` they took a beginning. The bytes of a machine file are read as one that says one thing: `machine_files_say`.
+    // If the tree is steady, status `Done` or `Fault` is that of the run, and outputs that tell took all of its steps. With status `Device`
+    // or `Memory` they took a beginning. The bytes of a machine file have exactly one reading: `machine_files_say`.
     ensures run { (files : Files) (said : MachineSaid) → Holds (T.seen tree.old) files → IsSaid machine.now said
         → Agrees (run_of files (settings_view settings.now) said) result (O.seen out.old) (O.seen out.new) }
 
-    // With status `Done` the Ninja manual reads `build.ninja` as just what the definitions declare, and a shell each command as its
-    // words. No path is made twice, each that is needed is made before or there, and no edge reaches itself.
+    // With status `Done`, the Ninja manual reads `build.ninja` as exactly what the definitions declare, and a shell reads each command as
+    // its words. No path is made twice. Each path that an edge needs is made earlier or exists, and no edge depends on itself.
     ensures meaning { (files : Files) (said : MachineSaid) → Holds (T.seen tree.old) files → IsSaid machine.now said
         → OnDone result (Means (project_of files (settings_view settings.now) said)) }
 
-    // And each path that an edge needs is an output of an edge before it, a file of these that was looked at, or was closed in this run.
+    // Each path that an edge needs is one of these: an output of an earlier edge, a file of the tree that was looked at, or an output that
+    // this run closed.
     ensures there { (files : Files) (said : MachineSaid) → Holds (T.seen tree.old) files → IsSaid machine.now said
         → OnDone result (AreThere files (settings_view settings.now) said) }
 
-    // Of any devices: one of them has failed once where the status is `Device`, and else none has.
+    // For any devices: status `Device` means that exactly one of them has failed, once. With every other status, none has failed.
     ensures device { FailsOnce result (T.seen tree.old).failures (O.seen out.old).failures (T.seen tree.new).failures
         (O.seen out.new).failures }
 {

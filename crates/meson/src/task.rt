@@ -1,4 +1,4 @@
-//! What a command line asks for, done over any devices.
+//! Does what a command line asks for, over any devices.
 ghost use Rattle.ports.specs.Endings.{HasRoom};
 ghost use Rattle.outputs.specs.build_file.Concluding.{Agrees};
 ghost use Rattle.interp.specs.Evaluation.{IsSaid, MachineSaid};
@@ -15,7 +15,7 @@ use outputs::build_file::Status;
 use ports::{Outputs, Tree};
 use std::alloc::Global;
 
-/// Does what the task says, over these settings and bytes of a machine file: [`setup`], [`questions`] or [`fault`].
+/// Runs the task over these settings and bytes of a machine file: [`setup`], [`questions`] or [`fault`].
 pub fn perform<T: Tree, O: Outputs>(
     alloc: Global,
     task: Task,
@@ -26,12 +26,12 @@ pub fn perform<T: Tree, O: Outputs>(
     requires tree { HasRoom (T.seen tree.old).failures }
     requires out { HasRoom (O.seen out.old).failures }
 
-    // Over a steady tree, status `Done` or `Fault` is that of the task's run, and outputs that tell took all of its steps. With status
+    // If the tree is steady, status `Done` or `Fault` is that of the task's run, and outputs that tell took all of its steps. With status
     // `Device` or `Memory` they took a beginning.
     ensures run { (files : Files) (said : MachineSaid) → Holds (T.seen tree.old) files → IsSaid inputs.now.machine.now said
         → Agrees (run_by task files (settings_view inputs.now.settings.now) said) result (O.seen out.old) (O.seen out.new) }
 
-    // Of any devices: one of them has failed once where the status is `Device`, and else none has.
+    // For any devices: status `Device` means that exactly one of them has failed, once. With every other status, none has failed.
     ensures device { FailsOnce result (T.seen tree.old).failures (O.seen out.old).failures (T.seen tree.new).failures
         (O.seen out.new).failures }
 {

@@ -1,4 +1,4 @@
-//! The lines of what was asked, each once.
+//! Collects the lines of the questions of a run, each once.
 ghost use Rattle.std.specs.Prelude.{◌≡◌, ◌∷◌, [], IfOk, OnOk, string_bytes};
 ghost use Rattle.introspection.specs.QuestionsView.{line_in};
 ghost use Rattle.machine.specs.machine_file.View.{machine_in};
@@ -12,7 +12,7 @@ use machine::machine_file::Machine;
 use std::alloc::{AllocError, Global};
 use world::Asked;
 
-// What was told so far: the lines without their places, and all of the text.
+/// Holds the lines so far: without their places, to find repetitions, and as one text.
 #[derive(Drop)]
 pub struct Telling {
     pub labels: Names,
@@ -30,7 +30,7 @@ impl Telling {
         }
     }
 
-    // Tells a line of a question, unless one was told that says the same.
+    // Adds a line, unless one that differs only in its file and line number was added before.
     fn add(
         &mut self,
         alloc: Global,
@@ -50,7 +50,7 @@ impl Telling {
         self.text.push_str("\n")
     }
 
-    // Tells the lines of a question.
+    // Adds the lines of a question.
     fn add_all(&mut self, alloc: Global, machine: &Machine, asked: &Asked) -> Result<(), AllocError>
         ensures { OnOk result (Tells self.old (lines_asked (machine_in machine.now) (asked_in asked.now)) self.new) }
     {
@@ -62,8 +62,9 @@ impl Telling {
     }
 }
 
-/// The lines of what was asked, with what this machine file answers, each with a newline: of lines that say the same beside their places
-/// the first alone.
+/// Returns the lines of these questions, each with a newline and with the answer of this machine file.
+///
+/// Lines that differ only in file and line number appear once, with the first place.
 pub fn questions_text(
     alloc: Global,
     machine: &Machine,

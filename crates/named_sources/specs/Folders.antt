@@ -1,4 +1,4 @@
--- The folders that the keyword `include_directories` names: texts that are paths of folders, and objects of `include_directories`.
+-- Defines which directories the keyword `include_directories` names: texts that are paths, and objects of `include_directories`.
 use Rattle.std.specs.Prelude.{ℕ, List, [], ◌∷◌, Option, Some, None}
 use Rattle.values.specs.Data.{Data, text, object}
 use Rattle.values.specs.declared.object.Object.{Object}
@@ -9,21 +9,23 @@ use Rattle.support.specs.paths.Paths.{folder_path}
 use Rattle.arguments.specs.Each.{all_said}
 use Rattle.named_sources.specs.Unnamed.{named_by}
 
+-- Returns a list of one path, if there is a path.
 abbrev pub one_path : Option (List ℕ) → Option (List (List ℕ))
 one_path None = None
 one_path (Some path) = Some (path ∷ [])
 
+-- Returns the directories of an object of `include_directories`.
 abbrev pub of_object : Object → Option (List (List ℕ))
 of_object (objects.IncludeDirectories paths) = Some paths
 of_object _ = None
 
--- the folders that a value names in a definition file of a folder; none where the value is of another kind, or a text that leads out of
--- the tree
+-- Returns the directories that a value names, in a build file of a folder. Returns none for a value of another type, and for a text that
+-- leads out of the source directory.
 abbrev pub folders_in : List ℕ → List ℕ → Data → Option (List (List ℕ))
 folders_in source_root folder (text t) = one_path (folder_path source_root folder t)
 folders_in source_root folder (object o) = of_object o
 folders_in source_root folder _ = None
 
--- the folders that values name, all of them; the first that names none breaks a rule
+-- Returns the directories that all values name. The first value that names none breaks a rule.
 abbrev pub folders_of : List ℕ → List ℕ → List Data → Said (List (List ℕ))
 folders_of source_root folder ds = all_said (named_by rules.NamesFolder (folders_in source_root folder)) [] ds

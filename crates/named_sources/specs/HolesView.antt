@@ -1,4 +1,4 @@
--- Places and meanings without where they lie in memory.
+-- Defines the views of places and meanings.
 use Rattle.std.specs.Prelude.{string_bytes, option_map}
 use Rattle.build.specs.edge.Folders.{build_folder, source_folder}
 use Rattle.build.specs.edge.Paths.{source_root}
@@ -8,6 +8,7 @@ use Rattle.named_sources.specs.declared.holes.Place.{Place}
 use Rattle.named_sources.specs.declared.holes.Meaning.{Meaning}
 use Rattle.named_sources.specs.declared.holes.Meaning.TheVariants as meaning
 
+-- Returns the plain data of a place.
 abbrev pub place_view : Place → PlaceData
 place_view p = record {
   inputs = texts p.inputs.now;
@@ -18,6 +19,7 @@ place_view p = record {
   source_root = source_root p.depth;
 }
 
+-- Returns the plain data of a meaning.
 abbrev pub meaning_view : Meaning → MeaningData
 meaning_view meaning.Stays = stays
 meaning_view meaning.Refused = refused

@@ -1,4 +1,4 @@
--- What objects name that may stand in a command.
+-- Defines which objects may be in a command.
 use Rattle.std.specs.Prelude.{Bool, List, Option, Some, None, option_map}
 use Rattle.values.specs.declared.object.Object.{Object}
 use Rattle.values.specs.declared.object.Object.TheVariants as objects
@@ -8,16 +8,17 @@ use Rattle.build.specs.Data.{BuildData}
 use Rattle.build.specs.Libraries.{LinkedData, build_at}
 use Rattle.named_sources.specs.Outputs.{output_at, outputs_at}
 
+-- A thing that may be in a command.
 pub data ThingData : Type 0 where
   a_program : (program : Program) → ThingData
-  -- of the tree, or of the build folder
+  -- A file in the source directory, or in the build directory.
   a_file : (path : Path) (is_built : Bool) → ThingData
   a_target : (target : BuildData) → ThingData
-  -- all outputs of a target, and one of them
+  -- All outputs of a target, and one of them.
   all_outputs : (paths : List Path) → ThingData
   an_output : (path : Path) → ThingData
 
--- none where the object is of another kind, or no target has its number
+-- Returns the thing that an object refers to, and none if the object has another type or no target has its number.
 abbrev pub thing_of : List LinkedData → Object → Option ThingData
 thing_of earlier (objects.Program program) = Some (a_program program)
 thing_of earlier (objects.File path is_built) = Some (a_file path is_built)

@@ -1,10 +1,11 @@
--- Things, without where they lie in memory.
+-- Defines the view of things.
 use Rattle.build.specs.edge.Texts.{texts}
 use Rattle.build.specs.View.{build_view}
 use Rattle.named_sources.specs.Things.{ThingData, a_file, a_program, a_target, all_outputs, an_output}
 use Rattle.named_sources.specs.declared.things.Thing.{Thing}
 use Rattle.named_sources.specs.declared.things.Thing.TheVariants as things
 
+-- Returns the plain data of a thing.
 abbrev pub thing_view : Thing → ThingData
 thing_view (things.Program program) = a_program program.now
 thing_view (things.File path is_built) = a_file path.now is_built

@@ -1,14 +1,14 @@
--- What is said of a value that names nothing.
+-- Defines the refusal of a value that names nothing.
 use Rattle.std.specs.Prelude.{ℕ, List, [], Option}
 use Rattle.arguments.specs.Said.{Said, found}
 use Rattle.arguments.specs.declared.rule.Rule.{Rule}
 use Rattle.values.specs.Data.{Data, text}
 
--- a text; another value has none
+-- Returns the text of a value, which is empty for any other type.
 abbrev pub text_said : Data → List ℕ
 text_said (text t) = t
 text_said _ = []
 
--- what a value names, and where that is nothing, it breaks this rule
+-- Returns what a value names. A value that names nothing breaks this rule.
 abbrev pub named_by : {A : Type 0} → Rule → (Data → Option A) → Data → Said A
 named_by rule f d = found (f d) rule (text_said d)

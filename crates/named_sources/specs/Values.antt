@@ -1,4 +1,4 @@
--- What `files` and `include_directories` give.
+-- Defines the results of `files` and `include_directories`.
 use Rattle.std.specs.Prelude.{ℕ, false, List, [], ◌∷◌, Result, Ok, Err}
 use Rattle.values.specs.Data.{Data, list, object, Items, no_items, item, items_append}
 use Rattle.values.specs.Limits.{within, within_bytes}
@@ -6,20 +6,21 @@ use Rattle.values.specs.declared.object.Object.TheVariants as objects
 use Rattle.values.specs.declared.refusal.Refusal.{Refusal}
 use Rattle.named_sources.specs.resources.Found.{short_texts}
 
+-- Runs a step after another, unless that was refused.
 abbrev pub and_then : {A B : Type 0} → Result A Refusal → (A → Result B Refusal) → Result B Refusal
 and_then (Ok a) next = next a
 and_then (Err refusal) next = Err refusal
 
--- items, and behind them files of the tree by their paths, each within the limit of a text
+-- Returns items followed by files in the source directory, each with a path within the limit of a text.
 abbrev pub files_behind : Items → List (List ℕ) → Result Items Refusal
 files_behind ds [] = Ok ds
 files_behind ds (p ∷ ps) =
     and_then (within_bytes p) (λ path. files_behind (items_append ds (item (object (objects.File path false)) no_items)) ps)
 
--- the list of the files at these paths
+-- Returns the list of the files at these paths.
 abbrev pub files_at : List (List ℕ) → Result Data Refusal
 files_at ps = and_then (files_behind no_items ps) (λ ds. within (list ds))
 
--- the object that has the folders at these paths
+-- Returns the object with the directories at these paths.
 abbrev pub directories_at : List (List ℕ) → Result Data Refusal
 directories_at ps = and_then (short_texts ps) (λ qs. Ok (object (objects.IncludeDirectories qs)))

@@ -1,4 +1,4 @@
--- Items of an answer, as plain data.
+-- Defines the view of a result of items.
 use Rattle.std.specs.Prelude.{Result, Ok, Err}
 use Rattle.std.specs.declared.alloc.Global.{Global}
 use Rattle.std.specs.declared.vec.Vec.{Vec}
@@ -7,6 +7,7 @@ use Rattle.values.specs.View.{items_of}
 use Rattle.values.specs.declared.refusal.Refusal.{Refusal}
 use Rattle.values.specs.declared.value.Value.{Value}
 
+-- Returns the items of a result, or its refusal.
 abbrev pub items_in : Result (Vec Value Global) Refusal → Result Items Refusal
 items_in (Ok values) = Ok (items_of values.items)
 items_in (Err refusal) = Err refusal

@@ -1,4 +1,4 @@
-//! What `files` and `include_directories` give.
+//! Makes the results of `files` and `include_directories`.
 ghost use Rattle.std.specs.Prelude.{◌≡◌, IfOk, map, string_bytes};
 ghost use Rattle.values.specs.Prelude.{Answers};
 ghost use Rattle.values.specs.Data.{no_items};
@@ -9,7 +9,7 @@ use crate::resources::short_texts;
 use std::alloc::{AllocError, Global};
 use values::{List, Object, Refusal, Text, Value};
 
-// The files at these paths.
+// Returns the files at these paths, or `Refusal::Limit` if a path is too long.
 fn files(alloc: Global, paths: &[String]) -> Result<Result<Vec<Value>, Refusal>, AllocError>
     ensures { IfOk result (λ r. items_in r ≡ files_behind no_items (map string_bytes paths.now)) }
 {
@@ -26,7 +26,7 @@ fn files(alloc: Global, paths: &[String]) -> Result<Result<Vec<Value>, Refusal>,
     Ok(Ok(files))
 }
 
-/// The list of the files of the tree at these paths, or `Refusal::Limit` where a path or the list is too long.
+/// Returns the list of the files in the source directory at these paths, or `Refusal::Limit` if a path or the list is too long.
 pub fn files_at(alloc: Global, paths: &[String]) -> Result<Result<Value, Refusal>, AllocError>
     ensures { IfOk result (λ r. Answers (files_at (map string_bytes paths.now)) r) }
 {
@@ -39,7 +39,7 @@ pub fn files_at(alloc: Global, paths: &[String]) -> Result<Result<Value, Refusal
     }
 }
 
-/// The object that has the folders at these paths, or `Refusal::Limit` where a path is too long.
+/// Returns the object with the directories at these paths, or `Refusal::Limit` if a path is too long.
 pub fn directories_at(alloc: Global, paths: &[String]) -> Result<Result<Value, Refusal>, AllocError>
     ensures { IfOk result (λ r. Answers (directories_at (map string_bytes paths.now)) r) }
 {

@@ -1,4 +1,4 @@
-//! Texts with placeholders.
+//! Fills texts with placeholders.
 ghost use Rattle.std.specs.Prelude.{◌≡◌, ◌==◌, ◌++◌, map, IfOk, OnOk, None, Some, option_map, string_bytes, if◌then◌else◌};
 ghost use Rattle.std.specs.List.{slice_split};
 ghost use Rattle.named_sources.specs.Holes.{meaning, behind_text, filled_behind, filled_parts, filled};
@@ -8,7 +8,7 @@ ghost use Rattle.support.specs.paths.Names.{has};
 use crate::holes::{Meaning, Place, Scope, meaning_of};
 use std::alloc::{AllocError, Global};
 
-// What stands between the `@` of a text.
+// Returns the pieces of a text between its `@`.
 fn pieces<'a>(alloc: Global, text: &'a str) -> Result<Vec<&'a str>, AllocError>
     ensures { IfOk result (λ pieces. map (λ s. s.now) pieces.items ≡ slice_split (λ b. b == 64) text.now) }
 {
@@ -23,7 +23,7 @@ fn push_both(made: &mut String, first: &str, second: &str) -> Result<(), AllocEr
     made.push_str(second)
 }
 
-// Appends the parts behind an `@`, with the values of their placeholders. Answers whether each of these stands for something.
+// Appends the parts after an `@`, with their placeholders replaced. Returns whether each placeholder has a value.
 fn fill_behind(
     alloc: Global,
     scope: Scope,
@@ -62,7 +62,7 @@ fn fill_behind(
     Ok(true)
 }
 
-// The text so far, and behind it the parts behind an `@`, with the values of their placeholders.
+// Returns the text so far and the parts after an `@`, with their placeholders replaced, and `None` if one has no value.
 fn filled_behind(
     alloc: Global,
     scope: Scope,
@@ -81,7 +81,7 @@ fn filled_behind(
     }
 }
 
-// The parts of a text, with the values of the placeholders.
+// Returns the parts of a text with their placeholders replaced, and `None` if one has no value.
 fn fill_parts(
     alloc: Global,
     scope: Scope,
@@ -103,8 +103,10 @@ fn has_mark(text: &str) -> bool
     text.as_bytes().contains(&b'@')
 }
 
-/// The text with the values of its placeholders, leftmost first and not scanned again; or none where one of them stands for nothing
-/// here (E9): `@INPUT@` inside a word and `@BASENAME@` without exactly one input, `@INPUT3@` past the last, `@DEPFILE@` without a depfile.
+/// Returns the text with its placeholders replaced from the left, without scanning the result again.
+///
+/// Returns `None` if a placeholder has no value in this call (E9). Such are `@INPUT@` inside an argument and `@BASENAME@` without exactly
+/// one input, `@INPUT3@` past the last input, and `@DEPFILE@` without a depfile.
 pub fn fill(
     alloc: Global,
     scope: Scope,

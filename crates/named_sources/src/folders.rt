@@ -1,4 +1,4 @@
-//! The folders that the keyword `include_directories` names.
+//! Finds the directories that the keyword `include_directories` names.
 ghost use Rattle.std.specs.Prelude.{◌≡◌, ◌++◌, ◌∷◌, [], IfOk, OnOk, None, Some, map, option_map, string_bytes, if◌then◌else◌};
 ghost use Rattle.arguments.specs.Each.{all_said};
 ghost use Rattle.arguments.specs.Refused.{said_data};
@@ -15,7 +15,7 @@ use std::alloc::{AllocError, Global};
 use support::paths::folder_path;
 use values::{Object, Text, Value};
 
-// Appends a text as a string of its own.
+/// Appends a copy of a text as a string.
 pub(crate) fn push_string(
     alloc: Global,
     strings: &mut Vec<String>,
@@ -27,7 +27,7 @@ pub(crate) fn push_string(
     Ok(())
 }
 
-// Appends texts as strings of their own.
+/// Appends copies of texts as strings.
 pub(crate) fn push_strings(
     alloc: Global,
     strings: &mut Vec<String>,
@@ -41,7 +41,7 @@ pub(crate) fn push_strings(
     Ok(())
 }
 
-/// Texts as strings of their own.
+/// Returns copies of texts as strings.
 pub fn strings(alloc: Global, texts: &[Text]) -> Result<Vec<String>, AllocError>
     ensures { IfOk result (λ v. map string_bytes v.items ≡ texts.now) }
 {
@@ -50,7 +50,7 @@ pub fn strings(alloc: Global, texts: &[Text]) -> Result<Vec<String>, AllocError>
     Ok(strings)
 }
 
-// Appends the folders that an object names. Answers whether it is one that names folders.
+// Appends the directories of an object, and returns whether the object has any.
 fn push_of_object(
     alloc: Global,
     paths: &mut Vec<String>,
@@ -68,7 +68,7 @@ fn push_of_object(
     }
 }
 
-// Appends a path, where there is one. Answers whether there is.
+// Appends a path if there is one, and returns whether there is.
 fn push_path(paths: &mut Vec<String>, path: Option<String>) -> Result<bool, AllocError>
     ensures { IfOk result (λ is_named. (if is_named then Some (strings_of paths.new) else None)
         ≡ option_map (λ more. strings_of paths.old ++ more) (one_path (option_map string_bytes path))) }
@@ -82,7 +82,7 @@ fn push_path(paths: &mut Vec<String>, path: Option<String>) -> Result<bool, Allo
     }
 }
 
-// Appends the folders that a value names. Answers whether it names any.
+// Appends the directories that a value names, and returns whether it names any.
 fn push_folders_in(
     alloc: Global,
     source_root: &str,
@@ -103,7 +103,7 @@ fn push_folders_in(
     }
 }
 
-// Appends the folders that values name, up to the first that names none.
+// Appends the directories that values name, up to the first value that names none.
 fn push_folders_of(
     alloc: Global,
     source_root: &str,
@@ -123,8 +123,11 @@ fn push_folders_of(
     Ok(Ok(()))
 }
 
-/// The paths of the folders that values, their lists opened, name in a definition file of a folder, the root's being empty. One that is
-/// no text or object of `include_directories`, or a text that leads out of the tree, breaks `Rule::NamesFolder`.
+/// Returns the paths of the directories that values name, in a build file of a folder, which is empty for the root. The lists in the values
+/// are already flattened.
+///
+/// `Rule::NamesFolder` is broken by a value that is neither a text nor an object of `include_directories`, and by a text that leads out of
+/// the source directory.
 pub fn folders_of(
     alloc: Global,
     source_root: &str,

@@ -1,4 +1,4 @@
-//! What placeholders stand for.
+//! Finds the values of placeholders.
 ghost use Rattle.std.specs.Prelude.{◌≡◌, IfOk, codes, option_map, string_bytes, slice_get};
 ghost use Rattle.std.specs.List.{list_all};
 ghost use Rattle.std.specs.Char.{is_ascii_digit};
@@ -13,7 +13,7 @@ use build::edge::{build_folder, source_folder, source_root};
 use std::alloc::{AllocError, Global};
 use support::paths::{base_name, plain_name};
 
-/// Where a text with placeholders stands.
+/// The place of a text with placeholders.
 #[derive(Clone, Copy)]
 pub enum Scope {
     /// In the command.
@@ -22,29 +22,29 @@ pub enum Scope {
     FileName,
 }
 
-/// What the texts of a custom target are seen from: lent, and no path is made before a text names it.
+/// The values that the placeholders of a custom target refer to, by reference. No path is made before a text needs it.
 #[derive(Clone, Copy)]
 pub struct Place<'p> {
-    /// Paths as they are seen from the build folder, as all of these.
+    /// Paths relative to the build directory, like all of these.
     pub inputs: &'p [String],
     pub outputs: &'p [String],
     pub depfile: Option<&'p str>,
-    /// The folder of the definition file, `""` for the root.
+    /// The folder of the build file, `""` for the root.
     pub folder: &'p str,
-    /// How many folders the build folder lies below the source root.
+    /// How many levels the build directory is below the source root.
     pub depth: usize,
 }
 
-/// What a name between two `@` stands for.
+/// The meaning of a name between two `@`.
 #[derive(Drop)]
 pub enum Meaning<'p> {
     /// It is no placeholder.
     Stays,
-    /// It stands for nothing here (E9).
+    /// It is a placeholder without a value in this call (E9).
     Refused,
-    /// It stands for a text that lies in the place.
+    /// It is replaced by a text that the place has.
     Lent(&'p str),
-    /// It stands for a text that is made of the place.
+    /// It is replaced by a text that is made from the place.
     Made(String),
 }
 
@@ -74,7 +74,7 @@ fn are_digits(text: &str) -> bool
     text.as_bytes().iter().all(|byte| byte.is_ascii_digit())
 }
 
-// Whether a text is digits, at least one.
+/// Returns whether a text is at least one digit and nothing else.
 pub(crate) fn is_number(text: &str) -> bool
     ensures { result ≡ is_number text.now }
 {
@@ -111,7 +111,7 @@ fn take_numbered<'p>(paths: &'p [String], digits: &str) -> Meaning<'p>
     }
 }
 
-// What stands behind a beginning.
+// Returns the text after a prefix, and `None` if the text does not begin with it.
 fn rest_after<'a>(front: &str, text: &'a str) -> Option<&'a str>
     ensures { option_map (λ s. s.now) result ≡ rest_after front.now text.now }
 {
@@ -192,7 +192,7 @@ fn base_name_of(alloc: Global, inputs: &[String]) -> Result<Meaning<'_>, AllocEr
     }
 }
 
-/// What the name between two `@` stands for.
+/// Returns the meaning of a name between two `@`.
 pub fn meaning_of<'p>(
     alloc: Global,
     scope: Scope,

@@ -1,4 +1,4 @@
-//! What the keywords of a call name, their lists opened.
+//! Reads what the keywords of a call name, with lists flattened.
 ghost use Rattle.std.specs.Prelude.{◌≡◌, IfOk, option_map};
 ghost use Rattle.arguments.specs.Arguments.{arguments_data};
 ghost use Rattle.arguments.specs.Leaves.{leaves_named};
@@ -15,7 +15,7 @@ use crate::sources::{NamedSource, sources_of};
 use arguments::{Arguments, Refused};
 use std::alloc::{AllocError, Global};
 
-/// The folders that a keyword names, as [`folders_of`] gives them.
+/// Returns the directories that a keyword names, as [`folders_of`] does.
 pub fn folders_named(
     alloc: Global,
     source_root: &str,
@@ -30,7 +30,7 @@ pub fn folders_named(
     folders_of(alloc, source_root, folder, &values)
 }
 
-/// The sources that a keyword names, as [`sources_of`] gives them.
+/// Returns the sources that a keyword names, as [`sources_of`] does.
 pub fn sources_named(
     alloc: Global,
     source_root: &str,
@@ -45,7 +45,7 @@ pub fn sources_named(
     sources_of(alloc, source_root, folder, &values)
 }
 
-/// The numbers of the build targets that a keyword names, as [`numbers_of`] gives them.
+/// Returns the numbers of the build targets that a keyword names, as [`numbers_of`] does.
 pub fn numbers_named(
     alloc: Global,
     arguments: &Arguments,

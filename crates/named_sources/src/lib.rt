@@ -1,6 +1,9 @@
-//! What the arguments of a call that declares a target name: sources, folders, libraries, a version, and outputs of the targets so far; and
-//! what the placeholders in the texts of a custom target stand for, as `@INPUT@` and `@BASENAME@` (the Reference manual's `custom_target`).
-//! Nothing is asked of the tree here. What a project takes from outside and gives away is of [`resources`].
+//! Reads what the arguments of a call that declares a target name: sources, directories, libraries, a version, and outputs of the targets
+//! so far.
+//!
+//! It also fills the placeholders in the texts of a custom target, such as `@INPUT@` and `@BASENAME@` (see `custom_target` on the page
+//! "Reference manual"). Nothing here reads the file tree. The module [`resources`] has what a project takes from outside and what it
+//! provides.
 #![tactic(auto)]
 
 mod file_values;

@@ -1,4 +1,4 @@
-//! The build targets that `link_with` names.
+//! Finds the build targets that `link_with` names.
 ghost use Rattle.std.specs.Prelude.{◌≡◌, IfOk, map, option_map};
 ghost use Rattle.values.specs.Prelude.{data_of};
 ghost use Rattle.named_sources.specs.Libraries.{build_target_in, numbers_of, of_object};
@@ -24,7 +24,8 @@ fn build_target_in(value: &Value) -> Option<usize>
     }
 }
 
-/// The numbers of the build targets that values, their lists opened, are, in order. None where one of them is none.
+/// Returns the numbers of the build targets of all values, in order, and `None` if one is no build target. The lists in the values are
+/// already flattened.
 pub fn numbers_of(alloc: Global, values: &[&Value]) -> Result<Option<Vec<usize>>, AllocError>
     ensures { IfOk result (λ ns. option_map (λ v. v.items) ns ≡ numbers_of (map (λ v. data_of v.now) values.now)) }
 {

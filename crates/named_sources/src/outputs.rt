@@ -1,4 +1,4 @@
-//! The outputs of the targets so far.
+//! Looks up the outputs of the targets so far.
 ghost use Rattle.std.specs.Prelude.{◌≡◌, option_map};
 ghost use Rattle.build.specs.edge.Texts.{texts};
 ghost use Rattle.named_sources.specs.Outputs.{output_at, outputs_at};
@@ -6,7 +6,7 @@ ghost use Rattle.build.specs.LinkedViews.{linked_views};
 
 use build::Linked;
 
-/// The outputs of the target with a number.
+/// Returns the outputs of the target with a number, and `None` if there is no such target.
 pub fn outputs_at(earlier: &[Linked], number: usize) -> Option<&[String]>
     ensures { option_map (λ ps. texts ps.now) result ≡ outputs_at (linked_views earlier.now) number }
 {
@@ -16,7 +16,7 @@ pub fn outputs_at(earlier: &[Linked], number: usize) -> Option<&[String]>
     }
 }
 
-/// The output at a place of the target with a number.
+/// Returns the output at an index of the target with a number, and `None` if there is none.
 pub fn output_at(earlier: &[Linked], number: usize, place: usize) -> Option<&str>
     ensures { option_map (λ p. p.now) result ≡ output_at (linked_views earlier.now) number place }
 {

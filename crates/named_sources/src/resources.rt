@@ -1,17 +1,17 @@
-//! What a project takes from outside and gives away: dependencies, programs, installed files and tests, as the page "Reference manual"
-//! has them.
+//! Handles what a project takes from outside and what it provides: dependencies, programs, installed files and tests, as on the page
+//! "Reference manual".
 //!
-//! These are the parts that look at nothing but their arguments and the machine file. What they make is made of `values`, and a refusal is
-//! one of `values` too, so that the function of the language which calls them refuses at its own place.
+//! These parts read only their arguments and the machine file. They make values of the crate `values`, and return its refusals, so the
+//! function of the language that calls them refuses at its own place.
 //!
 //! # Decisions
 //!
-//! **A dependency that grows is measured before it grows further.** `declare_dependency` may name others many times, each with up to
-//! 65,536 items. So [`join`] asks for the limit before each of them is put behind the rest, and no list is longer than two such; what is
-//! too long stays too long, so the refusal is that of the whole.
+//! **A growing dependency is measured before it grows further.** `declare_dependency` may name others many times, each with up to 65,536
+//! items. So [`join`] checks the limit before it appends each of them, and no list is longer than two such lists. What is too long stays
+//! too long, so the refusal is that of the whole.
 //!
-//! **A folder of headers that is not given is an empty one.** `subdir` of `install_headers` that is not given, or empty, leaves a slash
-//! behind `includedir`, which the path of the file doesn't show.
+//! **A missing directory of headers is an empty one.** If `subdir` of `install_headers` is missing or empty, `includedir` gets a slash at
+//! its end, which does not show in the path of the file.
 
 mod beside;
 mod fitting;

@@ -1,4 +1,4 @@
-//! The sources that a call names.
+//! Finds the sources that a call names.
 ghost use Rattle.std.specs.Prelude.{◌≡◌, ◌++◌, IfOk, None, codes, nat_eq, map, option_map, if◌then◌else◌};
 ghost use Rattle.std.specs.List.{ends_with};
 ghost use Rattle.arguments.specs.Each.{each_said};
@@ -19,13 +19,13 @@ use values::{Object, Text, Value};
 /// A source as a call names it.
 #[derive(Drop)]
 pub enum NamedSource {
-    /// A file of the tree, by its path there.
+    /// A file in the source directory, by its path there.
     Tree(String),
-    /// A file that is built while the definition files are read, by its path in the build folder.
+    /// A file that is made while the build files are evaluated, by its path in the build directory.
     Built(Text),
     /// All outputs of the custom target with this number.
     Outputs(usize),
-    /// One of them.
+    /// One output of a custom target.
     Output { target: usize, place: usize },
 }
 
@@ -49,7 +49,7 @@ fn of_object(alloc: Global, object: &Object) -> Result<Option<NamedSource>, Allo
     }
 }
 
-// Whether a text ends so.
+// Returns whether a text ends with another.
 #[tactic(auto, using(std::proofs::lemmas::Str::Pattern::ends_text))]
 fn ends_with(text: &str, end: &str) -> bool
     ensures { result ≡ ends_with nat_eq text.now end.now }
@@ -57,7 +57,7 @@ fn ends_with(text: &str, end: &str) -> bool
     text.ends_with(end)
 }
 
-// Whether a text ends so, of which the first byte is a slash, or is what stands behind that.
+// Returns whether `part` is the whole text, or its last part after a slash. `end` is a slash followed by `part`.
 fn ends_in(text: &str, part: &str, end: &str) -> bool
     requires { end.now ≡ codes "/" ++ part.now }
     ensures { result ≡ ends_in text.now part.now }
@@ -65,7 +65,7 @@ fn ends_in(text: &str, part: &str, end: &str) -> bool
     text == part || ends_with(text, end)
 }
 
-// Whether the last part of a text is a name.
+// Returns whether the last part of a text is a name.
 fn ends_in_name(text: &str) -> bool
     ensures { result ≡ ends_in_name text.now }
 {
@@ -90,7 +90,7 @@ fn of_text(
     }
 }
 
-// The source that a value names.
+// Returns the source that a value names, and `None` if it names none.
 fn source_of(
     alloc: Global,
     source_root: &str,
@@ -106,7 +106,7 @@ fn source_of(
     }
 }
 
-// Appends the sources that values name, up to the first that names none.
+// Appends the sources that values name, up to the first value that names none.
 fn push_sources(
     alloc: Global,
     source_root: &str,
@@ -127,8 +127,10 @@ fn push_sources(
     Ok(Ok(()))
 }
 
-/// The sources that values, their lists opened, name in a definition file of a folder, in order. One that is no text, file, custom target
-/// or output of one, or a text that names no file of the tree, breaks `Rule::NamesFile`.
+/// Returns the sources that values name, in order, in a build file of a folder. The lists in the values are already flattened.
+///
+/// `Rule::NamesFile` is broken by a value that is no text, file, custom target or output of one, and by a text that names no file in the
+/// source directory.
 pub fn sources_of(
     alloc: Global,
     source_root: &str,

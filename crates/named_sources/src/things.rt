@@ -1,4 +1,4 @@
-//! What objects name that may stand in a command.
+//! Finds objects that may be in a command.
 ghost use Rattle.std.specs.Prelude.{◌≡◌, option_map};
 ghost use Rattle.build.specs.LinkedViews.{linked_views};
 ghost use Rattle.named_sources.specs.Things.{thing_of};
@@ -8,22 +8,22 @@ use crate::outputs::{output_at, outputs_at};
 use build::{BuildTarget, Linked, build_target_at};
 use values::{Object, Program};
 
-/// What may stand in a command: a program, a file, a target or outputs of one.
+/// A thing that may be in a command: a program, a file, a target or outputs of one.
 #[derive(Clone, Copy)]
 pub enum Thing<'t> {
     Program(&'t Program),
-    /// A file of the source tree, or one that is built, by its path.
+    /// A file in the source directory, or one that is built, by its path.
     File { path: &'t str, is_built: bool },
     /// An executable or a library.
     Target(&'t BuildTarget),
     /// All outputs of a custom target, by their paths.
     Outputs(&'t [String]),
-    /// One of them.
+    /// One output of a custom target, by its path.
     Output(&'t str),
 }
 
-/// What an object names of the targets so far and of what is there without them. None where it is of another kind, or no target has its
-/// number.
+/// Returns the thing that an object refers to, given the targets so far. Returns `None` if the object has another type, or if no target has
+/// its number.
 pub fn thing_of<'t>(earlier: &'t [Linked], object: &'t Object) -> Option<Thing<'t>>
     ensures { option_map thing_view result ≡ thing_of (linked_views earlier.now) object.now }
 {

@@ -1,4 +1,4 @@
-//! What is said of a value that names nothing.
+//! Refuses values that name nothing.
 ghost use Rattle.std.specs.Prelude.{◌≡◌, IfOk};
 ghost use Rattle.arguments.specs.Refused.{breaks, refused_data};
 ghost use Rattle.values.specs.Prelude.{data_of};
@@ -17,7 +17,7 @@ fn text_said(value: &Value) -> &str
     }
 }
 
-/// The refusal of a value that breaks a rule, as a text; of another value the text is empty.
+/// Returns the refusal of a value that breaks a rule, with its text as detail. For a value of another type the detail is empty.
 pub(crate) fn refuse_unnamed(
     alloc: Global,
     rule: Rule,

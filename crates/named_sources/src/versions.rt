@@ -1,4 +1,4 @@
-//! The keyword `version` of a shared library.
+//! Checks the keyword `version` of a shared library.
 ghost use Rattle.std.specs.Prelude.{◌≡◌, IfOk, map, ◌==◌};
 ghost use Rattle.std.specs.List.{list_all, slice_split};
 ghost use Rattle.named_sources.specs.Versions.{are_numbers, is_library_version, is_number};
@@ -29,7 +29,7 @@ fn parts_of<'a>(alloc: Global, text: &'a str) -> Result<Vec<&'a str>, AllocError
     text.split('.').collect(alloc)
 }
 
-/// Whether a text is one to three numbers with dots between them.
+/// Returns whether a text is one to three numbers separated by dots.
 pub fn is_library_version(alloc: Global, text: &str) -> Result<bool, AllocError>
     ensures { IfOk result (λ is_so. is_so ≡ is_library_version text.now) }
 {

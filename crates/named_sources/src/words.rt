@@ -1,4 +1,4 @@
-//! Words of a command.
+//! Makes the arguments of a command.
 ghost use Rattle.std.specs.Prelude.{◌≡◌, ◌++◌, IfOk, None, Some, option_map, string_bytes, if◌then◌else◌};
 ghost use Rattle.build.specs.edge.Texts.{texts};
 ghost use Rattle.named_sources.specs.Holes.{some_of, one_word, words_of};
@@ -9,7 +9,7 @@ use crate::holes::{Place, Scope};
 use build::edge::push_copies;
 use std::alloc::{AllocError, Global};
 
-// Appends all of the paths, where there are some.
+// Appends all paths, and returns whether there are any.
 fn push_some(words: &mut Vec<String>, paths: &[String]) -> Result<bool, AllocError>
     ensures { IfOk result (λ done. (if done then Some (texts words.new.items) else None)
         ≡ option_map (λ ws. texts words.old.items ++ ws) (some_of (texts paths.now))) }
@@ -36,8 +36,10 @@ fn push_word(words: &mut Vec<String>, word: Option<String>) -> Result<bool, Allo
     }
 }
 
-/// Appends the words of a text of the command: all inputs or outputs where it is `@INPUT@` or `@OUTPUT@` alone, else itself with the values
-/// of its placeholders. Answers whether each placeholder stands for something here; else the call is refused (E9).
+/// Appends the arguments for a text of the command: all inputs or outputs if it is `@INPUT@` or `@OUTPUT@` alone, and otherwise the text
+/// with its placeholders replaced.
+///
+/// Returns whether each placeholder has a value in this call; otherwise the call is refused (E9).
 pub fn push_words(
     words: &mut Vec<String>,
     alloc: Global,

@@ -1,4 +1,4 @@
--- Texts as bytes: whether two are the same, and whether one is in a list.
+-- Compares texts as bytes, and looks them up in lists.
 use Rattle.std.specs.Prelude.{ℕ, Bool, bytes_eq, true, false, ◌==◌, ◌||◌, ◌&&◌, List, [], ◌∷◌}
 
 abbrev pub same_bytes : List ℕ → List ℕ → Bool

@@ -1,14 +1,17 @@
--- The words of a command, as a POSIX shell reads them.
+-- Defines the words of a command, as a POSIX shell reads them.
 use Rattle.std.specs.Prelude.{ℕ, Bool, cond, ◌==◌, ◌||◌, List, [], ◌∷◌, ◌++◌, Option, Some, None}
 use Rattle.ninja.specs.Machine.{Machine, output_from}
 use Rattle.ninja.specs.Posix.{is_literal, is_no_command_name}
 use Rattle.ninja.specs.Reading.{◌>>=◌}
 
+-- A part of a command: a word, or the sign `>`.
 pub data ShellToken : Type 0 where
-  -- the bytes that stand outside quotes, and all
+  -- A word: its bytes outside quotes, and all of its bytes.
   Word : (bare text : List ℕ) → ShellToken
   Redirect : ShellToken
 
+-- The state of a shell that reads a command: between words, in a word and its quotes, or after a `>`. `Unread` is a text that no command
+-- has.
 pub data Quoting : Type 0 where
   BetweenWords : Quoting
   Bare : (bare text : List ℕ) → Quoting
@@ -17,15 +20,17 @@ pub data Quoting : Type 0 where
   Arrow : Quoting
   Unread : Quoting
 
--- `"`, `$`, the backquote, the backslash
+-- Returns whether the byte has a meaning in double quotes: `$`, the backquote, the backslash.
 abbrev pub is_special_in_double : ℕ → Bool
 is_special_in_double b = (b == 36) || ((b == 96) || (b == 92))
 
+-- Returns the state after a byte between words.
 abbrev pub next_between : ℕ → Quoting
 next_between b = cond (b == 32) BetweenWords
     (cond (b == 39) (Single [] []) (cond (b == 34) (Double [] [])
     (cond (b == 62) Arrow (cond (is_literal b) (Bare (b ∷ []) (b ∷ [])) Unread))))
 
+-- Returns the state after a byte.
 abbrev pub next_quoting : Quoting → ℕ → Quoting
 next_quoting BetweenWords b = next_between b
 next_quoting (Bare bare text) b = cond (b == 32) BetweenWords
@@ -36,6 +41,7 @@ next_quoting (Double bare text) b = cond (b == 34) (Bare bare text) (cond (is_sp
 next_quoting Arrow b = cond (b == 32) BetweenWords Unread
 next_quoting Unread b = Unread
 
+-- Returns the tokens that a byte completes.
 abbrev pub words_given : Quoting → ℕ → List ShellToken
 words_given BetweenWords b = []
 words_given (Bare bare text) b = cond (b == 32) (Word bare text ∷ []) []
@@ -44,6 +50,7 @@ words_given (Double bare text) b = []
 words_given Arrow b = cond (b == 32) (Redirect ∷ []) []
 words_given Unread b = []
 
+-- Returns the token that the end of the text completes, or `None` if no command ends here.
 abbrev pub words_at_end : Quoting → Option (List ShellToken)
 words_at_end BetweenWords = Some []
 words_at_end (Bare bare text) = Some (Word bare text ∷ [])
@@ -52,29 +59,33 @@ words_at_end (Double bare text) = None
 words_at_end Arrow = None
 words_at_end Unread = None
 
+-- Reads the bytes of a command as tokens.
 abbrev pub shell : Machine Quoting ℕ ShellToken
 shell = record { next = next_quoting; gives = words_given; ends = words_at_end }
 
+-- The words of a command, and the file that receives its output.
 pub record Command : Type 0 where
   pub words : List (List ℕ)
   pub redirect : Option (List ℕ)
 
+-- Returns the command with a word before its own.
 abbrev pub with_word : List ℕ → Option Command → Option Command
 with_word word (Some c) = Some (record { words = word ∷ c.words; redirect = c.redirect })
 with_word word None = None
 
--- words, and behind a `>` one more
+-- Returns the command of these tokens: words, optionally followed by `>` and one more.
 abbrev pub command_of : List ShellToken → Option Command
 command_of [] = Some (record { words = []; redirect = None })
 command_of (Word bare text ∷ ts) = with_word text (command_of ts)
 command_of (Redirect ∷ Word bare text ∷ []) = Some (record { words = []; redirect = Some text })
 command_of (Redirect ∷ _) = None
 
+-- Returns the command of these tokens, if the first word may be the name of a command.
 abbrev pub command_from : List ShellToken → Option Command
 command_from [] = None
 command_from (Word bare text ∷ ts) = cond (is_no_command_name bare) None (command_of (Word bare text ∷ ts))
 command_from (Redirect ∷ ts) = None
 
--- the command that a text is
+-- Returns the command that a text spells, if it spells one.
 abbrev pub shell_command : List ℕ → Option Command
 shell_command text = output_from shell BetweenWords text >>= command_from

@@ -1,25 +1,28 @@
--- How Ninja's text has paths and values: with a `$` before what would end them or be read otherwise.
+-- Defines how Ninja's text escapes paths and values, with a `$` before what would end them or have another meaning.
 use Rattle.std.specs.Prelude.{ℕ, Bool, false, cond, ◌==◌, ◌||◌, List, [], ◌∷◌, ◌++◌}
 use Rattle.std.specs.List.{flat_map}
 
 -- ---- paths
 
--- a dollar sign, a space, a colon
+-- Returns whether the byte is a dollar sign, a space or a colon.
 abbrev pub wants_dollar : ℕ → Bool
 wants_dollar b = (b == 36) || ((b == 32) || (b == 58))
 
+-- Returns a byte of a path, after a `$` if it needs one.
 abbrev pub path_byte_text : ℕ → List ℕ
 path_byte_text b = cond (wants_dollar b) (36 ∷ b ∷ []) (b ∷ [])
 
+-- Returns the text of a path.
 abbrev pub path_text : List ℕ → List ℕ
 path_text bytes = flat_map path_byte_text bytes
 
 -- ---- values
 
--- a dollar sign is doubled
+-- Doubles a dollar sign.
 abbrev pub value_byte_text : ℕ → List ℕ
 value_byte_text b = cond (b == 36) (36 ∷ 36 ∷ []) (b ∷ [])
 
+-- Returns a value with its dollar signs doubled.
 abbrev pub value_rest_text : List ℕ → List ℕ
 value_rest_text bytes = flat_map value_byte_text bytes
 
@@ -27,9 +30,10 @@ abbrev pub starts_with_space : List ℕ → Bool
 starts_with_space [] = false
 starts_with_space (b ∷ bs) = b == 32
 
--- a space in front would be dropped, so it gets a dollar sign
+-- Returns the dollar sign before a leading space, which Ninja would drop otherwise.
 abbrev pub leading_dollar : List ℕ → List ℕ
 leading_dollar bytes = cond (starts_with_space bytes) (36 ∷ []) []
 
+-- Returns the text of a value.
 unfoldable pub value_text : List ℕ → List ℕ
 value_text bytes = leading_dollar bytes ++ value_rest_text bytes

@@ -1,4 +1,4 @@
--- The text of edges in parts.
+-- Defines the text of edges in parts.
 use Rattle.std.specs.Prelude.{ℕ, List, ◌++◌, Option, Some, None, codes}
 use Rattle.build.specs.edge.Data.{EdgeData}
 use Rattle.build.specs.edge.Parts.{OwnData}
@@ -7,12 +7,12 @@ use Rattle.ninja.specs.Escapes.{value_rest_text, value_text}
 use Rattle.ninja.specs.Words.{later_words_text, words_text}
 use Rattle.ninja.specs.Writing.{rule_text, signed_paths_text, spaced_path_text}
 
--- the line of the depfile, if there is one, and the end
+-- Returns the line of the depfile, if there is one, and the end.
 abbrev pub end_text : Option (List ℕ) → List ℕ
 end_text None = codes "\n"
 end_text (Some path) = codes " DEPFILE = " ++ (value_text path ++ codes "\n\n")
 
--- the lines behind the first one
+-- Returns the lines after the first one.
 abbrev pub bindings_text : EdgeData → List ℕ
 bindings_text e =
     codes "\n COMMAND = "
@@ -21,17 +21,17 @@ bindings_text e =
 
 -- ---- edges that share parts
 
--- what they share: the paths that are only made before, and the first words of the command
+-- Returns the text that edges share: their order-only paths, and the first words of the command.
 abbrev pub shared_text : (order_only words : List (List ℕ)) → List ℕ
 shared_text order_only words =
     signed_paths_text (codes " ||") order_only ++ (codes "\n COMMAND = " ++ value_text (words_text words None))
 
--- what stands before that
+-- Returns the text before it.
 abbrev pub own_build_text : Rule → OwnData → List ℕ
 own_build_text rule own =
     codes "build" ++ (spaced_path_text own.output ++ (codes ": " ++ (rule_text rule ++ spaced_path_text own.input)))
 
--- and behind it
+-- Returns the text after it.
 abbrev pub own_bindings_text : OwnData → List ℕ
 own_bindings_text own =
     value_rest_text (later_words_text own.words)

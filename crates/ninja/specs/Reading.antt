@@ -1,4 +1,4 @@
--- What a Ninja file says, by the Ninja manual.
+-- Defines what a Ninja file says, by the Ninja manual (“Ninja file reference”).
 use Rattle.std.specs.Prelude.{ℕ, zero, suc, Bool, true, false, cond, ◌||◌, ◌&&◌, List, [], ◌∷◌, ◌++◌, length, codes, unwrap_or}
 use Rattle.std.specs.Prelude.{Option, Some, None}
 use Rattle.ninja.specs.Pieces.{Piece, Plain, Escaped, Variable, Scope, pieces_of, expansion}
@@ -13,6 +13,7 @@ None >>= f = None
 
 -- ---- a build line
 
+-- A `build` line, whose paths are not expanded yet.
 pub record BuildLine : Type 0 where
   pub outputs : List (List Piece)
   pub implicit_outputs : List (List Piece)
@@ -21,18 +22,19 @@ pub record BuildLine : Type 0 where
   pub implicit : List (List Piece)
   pub order_only : List (List Piece)
 
+-- Returns paths with a token before them, if that is a path.
 abbrev pub paths_step : Token → List Token → List (List Piece) × List Token → List (List Piece) × List Token
 paths_step (Path p) ts found = (p ∷ found.0, found.1)
 paths_step Colon ts found = ([], Colon ∷ ts)
 paths_step Bar ts found = ([], Bar ∷ ts)
 paths_step Bars ts found = ([], Bars ∷ ts)
 
--- the paths at the front, and what follows them
+-- Returns the paths at the front, and what follows them.
 abbrev pub paths_at : List Token → List (List Piece) × List Token
 paths_at [] = ([], [])
 paths_at (t ∷ ts) = paths_step t ts (paths_at ts)
 
--- the paths behind one bar, where it stands, and what follows them
+-- Returns the paths after one bar, if there is one, and what follows them.
 abbrev pub paths_behind_bar : List Token → List (List Piece) × List Token
 paths_behind_bar [] = ([], [])
 paths_behind_bar (Path p ∷ ts) = ([], Path p ∷ ts)
@@ -40,6 +42,7 @@ paths_behind_bar (Colon ∷ ts) = ([], Colon ∷ ts)
 paths_behind_bar (Bar ∷ ts) = paths_at ts
 paths_behind_bar (Bars ∷ ts) = ([], Bars ∷ ts)
 
+-- Returns the paths after two bars, if there are any, and what follows them.
 abbrev pub paths_behind_bars : List Token → List (List Piece) × List Token
 paths_behind_bars [] = ([], [])
 paths_behind_bars (Path p ∷ ts) = ([], Path p ∷ ts)
@@ -47,15 +50,17 @@ paths_behind_bars (Colon ∷ ts) = ([], Colon ∷ ts)
 paths_behind_bars (Bar ∷ ts) = ([], Bar ∷ ts)
 paths_behind_bars (Bars ∷ ts) = paths_at ts
 
+-- Returns the name of the rule after a colon, and what follows it.
 abbrev pub rule_behind_colon : List Token → Option (List ℕ × List Token)
 rule_behind_colon (Colon ∷ Path rule ∷ ts) = plain_name rule >>= λ name. Some (name, ts)
 rule_behind_colon _ = None
 
+-- Returns x if no token is left.
 abbrev pub at_end : {A : Type 0} → List Token → A → Option A
 at_end [] x = Some x
 at_end (t ∷ ts) x = None
 
--- where there is a path
+-- Returns x if there is a path.
 abbrev pub with_path : {A : Type 0} → List (List Piece) → Option A → Option A
 with_path [] x = None
 with_path (p ∷ ps) x = x
@@ -78,11 +83,13 @@ build_line ts =
       order_only = orders.0;
     }))
 
+-- Returns the paths of a `default` line.
 abbrev pub default_line : List Token → Option (List (List Piece))
 default_line ts = let paths = paths_at ts in with_path paths.0 (at_end paths.1 paths.0)
 
 -- ---- one line
 
+-- What a line says. A `Let` gives a name a value, and is indented in a block.
 pub data Statement : Type 0 where
   Empty : Statement
   Let : (indented : Bool) (name : List ℕ) (value : List Piece) → Statement
@@ -90,22 +97,25 @@ pub data Statement : Type 0 where
   BuildHead : (line : BuildLine) → Statement
   Default : (paths : List (List Piece)) → Statement
 
--- `= value`, behind a name
+-- Returns the statement of `= value` after a name.
 abbrev pub let_behind : Bool → List ℕ → List Piece → Option Statement
 let_behind indented name [] = None
 let_behind indented name (p ∷ ps) =
     cond (is_plain 61 p && is_name name) (Some (Let indented name (without_blanks ps))) None
 
+-- Returns the statement that gives a name a value.
 abbrev pub let_of : Bool → List ℕ × List Piece → Option Statement
 let_of indented found = let_behind indented found.0 (without_blanks found.1)
 
+-- Returns the statement of a `rule` line.
 abbrev pub rule_line : List Piece → Option Statement
 rule_line ps = plain_name ps >>= λ name. Some (RuleHead name)
 
+-- Returns the tokens after a word, which a space must follow.
 abbrev pub tokens_behind : List Piece → Option (List Token)
 tokens_behind ps = cond (begins_blank ps) (tokens_of ps) None
 
--- a line that begins with a name
+-- Returns the statement of a line that begins with a name.
 abbrev pub named_statement : List ℕ × List Piece → Option Statement
 named_statement found =
     elim (same_bytes found.0 (codes "build")) [
@@ -119,20 +129,24 @@ named_statement found =
       ]
     ]
 
+-- Returns the statement of an indented line.
 abbrev pub indented_statement : List Piece → Option Statement
 indented_statement [] = Some Empty
 indented_statement (p ∷ ps) = let_of true (name_at (p ∷ ps))
 
+-- Returns the statement of a line, if it is one.
 abbrev pub statement_of : List Piece → Option Statement
 statement_of [] = Some Empty
 statement_of (p ∷ ps) = elim (is_plain 32 p) [ true ↦ indented_statement (without_blanks ps) | false ↦ named_statement (name_at (p ∷ ps)) ]
 
 -- ---- the file
 
+-- A rule, and the values of its variables, which are not expanded yet.
 pub record Rule : Type 0 where
   pub name : List ℕ
   pub bindings : List (List ℕ × List Piece)
 
+-- An edge: its paths, its rule, and the values of its own variables.
 pub record BuildEdge : Type 0 where
   pub outputs : List (List ℕ)
   pub implicit_outputs : List (List ℕ)
@@ -142,23 +156,25 @@ pub record BuildEdge : Type 0 where
   pub order_only : List (List ℕ)
   pub bindings : List (List ℕ × List ℕ)
 
+-- What a Ninja file says: variables, rules, edges and the targets that are made by default.
 pub record Manifest : Type 0 where
   pub variables : List (List ℕ × List ℕ)
   pub rules : List Rule
   pub edges : List BuildEdge
   pub defaults : List (List ℕ)
 
--- the block that indented lines belong to
+-- The block to which indented lines belong.
 pub data Block : Type 0 where
   NoBlock : Block
   RuleBlock : (rule : Rule) → Block
   EdgeBlock : (line : BuildLine) (bindings : List (List ℕ × List ℕ)) → Block
 
+-- What was read, and the block that is open.
 pub record State : Type 0 where
   pub read : Manifest
   pub block : Block
 
--- the last value given to a name
+-- Returns the last value given to a name.
 abbrev pub value_in : {V : Type 0} → List (List ℕ × V) → List ℕ → Option V
 value_in [] name = None
 value_in (b ∷ bs) name = later (value_in bs name) (same_bytes b.0 name) b.1
@@ -168,17 +184,20 @@ value_in (b ∷ bs) name = later (value_in bs name) (same_bytes b.0 name) b.1
     later None true here = Some here
     later None false here = None
 
+-- Looks a name up in the file. A name without a value is empty.
 abbrev pub file_scope : Manifest → Scope
 file_scope m name = unwrap_or (value_in m.variables name) []
 
--- in a block of a `build` line: its own values, then the file's
+-- Looks a name up in the block of a `build` line: first its own values, then the file's.
 abbrev pub block_scope : Manifest → List (List ℕ × List ℕ) → Scope
 block_scope m bindings name = unwrap_or (value_in bindings name) (file_scope m name)
 
+-- Returns the texts of these pieces.
 abbrev pub expansions : Scope → List (List Piece) → List (List ℕ)
 expansions scope [] = []
 expansions scope (p ∷ ps) = expansion scope p ∷ expansions scope ps
 
+-- Returns the edge of a `build` line, with its paths expanded.
 abbrev pub edge_of : Scope → BuildLine → List (List ℕ × List ℕ) → BuildEdge
 edge_of scope line bindings = record {
   outputs = expansions scope line.outputs;
@@ -190,18 +209,19 @@ edge_of scope line bindings = record {
   bindings = bindings;
 }
 
--- behind a block. The paths of a `build` line are expanded where all of its block is read.
+-- Returns what is read after a block. The paths of a `build` line are expanded once its whole block is read.
 abbrev pub closed : Manifest → Block → Manifest
 closed m NoBlock = m
 closed m (RuleBlock rule) = record m { rules = m.rules ++ rule ∷ [] }
 closed m (EdgeBlock line bindings) = record m { edges = m.edges ++ edge_of (block_scope m bindings) line bindings ∷ [] }
 
--- a block's value is expanded at once, by what stands outside the block; a rule's where it is used
+-- Binds a value in a block. A value of a `build` line is expanded at once, in the scope outside the block, and a rule's when it is used.
 abbrev pub bound : Scope → List ℕ → List Piece → Block → Option Block
 bound scope name value NoBlock = None
 bound scope name value (RuleBlock rule) = Some (RuleBlock (record rule { bindings = rule.bindings ++ (name, value) ∷ [] }))
 bound scope name value (EdgeBlock line bindings) = Some (EdgeBlock line (bindings ++ (name, expansion scope value) ∷ []))
 
+-- Returns the state after a statement, or `None` if it is not allowed here.
 abbrev pub after_statement : State → Statement → Option State
 after_statement s Empty = Some (record { read = closed s.read s.block; block = NoBlock })
 after_statement s (Let true name value) = bound (file_scope s.read) name value s.block >>= λ b. Some (record { read = s.read; block = b })
@@ -220,50 +240,58 @@ after_statement s (Default paths) =
     let m = closed s.read s.block in
     Some (record { read = record m { defaults = m.defaults ++ expansions (file_scope m) paths }; block = NoBlock })
 
--- reading goes on from a state
+-- Reads further lines from a state.
 abbrev pub after_lines : State → List (List Piece) → Option State
 after_lines s [] = Some s
 after_lines s (line ∷ lines) = statement_of line >>= λ statement. after_statement s statement >>= λ t. after_lines t lines
 
+-- Reads further text from a state.
 abbrev pub reads_from : State → List ℕ → Option State
 reads_from s text = pieces_of text >>= λ ps. after_lines s (lines_of ps)
 
+-- Returns what an empty file says.
 abbrev pub nothing_read : Manifest
 nothing_read = record { variables = []; rules = []; edges = []; defaults = [] }
 
--- what a Ninja file says
+-- Returns what a Ninja file says.
 abbrev pub manifest_of : List ℕ → Option Manifest
 manifest_of text = reads_from (record { read = nothing_read; block = NoBlock }) text >>= λ s. Some (closed s.read s.block)
 
--- ---- what a rule's variable stands for at an edge
+-- ---- the value of a rule's variable for an edge
 
+-- Returns the first rule with this name.
 abbrev pub rule_named : List Rule → List ℕ → Option Rule
 rule_named [] name = None
 rule_named (r ∷ rs) name = cond (same_bytes r.name name) (Some r) (rule_named rs name)
 
+-- Returns a text with another before it, if there is one.
 abbrev pub put_before : List ℕ → Option (List ℕ) → Option (List ℕ)
 put_before front (Some rest) = Some (front ++ rest)
 put_before front None = None
 
+-- Returns the text of a piece, in a scope that may lack values.
 abbrev pub piece_used : (List ℕ → Option (List ℕ)) → Piece → Option (List ℕ)
 piece_used scope (Plain b) = Some (b ∷ [])
 piece_used scope (Escaped b) = Some (b ∷ [])
 piece_used scope (Variable name) = scope name
 
+-- Returns the text of pieces, in a scope that may lack values.
 abbrev pub used : (List ℕ → Option (List ℕ)) → List Piece → Option (List ℕ)
 used scope [] = Some []
 used scope (p ∷ ps) = piece_used scope p >>= λ front. put_before front (used scope ps)
 
+-- Returns the value of a rule's variable, expanded, or else the other value.
 abbrev pub rule_value : (List Piece → Option (List ℕ)) → Option (List Piece) → List ℕ → Option (List ℕ)
 rule_value expanded (Some pieces) other = expanded pieces
 rule_value expanded None other = Some other
 
+-- Returns the first value if there is one, and else the other.
 abbrev pub first_value : Option (List ℕ) → Option (List ℕ) → Option (List ℕ)
 first_value (Some v) other = Some v
 first_value None other = other
 
--- `$in` and `$out` aren't read here. Then come the edge's own values, the rule's, whose variables are
--- looked up again, at most so many times inside one another, and the file's.
+-- Looks a variable up: first in the edge's own values, then in the rule's, whose variables are looked up again, then in the file's. `depth`
+-- limits the nesting. `$in` and `$out` are not read here.
 abbrev pub value_at : ℕ → Manifest → Rule → BuildEdge → List ℕ → Option (List ℕ)
 value_at zero m rule edge name = None
 value_at (suc depth) m rule edge name =
@@ -273,6 +301,6 @@ value_at (suc depth) m rule edge name =
           (rule_value (used (value_at depth m rule edge)) (value_in rule.bindings name) (file_scope m name))
     ]
 
--- what a variable of the edge's rule stands for at the edge
+-- Returns the value of a variable of the edge's rule for the edge.
 abbrev pub value_of : Manifest → BuildEdge → List ℕ → Option (List ℕ)
 value_of m edge name = rule_named m.rules edge.rule >>= λ rule. value_at (suc (length rule.bindings)) m rule edge name

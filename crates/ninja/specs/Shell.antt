@@ -1,21 +1,23 @@
--- Which words are written without quotes.
+-- Defines which words are written without quotes.
 use Rattle.std.specs.Prelude.{ℕ, Bool, ◌==◌, nat_le, ◌||◌, ◌&&◌, List, [], ◌∷◌, codes}
 use Rattle.std.specs.List.{list_any}
 use Rattle.ninja.specs.Bytes.{is_one_of}
 
--- `A-Z a-z 0-9 _ @ % + = : , . / -`
+-- Returns whether the byte is one of `A-Z a-z 0-9 _ @ % + = : , . / -`.
 abbrev pub is_bare_byte : ℕ → Bool
 is_bare_byte b = (nat_le 97 b && nat_le b 122)
     || ((nat_le 65 b && nat_le b 90)
     || ((nat_le 45 b && nat_le b 58) || ((b == 95) || ((b == 64) || ((b == 37) || ((b == 43) || ((b == 61) || (b == 44))))))))
 
+-- Returns whether a word has an equals sign.
 abbrev pub has_equals : List ℕ → Bool
 has_equals bytes = list_any (λ b. b == 61) bytes
 
+-- Returns whether a word of letters is a reserved word of the shell.
 abbrev pub is_reserved : List ℕ → Bool
 is_reserved word = is_one_of (codes "case" ∷ codes "do" ∷ codes "done" ∷ codes "elif" ∷ codes "else" ∷ codes "esac" ∷ codes "fi"
     ∷ codes "for" ∷ codes "if" ∷ codes "in" ∷ codes "then" ∷ codes "until" ∷ codes "while" ∷ []) word
 
--- as the first word it gets quotes, since a shell would read no word of the command: an assignment, or a word of its own language
+-- Returns whether the word needs quotes as the first word, because a shell would read it as an assignment or as a reserved word.
 abbrev pub is_no_first_word : List ℕ → Bool
 is_no_first_word bare = has_equals bare || is_reserved bare

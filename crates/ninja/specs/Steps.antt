@@ -1,4 +1,4 @@
--- How the text of an edge is put: one piece after another.
+-- Defines how the text of an edge is put, one piece after another.
 use Rattle.std.specs.Prelude.{ℕ, List, [], ◌∷◌, ◌++◌, Option, Some, None, String, codes, flat_map, map, option_map, string_bytes}
 use Rattle.std.specs.declared.alloc.Global.{Global}
 use denote.Ref.{Bor}
@@ -56,7 +56,7 @@ build_steps e =
     ++ (paths_steps e.inputs.now
     ++ (signed_paths_steps (codes " |") e.implicit.now ++ signed_paths_steps (codes " ||") e.order_only.now)))))
 
--- ---- what belongs to it
+-- ---- its bindings
 
 abbrev pub end_steps : Option (List ℕ) → List Step
 end_steps None = puts (codes "\n")

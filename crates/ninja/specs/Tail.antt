@@ -1,4 +1,4 @@
--- How the edge `all` is put: one piece after another.
+-- Defines how the edge `all` is put, one piece after another.
 use Rattle.std.specs.Prelude.{List, [], ◌++◌, codes, if◌then◌else◌}
 use Rattle.std.specs.List.{flat_map}
 use Rattle.ports.specs.Outputs.{Step, puts}

@@ -1,4 +1,4 @@
--- The text of `build.ninja`: a head with the rules, a block for each edge, a tail with what is made by default.
+-- Defines the text of `build.ninja`: a head with the rules, a block for each edge, and a tail with what is made by default.
 use Rattle.std.specs.Prelude.{ℕ, List, [], ◌∷◌, ◌++◌, Option, Some, None, codes}
 use Rattle.std.specs.List.{flat_map}
 use Rattle.build.specs.declared.edge.rule.Rule.{Rule}
@@ -7,6 +7,7 @@ use Rattle.build.specs.edge.Data.{EdgeData}
 use Rattle.ninja.specs.Escapes.{path_text, value_text}
 use Rattle.ninja.specs.Words.{words_text}
 
+-- Returns a line and what follows.
 abbrev pub line : List ℕ → List ℕ → List ℕ
 line text rest = text ++ 10 ∷ rest
 
@@ -18,7 +19,7 @@ spaced_path_text path = 32 ∷ path_text path
 abbrev pub paths_text : List (List ℕ) → List ℕ
 paths_text paths = flat_map spaced_path_text paths
 
--- paths behind a sign, where there are any
+-- Returns paths after a sign, if there are any.
 abbrev pub signed_paths_text : List ℕ → List (List ℕ) → List ℕ
 signed_paths_text sign [] = []
 signed_paths_text sign (p ∷ ps) = sign ++ paths_text (p ∷ ps)
@@ -31,22 +32,23 @@ rule_text Symlink = codes "symlink"
 rule_text Custom = codes "custom"
 rule_text CustomDep = codes "custom_dep"
 
+-- Returns the needed paths: the inputs, ` |` and the implicit ones, ` ||` and the order-only ones.
 abbrev pub needs_text : (inputs implicit order_only : List (List ℕ)) → List ℕ
 needs_text inputs implicit order_only =
     paths_text inputs ++ (signed_paths_text (codes " |") implicit ++ signed_paths_text (codes " ||") order_only)
 
--- outputs, a rule, and what is needed
+-- Returns the line of outputs, a rule, and the needed paths.
 abbrev pub build_text : (rule : List ℕ) (outputs inputs implicit order_only : List (List ℕ)) → List ℕ
 build_text rule outputs inputs implicit order_only =
     codes "build" ++ (paths_text outputs ++ (codes ": " ++ (rule ++ needs_text inputs implicit order_only)))
 
 -- ---- the block of an edge
 
--- an indented line, without its end
+-- Returns an indented line, without its end.
 abbrev pub binding_text : List ℕ → List ℕ → List ℕ
 binding_text name value = 32 ∷ (name ++ (codes " = " ++ value_text value))
 
--- the line that names the depfile, if there is one, and what follows
+-- Returns the line that names the depfile, if there is one, and what follows.
 abbrev pub depfile_line : Option (List ℕ) → List ℕ → List ℕ
 depfile_line None rest = rest
 depfile_line (Some path) rest = line (binding_text (codes "DEPFILE") path) rest
@@ -54,7 +56,7 @@ depfile_line (Some path) rest = line (binding_text (codes "DEPFILE") path) rest
 abbrev pub build_line : EdgeData → List ℕ
 build_line e = build_text (rule_text e.rule) e.outputs e.inputs e.implicit e.order_only
 
--- outputs, rule and needs, then command, description and depfile, and an empty line
+-- Returns the block of an edge: its outputs, its rule and the needed paths, then its command, description and depfile, and an empty line.
 abbrev pub edge_text : EdgeData → List ℕ
 edge_text e =
     line (build_line e) (line (binding_text (codes "COMMAND") (words_text e.words e.redirect))
@@ -62,9 +64,11 @@ edge_text e =
 
 -- ---- the file
 
+-- Returns the first lines of a rule and what follows.
 abbrev pub rule_head_text : List ℕ → List ℕ → List ℕ
 rule_head_text name rest = line (codes "rule " ++ name) (line (codes " command = $COMMAND") (line (codes " description = $DESC") rest))
 
+-- Returns the text of the rules of `build.ninja`.
 abbrev pub head_text : List ℕ
 head_text =
     line (codes "ninja_required_version = 1.3") (line []
@@ -78,10 +82,10 @@ head_text =
 abbrev pub edges_text : List EdgeData → List ℕ
 edges_text edges = flat_map edge_text edges
 
--- the edge `all`, which makes these, and that it is made by default
+-- Returns the edge `all`, which makes these paths, and the statement that makes it the default.
 abbrev pub tail_text : List (List ℕ) → List ℕ
 tail_text paths = line (build_text (codes "phony") (codes "all" ∷ []) paths [] []) (line [] (line (codes "default all") []))
 
--- the file of these edges, which makes these paths by default
+-- Returns the file of these edges, which makes these paths by default.
 abbrev pub file_text : List EdgeData → List (List ℕ) → List ℕ
 file_text edges paths = head_text ++ (edges_text edges ++ tail_text paths)

@@ -1,4 +1,4 @@
-//! The blocks of edges.
+//! Writes the blocks of edges.
 ghost use Rattle.std.specs.Prelude.{◌≡◌, true, ℕ, List, ◌++◌, option_map};
 ghost use Rattle.ports.specs.Endings.{ended};
 ghost use Rattle.ports.specs.Outputs.{IsOpen, Writes, puts};
@@ -41,7 +41,7 @@ fn write_spaced_path<O: Outputs>(path: &str, out: &mut O) -> Result<(), DeviceFa
     write_path(path, out)
 }
 
-/// Writes paths, each behind a space.
+/// Writes paths, each after a space.
 #[tactic(auto, using(ports::proofs::Sending::writing))]
 pub fn write_paths<O: Outputs>(paths: &[String], out: &mut O) -> Result<(), DeviceFault>
     requires { IsOpen (O.seen out.old) }
@@ -53,7 +53,7 @@ pub fn write_paths<O: Outputs>(paths: &[String], out: &mut O) -> Result<(), Devi
     Ok(())
 }
 
-// The paths behind a sign, if there are any.
+// Writes the paths after a sign, if there are any.
 #[tactic(auto, using(ports::proofs::Sending::writing))]
 fn write_signed_paths<O: Outputs>(
     sign: &[u8],
@@ -72,7 +72,7 @@ fn write_signed_paths<O: Outputs>(
     }
 }
 
-// The line that names outputs, rule and what is needed, without its end.
+// Writes the line with the outputs, the rule and the needed paths, without its end.
 #[tactic(auto, using(ports::proofs::Sending::writing))]
 fn write_build<O: Outputs>(edge: &LentEdge, out: &mut O) -> Result<(), DeviceFault>
     requires { IsOpen (O.seen out.old) }
@@ -110,7 +110,7 @@ fn write_command<O: Outputs>(edge: &LentEdge, out: &mut O) -> Result<(), DeviceF
     write_words(edge.words, edge.redirect, out)
 }
 
-// The lines that belong to the edge, behind the end of its own.
+// Writes the lines that belong to the edge, after the end of its own.
 #[tactic(auto, using(ports::proofs::Sending::writing))]
 fn write_bindings<O: Outputs>(edge: &LentEdge, out: &mut O) -> Result<(), DeviceFault>
     requires { IsOpen (O.seen out.old) }
@@ -133,16 +133,18 @@ fn write_block<O: Outputs>(edge: &LentEdge, out: &mut O) -> Result<(), DeviceFau
     write_bindings(edge, out)
 }
 
-/// Writes the block of an edge: the line that names its outputs, its rule and what it needs, its command, its description, its depfile if
-/// it has one, and an empty line.
+/// Writes the block of an edge.
+///
+/// The block has the line with its outputs, its rule and the paths that it needs. Then it has its command, its description, its depfile if
+/// there is one, and an empty line (Ninja manual, “Ninja file reference”).
 pub fn write_edge<O: Outputs>(edge: &LentEdge, out: &mut O) -> Result<(), DeviceFault>
     requires { IsOpen (O.seen out.old) }
     ensures text { Writes (O.seen out.old) (puts (edge_text (lent_view edge.now))) (ended result) (O.seen out.new) }
-    // What is written is read as the edge, whatever was read before and follows.
+    // A reader reads the text as the edge, whatever comes before and after it.
     ensures read { is_writable (lent_view edge.now) ≡ true → (m : Manifest) (rest : List ℕ)
         → reads_from (after_reading m) (edge_text (lent_view edge.now) ++ rest)
         ≡ reads_from (after_reading (with_edge m (edge_seen (lent_view edge.now)))) rest }
-    // Under the six rules its command is its words.
+    // Under the six rules, the edge's command is its words.
     ensures runs { is_writable (lent_view edge.now) ≡ true → (m : Manifest) → m.rules ≡ six_rules → RunsWords m (lent_view edge.now) }
 {
     write_block(edge, out)
@@ -205,8 +207,8 @@ fn write_joined_block<O: Outputs>(
     write_own_bindings(own, out)
 }
 
-/// Writes the block of an edge that shares its rule, its order-only paths and the first words of its command, of which there is one, with
-/// others. The edge is not made.
+/// Writes the block of an edge that shares its rule, its order-only paths and the first words of its command with others. There must be a
+/// first word. The edge itself is not made.
 pub fn write_joined<O: Outputs>(
     shared: &SharedParts,
     own: &OwnParts,

@@ -1,4 +1,4 @@
-//! Paths and values, with a `$` before what Ninja would read otherwise.
+//! Writes paths and values, with a `$` before each byte that Ninja would read differently (Ninja manual, “Lexical syntax”).
 ghost use Rattle.std.specs.Prelude.{◌≡◌, [], ◌∷◌, ◌++◌, MatchOption};
 ghost use Rattle.ports.specs.Endings.{ended};
 ghost use Rattle.ports.specs.Outputs.{IsOpen, Writes, puts};
@@ -11,7 +11,7 @@ ghost use Rattle.ninja.specs.Places.{byte_text, stays};
 
 use ports::{DeviceFault, Outputs, put_all};
 
-/// Where bytes stand, which rules how they are written.
+/// Says where bytes are, which decides how they are written.
 #[derive(Clone, Copy)]
 pub enum Place {
     InPath,
@@ -51,7 +51,7 @@ fn quoted_escape(byte: u8) -> Option<&'static [u8]>
 }
 
 impl Place {
-    // What is written for the byte, if not the byte itself.
+    // Returns the text for the byte, or `None` if the byte is written as itself.
     fn escape(self, byte: u8) -> Option<&'static [u8]>
         ensures { MatchOption result (byte_text self byte ≡ byte ∷ []) (λ text. byte_text self byte ≡ text.now) }
     {
@@ -62,7 +62,7 @@ impl Place {
         }
     }
 
-    // Whether the byte is written as itself.
+    // Returns whether the byte is written as itself.
     fn keeps(self, byte: u8) -> bool
         ensures { result ≡ stays self byte }
     {
@@ -101,7 +101,7 @@ fn write_each<O: Outputs>(place: Place, bytes: &[u8], out: &mut O) -> Result<(),
     Ok(())
 }
 
-/// Writes bytes that stand in this place: at once, where each stands for itself.
+/// Writes bytes in this place, with a single call if each is written as itself.
 pub fn write_escaped<O: Outputs>(place: Place, bytes: &[u8], out: &mut O) -> Result<(), DeviceFault>
     requires { IsOpen (O.seen out.old) }
     ensures { Writes (O.seen out.old) (puts (flat_map (byte_text place) bytes.now)) (ended result) (O.seen out.new) }
@@ -113,7 +113,7 @@ pub fn write_escaped<O: Outputs>(place: Place, bytes: &[u8], out: &mut O) -> Res
     }
 }
 
-/// Writes a path: with a `$` before each dollar sign, space and colon.
+/// Writes a path, with a `$` before each dollar sign, space and colon.
 pub fn write_path<O: Outputs>(path: &str, out: &mut O) -> Result<(), DeviceFault>
     requires { IsOpen (O.seen out.old) }
     ensures { Writes (O.seen out.old) (puts (path_text path.now)) (ended result) (O.seen out.new) }
@@ -127,7 +127,7 @@ fn starts_with_space(bytes: &[u8]) -> bool
     matches!(bytes, [b' ', ..])
 }
 
-// A space in front would be dropped.
+// Returns the `$` that keeps Ninja from dropping a leading space.
 fn leading_dollar(value: &[u8]) -> &'static [u8]
     ensures { result.now ≡ leading_dollar value.now }
 {
@@ -144,7 +144,7 @@ fn write_value_bytes<O: Outputs>(value: &[u8], out: &mut O) -> Result<(), Device
     write_escaped(Place::InValue, value, out)
 }
 
-/// Writes a value: with a `$` before each dollar sign, and before a space in front.
+/// Writes a value, with a `$` before each dollar sign and before a leading space.
 pub fn write_value<O: Outputs>(value: &str, out: &mut O) -> Result<(), DeviceFault>
     requires { IsOpen (O.seen out.old) }
     ensures { Writes (O.seen out.old) (puts (value_text value.now)) (ended result) (O.seen out.new) }

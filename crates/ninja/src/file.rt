@@ -1,4 +1,4 @@
-//! The head and the tail of the file.
+//! Writes the head and the tail of the file.
 ghost use Rattle.std.specs.Prelude.{◌≡◌};
 ghost use Rattle.std.specs.List.{flat_map};
 ghost use Rattle.ports.specs.Endings.{ended};
@@ -45,7 +45,7 @@ rule custom_dep
 
 ";
 
-/// Writes what stands before the edges: the version of Ninja that the file needs, and the six rules.
+/// Writes the text before the edges: the version of Ninja that the file needs, and the six rules.
 pub fn write_head<O: Outputs>(out: &mut O) -> Result<(), DeviceFault>
     requires { IsOpen (O.seen out.old) }
     ensures { Writes (O.seen out.old) (puts head_text) (ended result) (O.seen out.new) }
@@ -62,7 +62,7 @@ fn is_default(target: &Target) -> bool
     }
 }
 
-// What `all` names of a target.
+// Writes the paths by which `all` names a target.
 #[tactic(auto, using(ports::proofs::Sending::writing))]
 fn write_default<O: Outputs>(linked: &Linked, out: &mut O) -> Result<(), DeviceFault>
     requires { IsOpen (O.seen out.old) }
@@ -96,8 +96,8 @@ fn write_all<O: Outputs>(targets: &[Linked], out: &mut O) -> Result<(), DeviceFa
     put_all(out, b"\n\ndefault all\n")
 }
 
-/// Writes what stands behind the edges: the edge `all`, which makes all that is built by default, and that it is made where Ninja is given
-/// no target.
+/// Writes the text after the edges: the edge `all`, which makes everything that is built by default, and the `default` statement that names
+/// it.
 pub fn write_tail<O: Outputs>(project: &Project, out: &mut O) -> Result<(), DeviceFault>
     requires { IsOpen (O.seen out.old) }
     ensures { Writes (O.seen out.old) (puts (tail_text (default_outputs project.now))) (ended result) (O.seen out.new) }

@@ -1,18 +1,19 @@
-//! The text of `build.ninja`, as the Ninja manual has it, and what it means.
+//! Writes the text of `build.ninja`, as the Ninja manual describes it, and states what it means.
 //!
-//! Each call writes its text to outputs, what `specs/Writing` says, and takes no memory: it fails where the device does. Whether a text can
-//! stand there at all is a test of `build`, [`build::edge::are_writable`]: for a control character in a path, say, Ninja has no escape.
+//! Each call writes exactly the text that `specs/Writing` defines, and allocates nothing: it fails only if the device does.
+//! [`build::edge::are_writable`] decides whether `build.ninja` can hold a text at all. For example, Ninja has no escape for a control
+//! character in a path.
 //!
-//! Edges that share most of their parts need not be made: [`write_joined`] writes one from what is shared and its own parts, all lent.
+//! Edges that share most of their parts need not be made: [`write_joined`] writes one from borrowed parts, the shared and the own ones.
 //!
-//! `specs/Reading` says what a Ninja file says, and `specs/Commands` which words a shell reads in a command. Neither knows of the
-//! writers. That what is written is read as what was meant is the contract of [`edge_law`], [`file_law`], [`value_law`] and
-//! [`words_law`], which do nothing.
+//! `specs/Reading` defines what a Ninja file says, and `specs/Commands` which words a shell reads in a command. Neither uses the
+//! definitions of the writers. The contracts of [`edge_law`], [`file_law`], [`value_law`] and [`words_law`], which do nothing, state that
+//! the text is read as what was meant.
 //!
 //! # Decisions
 //!
-//! **A redirection without a word.** [`write_words`] of no word and a file gives `> FILE` without a blank in front, so that what is
-//! written as a value never begins with a blank.
+//! **A redirection without a word.** For no word and a file, [`write_words`] writes `> FILE` without a leading space, so that the text of a
+//! value never begins with a space.
 #![tactic(auto)]
 
 mod edges;

@@ -1,4 +1,4 @@
-//! The words of a command, quoted for a POSIX shell.
+//! Writes the words of a command, quoted for a POSIX shell.
 ghost use Rattle.std.specs.Prelude.{◌≡◌, true, IsTrue, ◌&&◌, not, option_map, if◌then◌else◌};
 ghost use Rattle.ports.specs.Endings.{ended};
 ghost use Rattle.ports.specs.Outputs.{IsOpen, Writes, puts};
@@ -73,7 +73,7 @@ fn write_quoted<O: Outputs>(word: &str, out: &mut O) -> Result<(), DeviceFault>
     put_all(out, b"'")
 }
 
-// A word, in quotes or bare.
+// Writes a word, bare or in quotes.
 fn write_word_as<O: Outputs>(word: &str, bare: bool, out: &mut O) -> Result<(), DeviceFault>
     requires open { IsOpen (O.seen out.old) }
     requires bare { IsTrue bare → is_bare word.now ≡ true }
@@ -121,7 +121,7 @@ fn write_later_words<O: Outputs>(words: &[String], out: &mut O) -> Result<(), De
     Ok(())
 }
 
-/// Writes words behind those of a command that has a first word.
+/// Writes words after those of a command that has a first word.
 #[tactic(auto, using(ports::proofs::Sending::writing))]
 pub fn write_last_words<O: Outputs>(words: &[&str], out: &mut O) -> Result<(), DeviceFault>
     requires { IsOpen (O.seen out.old) }
@@ -177,7 +177,7 @@ fn write_words_from<O: Outputs>(
     write_redirect(redirect, out)
 }
 
-/// Writes a command's words as a value, each quoted where a shell would read it otherwise, and the file that the command's output goes to.
+/// Writes a command's words as a value, each quoted if a shell would read it differently, and the file that receives the command's output.
 pub fn write_words<O: Outputs>(
     words: &[String],
     redirect: Option<&str>,

@@ -1,4 +1,4 @@
--- The checks of the compiler, and `find_library`.
+-- Defines the checks of the compiler, and `find_library`.
 use Rattle.std.specs.Prelude.{ℕ, Bool, true, false, List, [], ◌∷◌, ◌++◌, Option, Some, None, Result, Ok, Err, option_and_then, codes}
 use Rattle.arguments.specs.Arguments.{ArgumentsData}
 use Rattle.values.specs.Flat.{flat_all}
@@ -17,7 +17,8 @@ use Rattle.named_sources.specs.resources.Found.{found, missing}
 use Rattle.world.specs.Deed.{Deed, give, consult, ◌>>=◌, answered, need}
 use Rattle.objects.specs.CompilerSaid.{is_true}
 
--- whether it is so: what is required and is not so is E17 with a name, and what is not looked up is false
+-- Returns whether a check is true. A required check that is false is refused with E17 and a name. For a disabled requirement the result is
+-- false.
 unfoldable pub required_as : Requirement → Bool → List ℕ → Deed Bool
 required_as requirements.Required is_so name = do
   _ ← need is_so refusals.NotFound name
@@ -25,19 +26,19 @@ required_as requirements.Required is_so name = do
 required_as requirements.Optional is_so name = give is_so
 required_as requirements.Disabled is_so name = give false
 
--- whether the check of a method of the texts of a call is true
+-- Returns whether the machine file answers true to the check of this method with the texts of a call.
 unfoldable pub is_checked : (method : List ℕ) → ArgumentsData → Deed Bool
 is_checked method a = do
   answer ← consult (call_question (check_topic method (flat_all a.positional)) a)
   give (is_true answer)
 
--- the answer of a check to its texts, of which the first names it; the keyword `required` may say what is done where it is false
+-- Returns the result of a check, whose first text is its name. The keyword `required` decides whether a false check is refused.
 unfoldable pub checked_for : (default : Requirement) → (method : List ℕ) → ArgumentsData → Deed Bool
 checked_for default method a = do
   is_so ← is_checked method a
   required_as (requirement default a) is_so (text_at 0 a)
 
--- a check, as `has_function(name)`
+-- Runs a check, such as `has_function(name)`.
 unfoldable pub check : (method : List ℕ) → ArgumentsData → Deed (Option Data)
 check method a = do
   is_so ← checked_for requirements.Optional method a
@@ -45,25 +46,26 @@ check method a = do
 
 -- ---- libraries
 
--- the argument by which the linker finds a library
+-- Returns the linker argument for a library.
 abbrev pub library_argument : List ℕ → List ℕ
 library_argument name = codes "-l" ++ name
 
--- the dependency that a library is: it has no version, and one argument for the linker
+-- Returns the dependency for a library: it has no version, and one linker argument.
 abbrev pub library : Bool → List ℕ → Result Dependency Refusal
 library true name = found name (codes "unknown") [] (library_argument name ∷ [])
 library false name = missing name
 
+-- Returns a dependency as a value.
 abbrev pub dependency_data : Result Dependency Refusal → Result Data Refusal
 dependency_data (Ok d) = Ok (object (objects.Dependency d))
 dependency_data (Err refusal) = Err refusal
 
--- the same as a value; a library has a name, or E9
+-- Returns the dependency for a library as a value, and E9 without a name.
 abbrev pub library_named : Bool → Option (List ℕ) → Result Data Refusal
 library_named is_so None = Err operations.Arguments
 library_named is_so (Some name) = dependency_data (library is_so name)
 
--- `find_library(name)`: the check of that name, and it has to be true where nothing else is said
+-- Defines `find_library(name)`: runs the check of that name, which is required by default.
 unfoldable pub find_library : ArgumentsData → Deed (Option Data)
 find_library a = do
   is_so ← checked_for requirements.Required (codes "find_library") a

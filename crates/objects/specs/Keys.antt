@@ -1,4 +1,4 @@
--- What the machine file says at a key.
+-- Defines what the machine file has for a key.
 use Rattle.std.specs.Prelude.{ℕ, List, Option, Some, unwrap_or}
 use Rattle.std.specs.Option.{option_and_then}
 use Rattle.values.specs.Data.{Data, text}
@@ -7,11 +7,11 @@ use Rattle.machine.specs.machine_file.Questions.{Answer, Key, plain, value_of_an
 use Rattle.machine.specs.machine_file.Readers.{text_said}
 use Rattle.world.specs.Deed.{Deed, give, consult, ◌>>=◌, answered}
 
--- the text of an answer, or else this one
+-- Returns the text of an answer, and otherwise the default.
 abbrev pub said_or : (default : List ℕ) → Answer → List ℕ
 said_or default answer = unwrap_or (option_and_then text_said (value_of_answer answer)) default
 
--- the text that a section has at a key, or else this one; it is refused where it is too long for a text
+-- Returns the text that a section has for a key, and otherwise the default. One that is too long is refused.
 unfoldable pub keyed : (section key default : List ℕ) → Deed (Option Data)
 keyed section key default = do
   answer ← consult (plain (Key section key))

@@ -1,4 +1,4 @@
--- The methods of the object `meson`: the page of its type in the manual.
+-- Defines the methods of the object `meson`: the page of its type in the manual.
 use Rattle.std.specs.Prelude.{ℕ, false, ◌==◌, List, length, Option, Some, None, Result, Ok, Err, codes, bytes_eq, if◌then◌else◌}
 use Rattle.arguments.specs.Arguments.{ArgumentsData}
 use Rattle.arguments.specs.Given.{text_at}
@@ -13,15 +13,15 @@ use Rattle.values.specs.declared.language_names.object_methods.MesonMethod.{Meso
 use Rattle.values.specs.declared.language_names.object_methods.MesonMethod.TheVariants as methods
 use Rattle.values.specs.language_names.ObjectMethods.{meson_method_named}
 
--- a folder of the tree below a root; the root folder is the root itself
+-- Returns a folder below a root. The root folder is the root itself.
 abbrev pub folder_below : List ℕ → List ℕ → List ℕ
 folder_below root folder = if length folder == 0 then root else path_below root folder
 
--- C is the only language
+-- Returns the compiler of a language. C is the only language.
 abbrev pub compiler_of : List ℕ → Result Data Refusal
 compiler_of language = if bytes_eq language (codes "c") then Ok (object objects.Compiler) else Err refusal.Arguments
 
--- what a method gives; one that gives a path is refused where that is too long for a text
+-- Returns the result of a method. A path that is too long for a text is refused.
 abbrev pub answer_by : Option MesonMethod → Facts → ArgumentsData → Result Data Refusal
 answer_by None f a = Err refusal.UnknownMethod
 answer_by (Some methods.Backend) f a = within (text (codes "ninja"))
@@ -36,5 +36,6 @@ answer_by (Some methods.ProjectVersion) f a = within (text f.project.surrounding
 answer_by (Some methods.SourceRoot) f a = within (text f.settings.source_root)
 answer_by (Some methods.Version) f a = within (text (codes "1.3.0"))
 
+-- Returns the result of the method of `meson` with this name.
 abbrev pub answer : Facts → List ℕ → ArgumentsData → Result Data Refusal
 answer f name a = answer_by (meson_method_named name) f a

@@ -1,4 +1,4 @@
--- The methods of objects, by the kind of the receiver.
+-- Defines the methods of objects, by the type of the receiver.
 use Rattle.std.specs.Prelude.{ℕ, Bool, false, List, Option, Some, is_some, Result, Err}
 use Rattle.arguments.specs.Arguments.{ArgumentsData}
 use Rattle.arguments.specs.Given.{text_at}
@@ -26,7 +26,7 @@ use Rattle.objects.specs.Programs as programs
 use Rattle.objects.specs.Rows.{row_of}
 use Rattle.objects.specs.Targets as targets
 
--- whether the kind of an object has a method of a name that is not left out
+-- Holds if the type of an object has a supported method with this name.
 abbrev pub has_method : Object → List ℕ → Bool
 has_method (objects.Feature f) name = is_some (feature_method_named name)
 has_method (objects.Dependency d) name = is_some (dependency_method_named name)
@@ -40,7 +40,7 @@ has_method objects.Compiler name = compilers.has_method name
 has_method (objects.ConfigurationData number) name = configurations.has_method name
 has_method _ name = false
 
--- what a method tells of its receiver and the facts of the run
+-- Returns the result of a method that depends only on its receiver and the facts of the run.
 abbrev pub told_of : Facts → Object → List ℕ → ArgumentsData → Result Data Refusal
 told_of facts (objects.Feature f) name a = features.answer f name
 told_of facts (objects.Dependency d) name a = dependencies.answer d name
@@ -51,18 +51,18 @@ told_of facts (objects.CustomOutput target output) name a = targets.output_answe
 told_of facts objects.Meson name a = meson.answer facts name a
 told_of facts _ name a = Err refusal.UnknownMethod
 
--- the rule that a method asks of its receiver, or of its argument
+-- Returns the rule that such a method requires of its receiver, or of its argument.
 abbrev pub rule_of : Object → Rule
 rule_of (objects.Program p) = rules.HasProgram
 rule_of objects.Meson = rules.HasCompiler
 rule_of _ = rules.HasOneOutput
 
--- what breaks it: the language that `meson` is asked for, or else the method of this name
+-- Returns what breaks that rule: the language given to `meson.get_compiler`, or the name of the method.
 abbrev pub breaking : Object → List ℕ → ArgumentsData → List ℕ
 breaking objects.Meson name a = text_at 0 a
 breaking _ name a = name
 
--- a method that tells of its receiver and the facts of the run alone, on arguments that its row looks at first
+-- Checks the arguments of such a method by its row, and then runs it.
 unfoldable pub tell : Object → List ℕ → ArgumentsData → Deed (Option Data)
 tell o name a = do
   _ ← fit (row_of o name) a
@@ -70,7 +70,7 @@ tell o name a = do
   d ← answered_by (rule_of o) (breaking o name a) (told_of facts o name a)
   give (Some d)
 
--- a method of an object on its arguments: it gives a value, or nothing
+-- Runs a method of an object. It returns a value or nothing.
 unfoldable pub object_method : Object → List ℕ → ArgumentsData → Deed (Option Data)
 object_method objects.Compiler name a = compilers.compiler_method name a
 object_method objects.Machine name a = machines.machine_method name a

@@ -1,4 +1,4 @@
--- The methods of targets, and of the outputs of custom targets: the types `build_tgt`, `custom_tgt` and `custom_idx` of the page
+-- Defines the methods of targets, and of the outputs of custom targets: the types `build_tgt`, `custom_tgt` and `custom_idx` of the page
 -- "Reference manual".
 use Rattle.std.specs.Prelude.{ℕ, zero, suc, ◌+◌, List, [], ◌∷◌, Option, Some, None, Result, Err, slice_get, option_map}
 use Rattle.std.specs.Prelude.{option_and_then}
@@ -20,79 +20,84 @@ use Rattle.values.specs.language_names.ObjectMethods.{build_target_method_named,
 
 -- ---- names
 
--- ---- what a target has
+-- ---- attributes of a target
 
+-- Returns the name of a target.
 abbrev pub name_of : TargetData → Text
 name_of (Build t) = t.name
 name_of (Custom t) = t.name
 
--- the path of the only one of the files of a folder
+-- Returns the path of the only file of a folder, and none if there is not exactly one.
 abbrev pub only_path : Path → List Text → Option Path
 only_path folder (name ∷ []) = Some (path_in folder name)
 only_path folder _ = None
 
--- the path of a target's file, which no symbolic link is; of a custom target the only output's
+-- Returns the path of a target's file, not of its symbolic links. For a custom target it is that of its only output.
 abbrev pub path_of : TargetData → Option Path
 path_of (Build t) = Some (file_path t)
 path_of (Custom t) = only_path t.folder t.outputs
 
--- the path of an output of a custom target
+-- Returns the path of an output of a custom target.
 abbrev pub output_of : (output : ℕ) → TargetData → Option Path
 output_of output (Build t) = None
 output_of output (Custom t) = option_map (path_in t.folder) (slice_get t.outputs output)
 
--- what the target with a number has
+-- Returns an attribute of the target with a number.
 abbrev pub at : {A : Type 0} → List LinkedData → (number : ℕ) → (TargetData → Option A) → Option A
 at targets number has = option_and_then (λ l. has l.target) (slice_get targets number)
 
 -- ---- values
 
--- a name, or E9 where there is no such target
+-- Returns a name, and E9 if there is no such target.
 abbrev pub name_value : Option Text → Result Data Refusal
 name_value None = Err refusal.Arguments
 name_value (Some name) = within (text name)
 
--- the absolute path of a path of the build folder, or E9 where there is none, or are several
+-- Returns the absolute path for a path in the build directory, and E9 if there is none.
 abbrev pub path_value : (build_root : Path) → Option Path → Result Data Refusal
 path_value build_root None = Err refusal.Arguments
 path_value build_root (Some path) = within (text (path_below build_root path))
 
--- so many outputs of a target, from this one on
+-- Returns `count` outputs of a target, from the output `first` on.
 abbrev pub outputs_from : (target count first : ℕ) → Items
 outputs_from target zero first = no_items
 outputs_from target (suc count) first = item (object (objects.CustomOutput target first)) (outputs_from target count (first + 1))
 
--- the list of so many outputs of a target
+-- Returns the list of the first `count` outputs of a target.
 abbrev pub output_list : (target count : ℕ) → Result Data Refusal
 output_list target count = within (list (outputs_from target count 0))
 
 -- ---- methods
 
+-- Returns the targets of the project.
 abbrev pub targets_of : Facts → List LinkedData
 targets_of facts = linked_of facts.project.targets
 
--- of a target with a number and so many outputs
+-- Returns the result of a method of the target with this number and this many outputs.
 abbrev pub told_of : TargetMethod → Facts → (number outputs : ℕ) → Result Data Refusal
 told_of FullPath facts number outputs = path_value facts.settings.build_root (at (targets_of facts) number path_of)
 told_of Name facts number outputs = name_value (at (targets_of facts) number (λ t. Some (name_of t)))
 told_of ToList facts number outputs = output_list number outputs
 
+-- Returns the result of a method of a target, or E8 if there is none.
 abbrev pub answer_by : Option TargetMethod → Facts → (number outputs : ℕ) → Result Data Refusal
 answer_by None facts number outputs = Err refusal.UnknownMethod
 answer_by (Some method) facts number outputs = told_of method facts number outputs
 
--- an executable or a library, which has one output
+-- Returns the result of a method of an executable or a library, which has one output.
 abbrev pub build_answer : Facts → (number : ℕ) → List ℕ → Result Data Refusal
 build_answer facts number name = answer_by (build_target_method_named name) facts number 1
 
+-- Returns the result of the method of a custom target with this name.
 abbrev pub custom_answer : Facts → (number outputs : ℕ) → List ℕ → Result Data Refusal
 custom_answer facts number outputs name = answer_by (custom_target_method_named name) facts number outputs
 
+-- Returns the result of a method of an output, or E8 if there is none.
 abbrev pub output_answer_by : Option TargetMethod → Facts → (target output : ℕ) → Result Data Refusal
 output_answer_by None facts target output = Err refusal.UnknownMethod
 output_answer_by (Some method) facts target output =
     path_value facts.settings.build_root (at (targets_of facts) target (output_of output))
 
--- an output of a custom target
+-- Returns the result of a method of an output of a custom target.
 abbrev pub output_answer : Facts → (target output : ℕ) → List ℕ → Result Data Refusal
 output_answer facts target output name = output_answer_by (output_method_named name) facts target output

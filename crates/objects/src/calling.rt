@@ -1,4 +1,4 @@
-//! A method of an object on its arguments.
+//! Calls methods of objects.
 ghost use Rattle.std.specs.Prelude.{◌≡◌, IfOk, option_map};
 ghost use Rattle.arguments.specs.RowView.{row_data};
 ghost use Rattle.world.specs.Prelude.{Answers, Does, MayFail, arguments_data, data_of, world_of};
@@ -20,7 +20,7 @@ use values::language_names::MethodName;
 use values::{Object, Refusal, Value};
 use world::{Caller, Stop, Store};
 
-/// Whether the kind of an object has a method of a name that is not left out. It takes no memory.
+/// Returns whether the type of an object has a supported method with this name. It allocates nothing.
 pub fn has_object_method(object: &Object, name: &MethodName) -> bool
     ensures { result ≡ has_method object.now name.now }
 {
@@ -39,7 +39,7 @@ pub fn has_object_method(object: &Object, name: &MethodName) -> bool
     }
 }
 
-// What a method tells of its receiver and the facts of the run.
+// Returns the result of a method that depends only on its receiver and the facts of the run.
 fn tell_of(
     alloc: Global,
     store: &Store,
@@ -67,7 +67,7 @@ fn tell_of(
     }
 }
 
-// The row of a method of `meson`.
+// Returns the row of a method of `meson`.
 fn meson_row(name: &str) -> Row
     ensures { row_data result ≡ row_of Object.Meson name.now }
 {
@@ -78,7 +78,7 @@ fn meson_row(name: &str) -> Row
     }
 }
 
-// What the method with a name takes.
+// Returns the arguments that the method with this name takes.
 fn row_of(object: &Object, name: &MethodName) -> Row
     ensures { row_data result ≡ row_of object.now name.now }
 {
@@ -88,7 +88,7 @@ fn row_of(object: &Object, name: &MethodName) -> Row
     }
 }
 
-// The rule that a method asks of its receiver, or of its argument.
+// Returns the rule that a method requires of its receiver, or of its argument.
 fn rule_of(object: &Object) -> Rule
     ensures { result ≡ rule_of object.now }
 {
@@ -99,7 +99,7 @@ fn rule_of(object: &Object) -> Rule
     }
 }
 
-// What breaks it: the language that `meson` is asked for, or else the method of this name.
+// Returns what breaks that rule: the language given to `meson.get_compiler`, or the name of the method.
 fn breaking<'a>(object: &Object, name: &'a MethodName, arguments: &'a Arguments) -> &'a str
     ensures { result.now ≡ breaking object.now name.now (arguments_data arguments.now) }
 {
@@ -109,7 +109,7 @@ fn breaking<'a>(object: &Object, name: &'a MethodName, arguments: &'a Arguments)
     }
 }
 
-// A method that tells of its receiver and the facts of the run alone.
+// Runs a method that depends only on its receiver and the facts of the run.
 fn tell<T: Tree, O: Outputs>(
     caller: &Caller<'_, T, O>,
     object: &Object,
@@ -127,8 +127,9 @@ fn tell<T: Tree, O: Outputs>(
     Ok(Some(value))
 }
 
-/// A method of an object on its arguments, which its row looks at first: it gives a value, or nothing. The name is one for which
-/// [`has_object_method`] is true; of any other it is E8.
+/// Checks the arguments of a method by its row, and then runs it. It returns a value or `None`.
+///
+/// [`has_object_method`] must be true for the name; any other name is refused with E8.
 pub fn object_method<T: Tree, O: Outputs>(
     caller: &mut Caller<'_, T, O>,
     object: &Object,

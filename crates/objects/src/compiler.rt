@@ -1,12 +1,12 @@
-//! The methods of the C compiler: the page "Reference manual" of its type.
+//! Implements the methods of the C compiler: the page "Reference manual" of its type.
 //!
-//! No compiler is asked: the machine file says in `[compiler]` which one it is, and in `[checks]` what it answers. What a method does is
-//! a deed of `specs/`, and its code carries it out on a [`world::Caller`].
+//! No compiler runs: the machine file says in `[compiler]` which compiler it is, and in `[checks]` what it answers. What a method does is
+//! defined as a deed in `specs/`, and its code does that on a [`world::Caller`].
 //!
 //! # Decisions
 //!
-//! **One name has one answer.** A check's answer belongs to its method and its plain arguments. Keywords change no answer, so one name
-//! asked with two prefixes has one answer; the manual's page has them change what is compiled.
+//! **A check has one answer.** The answer to a check depends on its method and its positional arguments. Keywords change no answer, so a
+//! name checked with two prefixes has one answer. In the manual, keywords change what is compiled.
 mod calling;
 mod checks;
 mod names;

@@ -1,5 +1,5 @@
-//! Configuration data and the files that are made of it: `configuration_data` and `configure_file` of the page "Reference manual", and the
-//! methods of its type `cfg_data`.
+//! Implements configuration data and the files made of it: `configuration_data` and `configure_file` of the page "Reference manual", and
+//! the methods of its type `cfg_data`.
 
 mod contents;
 mod data_call;

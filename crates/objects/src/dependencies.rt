@@ -1,4 +1,4 @@
-//! The methods of a dependency: the type `dep` of the page "Reference manual".
+//! Implements the methods of a dependency: the type `dep` of the page "Reference manual".
 ghost use Rattle.std.specs.Prelude.{IfOk};
 ghost use Rattle.world.specs.Prelude.{Answers};
 ghost use Rattle.objects.specs.Dependencies.{answer, version_of};
@@ -16,7 +16,8 @@ fn version_of(alloc: Global, dependency: &Dependency) -> Result<Result<Value, Re
     Value::of_str(alloc, "unknown")
 }
 
-/// What the method with a name gives for a dependency: `found`, `name`, and `version`, that is `unknown` where it is not found.
+/// Returns the result of the method of a dependency with this name: `found`, `name` or `version`. The version is `unknown` if the
+/// dependency was not found.
 pub fn dependency_answer(
     alloc: Global,
     dependency: &Dependency,

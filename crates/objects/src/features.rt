@@ -1,4 +1,4 @@
-//! The methods of a feature: the type `feature` of the page "Reference manual".
+//! Implements the methods of a feature: the type `feature` of the page "Reference manual".
 ghost use Rattle.std.specs.Prelude.{◌≡◌};
 ghost use Rattle.world.specs.Prelude.{Answers};
 ghost use Rattle.objects.specs.Features.{answer, tells};
@@ -17,7 +17,7 @@ fn tells(method: FeatureMethod, feature: Feature) -> bool
     }
 }
 
-/// What the method with a name gives for a feature: `enabled`, `disabled` and `auto` say which of these it is, and `allowed`
+/// Returns the result of the method of a feature with this name. `enabled`, `disabled` and `auto` say which state it has, and `allowed`
 /// whether it is not disabled.
 pub fn feature_answer(feature: Feature, name: &MethodName) -> Result<Value, Refusal>
     ensures { Answers (answer feature name.now) result }

@@ -1,4 +1,4 @@
-//! What the machine file says at a key.
+//! Reads the machine file by key.
 ghost use Rattle.std.specs.Prelude.{option_map};
 ghost use Rattle.world.specs.Prelude.{Does, data_of};
 ghost use Rattle.objects.specs.Keys.{keyed};
@@ -7,7 +7,7 @@ use ports::{Outputs, Tree};
 use values::Value;
 use world::{Caller, Stop};
 
-/// The text that a section of the machine file has at a key, or else this one: E22 where it is too long.
+/// Returns the text that a section of the machine file has for a key, and otherwise the default. Refuses one that is too long with E22.
 pub fn read_key<T: Tree, O: Outputs>(
     caller: &mut Caller<'_, T, O>,
     section: &str,

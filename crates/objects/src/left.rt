@@ -1,11 +1,11 @@
-//! The methods that are left out for good.
+//! Decides which methods are not supported.
 ghost use Rattle.std.specs.Prelude.{◌≡◌};
 ghost use Rattle.objects.specs.Left.{is_left_out};
 
 use crate::compiler::is_left_out_compiler_method;
 use values::Object;
 
-/// Whether a method of this name, which the manual gives to the object, is left out: E23.
+/// Returns whether the manual gives the object a method with this name that is not supported (E23).
 pub fn is_left_out_method(object: &Object, name: &str) -> bool
     ensures { result ≡ is_left_out object.now name.now }
 {

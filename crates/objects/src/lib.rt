@@ -1,6 +1,7 @@
-//! The methods of objects: the pages "Reference manual" of their types; and the functions that make configuration data and files of it.
+//! Implements the methods of objects: the pages "Reference manual" of their types; and the functions that make configuration data and files
+//! of it.
 //!
-//! What a method does is a deed of `specs/`, and its code carries it out on a [`world::Caller`]. A name is looked up before the
+//! What a method does is defined as a deed in `specs/`, and its code does that on a [`world::Caller`]. A name is looked up before the
 //! arguments are evaluated, by [`has_object_method`] and [`is_left_out_method`].
 #![tactic(auto)]
 

@@ -1,4 +1,4 @@
-//! The methods of a machine: the type `build_machine` of the page "Reference manual".
+//! Implements the methods of a machine: the type `build_machine` of the page "Reference manual".
 ghost use Rattle.std.specs.Prelude.{option_map};
 ghost use Rattle.values.specs.language_names.ObjectMethods.{machine_method_named};
 ghost use Rattle.world.specs.Prelude.{Does, data_of};
@@ -11,7 +11,7 @@ use values::Value;
 use values::language_names::{MachineMethod, MethodName};
 use world::{Caller, Stop};
 
-// What a method gives.
+// Returns the result of a method.
 fn tell_machine<T: Tree, O: Outputs>(
     caller: &mut Caller<'_, T, O>,
     method: MachineMethod,
@@ -26,8 +26,8 @@ fn tell_machine<T: Tree, O: Outputs>(
     }
 }
 
-/// What the method with a name gives for the build, host or target machine: `system`, `cpu_family`, `cpu` and `endian`, as the machine
-/// file has them; E8 where there is none of that name, E22 where what it gives is too long.
+/// Returns the result of the method of the build, host or target machine with this name: `system`, `cpu_family`, `cpu` or `endian`, as the
+/// machine file has it. Refuses an unknown name with E8, and a result that is too long with E22.
 pub fn machine_answer<T: Tree, O: Outputs>(
     caller: &mut Caller<'_, T, O>,
     name: &MethodName,

@@ -1,4 +1,4 @@
-//! The methods of the object `meson`: the page of its type in the manual.
+//! Implements the methods of the object `meson`: the page of its type in the manual.
 ghost use Rattle.std.specs.Prelude.{◌≡◌, IfOk, string_bytes};
 ghost use Rattle.values.specs.Data.{text};
 ghost use Rattle.world.specs.Prelude.{Answers, arguments_data, within, world_of};
@@ -11,21 +11,21 @@ use values::language_names::{MesonMethod, MethodName};
 use values::{Object, Refusal, Value};
 use world::Store;
 
-/// The source root of the run.
+/// Returns the source root of the run.
 pub fn source_root(store: &Store) -> &str
     ensures { result.now ≡ (world_of store.now).facts.settings.source_root }
 {
     store.settings().source_root()
 }
 
-/// The build root of the run.
+/// Returns the build root of the run.
 pub fn build_root(store: &Store) -> &str
     ensures { result.now ≡ (world_of store.now).facts.settings.build_root }
 {
     store.settings().build_root()
 }
 
-// A folder of the tree below a root.
+// Returns a folder below a root. The root folder is the root itself.
 fn folder_below(alloc: Global, root: &str, folder: &str) -> Result<String, AllocError>
     ensures { IfOk result (λ s. string_bytes s ≡ folder_below root.now folder.now) }
 {
@@ -48,7 +48,7 @@ fn source_root_value(alloc: Global, store: &Store) -> Result<Result<Value, Refus
     Value::of_str(alloc, source_root(store))
 }
 
-// The present folder below a root.
+// Returns the present folder below a root.
 fn present_folder(
     alloc: Global,
     root: &str,
@@ -93,9 +93,11 @@ fn compiler_of(alloc: Global, language: &str) -> Result<Result<Value, Refusal>, 
     }
 }
 
-/// What the method with a name gives for `meson`: the project's name and version, the roots and the present folders as absolute paths
-/// (E22 where one is too long), the compiler of C (E9 for another language), and what is always the same: no subproject, no cross
-/// build, the backend `ninja` and the version `1.3.0`.
+/// Returns the result of the method of `meson` with this name.
+///
+/// It may be the project's name or version, or a root or present folder as an absolute path (E22 if it is too long). It may be the compiler
+/// of C (E9 for another language). The other results are constant: no subproject, no cross build, the backend `ninja` and the version
+/// `1.3.0`.
 pub fn meson_answer(
     alloc: Global,
     store: &Store,

@@ -1,4 +1,4 @@
-//! The methods of a program: the type `external_program` of the page "Reference manual".
+//! Implements the methods of a program: the type `external_program` of the page "Reference manual".
 ghost use Rattle.std.specs.Prelude.{◌≡◌, IfOk};
 ghost use Rattle.world.specs.Prelude.{Answers, world_of};
 ghost use Rattle.objects.specs.Programs.{answer, first_word, full_path, is_found};
@@ -41,7 +41,7 @@ fn full_path(
     }
 }
 
-// The path of a program, where the source root is that of the run.
+// Returns the path of a program, with the source root of the run.
 fn path_of(
     alloc: Global,
     store: &Store,
@@ -52,8 +52,10 @@ fn path_of(
     full_path(alloc, source_root(store), program)
 }
 
-/// What the method with a name gives for a program: `found`, and `full_path` or `path`, that are E9 where it is not found. They
-/// are the first word of the machine file, or the absolute path of a file below the source root, E22 where that is too long.
+/// Returns the result of the method of a program with this name: `found`, `full_path` or `path`.
+///
+/// A path is the first word of the machine file's command, or the absolute path of a file below the source root. Refusals are E9 for a
+/// program that was not found, and E22 for a path that is too long.
 pub fn program_answer(
     alloc: Global,
     store: &Store,

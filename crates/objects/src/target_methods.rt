@@ -1,5 +1,5 @@
-//! The methods of targets, and of the outputs of custom targets: the types `build_tgt`, `custom_tgt` and `custom_idx` of the page
-//! "Reference manual".
+//! Implements the methods of targets, and of the outputs of custom targets: the types `build_tgt`, `custom_tgt` and `custom_idx` of the
+//! page "Reference manual".
 ghost use Rattle.std.specs.Prelude.{◌≡◌, IfOk, Some, option_map, string_bytes};
 ghost use Rattle.build.specs.edge.Texts.{texts};
 ghost use Rattle.build.specs.LinkedViews.{linked_views};
@@ -17,7 +17,7 @@ use values::language_names::{MethodName, TargetMethod};
 use values::{List, Object, Refusal, Value};
 use world::Store;
 
-// ---- what a target has
+// ---- attributes of a target
 
 fn name_of(target: &Target) -> &str
     ensures { result.now ≡ name_of (target_view target.now) }
@@ -28,7 +28,7 @@ fn name_of(target: &Target) -> &str
     }
 }
 
-// The path of the only one of the files of a folder.
+// Returns the path of the only file of a folder, and `None` if there is not exactly one.
 fn only_path(alloc: Global, folder: &str, names: &[String]) -> Result<Option<String>, AllocError>
     ensures { IfOk result (λ path. option_map string_bytes path ≡ only_path folder.now (texts names.now)) }
 {
@@ -38,7 +38,7 @@ fn only_path(alloc: Global, folder: &str, names: &[String]) -> Result<Option<Str
     }
 }
 
-// The path of the target's file, or of the only output of a custom target.
+// Returns the path of the target's file, or of the only output of a custom target.
 fn path_of(alloc: Global, target: &Target) -> Result<Option<String>, AllocError>
     ensures { IfOk result (λ path. option_map string_bytes path ≡ path_of (target_view target.now)) }
 {
@@ -48,7 +48,7 @@ fn path_of(alloc: Global, target: &Target) -> Result<Option<String>, AllocError>
     }
 }
 
-// The path of an output of a custom target.
+// Returns the path of an output of a custom target.
 fn output_of(alloc: Global, output: usize, target: &Target) -> Result<Option<String>, AllocError>
     ensures { IfOk result (λ path. option_map string_bytes path ≡ output_of output (target_view target.now)) }
 {
@@ -127,7 +127,7 @@ fn outputs(alloc: Global, target: usize, count: usize) -> Result<Vec<Value>, All
     Ok(outputs)
 }
 
-// The list of so many outputs of a target.
+// Returns the list of the first `count` outputs of a target.
 fn output_list(
     alloc: Global,
     target: usize,
@@ -162,8 +162,10 @@ fn tell_of(
     }
 }
 
-/// What a method gives for a target with so many outputs: `name`, `full_path`, the absolute path of its only output (E9 where it has
-/// several), and `to_list`, its outputs; E8 where there is no such method.
+/// Returns the result of a method of a target with this many outputs: `name`, `full_path` or `to_list`.
+///
+/// `full_path` is the absolute path of the only output (E9 if there are several), and `to_list` the list of the outputs. Refuses with E8 if
+/// there is no such method.
 pub fn target_answer(
     alloc: Global,
     store: &Store,
@@ -179,7 +181,7 @@ pub fn target_answer(
     }
 }
 
-/// What the method with a name gives for an output of a custom target: `full_path`, its absolute path.
+/// Returns the result of the method of an output of a custom target with this name: `full_path`, its absolute path.
 pub fn output_answer(
     alloc: Global,
     store: &Store,

@@ -1,4 +1,4 @@
-//! What is done with values: the operators of the language, and the methods of values that are no objects.
+//! Implements the operators of the language, and the methods of values other than objects.
 #![tactic(auto)]
 
 pub mod methods;

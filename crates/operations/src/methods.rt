@@ -1,4 +1,4 @@
-//! The methods of values that are no objects: booleans, integers, texts, lists and dictionaries.
+//! Implements the methods of values other than objects: booleans, integers, texts, lists and dictionaries.
 //!
 //! See "Elementary types" of the page "Reference manual".
 //!
@@ -6,16 +6,15 @@
 //!
 //! **A method is its name, its arguments and its work.** The methods of a type are an enum, and a name is looked up in it first (E8). Then
 //! a small function reads the arguments (E9), and then the method does its work. The definition of a method is a `do` block with the same
-//! steps, so that the first refusal decides, and each function of the code says by one relation, `Gives`, that it answers what its
-//! definition gives.
+//! steps, so the first refusal decides. Each function says by one relation, `Gives`, that it returns what its definition gives.
 //!
-//! **What is asked of all arguments is asked first.** `join` asks whether only texts and lists of texts are there (E9), and `format`
-//! whether all values can be printed (E9), before any text is gathered. Both questions take no memory. A place without its value is E10
-//! wherever it stands, also where the text before it is too long already: so `format` first asks for all values and then writes each into
-//! the result, where it is printed. A value that no place names is asked only whether it is an object or holds one (E9).
+//! **Checks of all arguments come first.** `join` checks that there are only texts and lists of texts (E9), and `format` that all values
+//! can be printed (E9), before any text is collected. Both checks allocate nothing. A placeholder without a value is E10 wherever it is,
+//! even if the text before it is already too long. So `format` first looks up all values, and then prints each into the result. A value
+//! that no placeholder refers to is only checked for objects (E9).
 //!
-//! **Keys are put in order by a set.** `keys` puts the keys of a dictionary into an ordered set, whose contract says where each key goes,
-//! so the order is stated exactly. The keys are the dictionary's own, shared.
+//! **A set sorts the keys.** `keys` inserts the keys of a dictionary into an ordered set. The contract of the set says where each key goes,
+//! so the order is stated exactly. The keys are shared with the dictionary.
 
 mod booleans;
 mod dictionaries;

@@ -1,20 +1,20 @@
-//! What the operators of the language give: the page "Syntax" of the Meson manual.
+//! Evaluates the operators of the language: the page "Syntax" of the Meson manual.
 //!
 //! # Decisions
 //!
-//! **Operators have two tables.** The first table, a partial function, says what an operation gives, and the second why it gives nothing.
-//! So a row is read beside a row of the manual, and each refusal is exact. Limits of size (E22) come on top, and so do disablers, for
-//! every operator alike.
+//! **Operators have two tables.** The first table, a partial function, gives the result of an operation, and the second the reason if there
+//! is none. So a row can be compared with a row of the manual, and each refusal is exact. Limits of size (E22) and disablers are added on
+//! top, for every operator alike.
 //!
-//! **`and` and `or` are two calls.** Their right side may not be looked at, so they are no operators of two values: [`left_side`] takes
-//! the left value and answers the value of the whole or that the right side decides, and [`right_side`] takes the right one.
+//! **`and` and `or` are two calls.** Their right side may have to be skipped, so they are no operators of two values. [`left_side`] takes
+//! the left value and returns either the value of the whole or that the right side decides; [`right_side`] takes the right value.
 //!
-//! **Sums change what nobody else holds.** [`binary`] takes its operands by value. A list or a dictionary on the left of `+` whose share
-//! is the last one is added to in place, any other is copied; of a share that somebody else holds Rust gives no way to change it. So it is
-//! with a text on the left of `+`.
+//! **Sums change in place what nobody else shares.** [`binary`] takes its operands by value. If the left side of `+` is the last reference
+//! to a list, a dictionary or a text, it is extended in place. Otherwise it is copied, since Rust does not allow a shared value to be
+//! changed.
 //!
-//! **The keys of a literal are looked at before its size.** The first key of a dictionary literal that is no text (E6) or stands there
-//! already (E11) decides, also past the limit of entries, and the limits (E22) are asked when all entries are there.
+//! **The keys of a literal are checked before its size.** The first key of a dictionary literal that is no text (E6) or is already present
+//! (E11) decides, even past the limit of entries. The limits (E22) are checked once all entries are there.
 
 mod arithmetic;
 mod lists;

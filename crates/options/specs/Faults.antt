@@ -1,24 +1,24 @@
--- A fault of an option's value, as a run tells it.
+-- Defines the fault of an option's value, as a run reports it.
 use Rattle.std.specs.Prelude.{ℕ, List, codes}
 use Rattle.support.specs.Faults.{FaultData}
 use Rattle.support.specs.declared.faults.refusal.Refusal.{Refusal}
 use Rattle.options.specs.declared.fault.Place.{Place}
 use Rattle.options.specs.declared.fault.Place.TheVariants.{Declared, Project, MachineFile, CommandLine}
 
--- a place, what is refused there, and what that is about
+-- A place, what is refused there, and the details.
 pub record OptionFaultData : Type 0 where
   pub place : Place
   pub refusal : Refusal
   pub detail : List ℕ
 
--- the file of a place, where the option file has this path
+-- Returns the file of a place, given the path of the option file.
 abbrev pub file_of : List ℕ → Place → List ℕ
 file_of path (Declared line) = path
 file_of path Project = codes "meson.build"
 file_of path (MachineFile line) = codes "<machine file>"
 file_of path (CommandLine number) = codes "<command line>"
 
--- the line of a place, where the call of `project` is on this line; of a word it is the number
+-- Returns the line of a place, given the line of the call of `project`. For a word it is the word's number.
 abbrev pub line_of : ℕ → Place → ℕ
 line_of call (Declared line) = line
 line_of call Project = call

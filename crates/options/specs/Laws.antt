@@ -1,4 +1,4 @@
--- What holds of all final values.
+-- States what holds of all final values.
 use Rattle.std.specs.Prelude.{ℕ, Bool, true, false, List, [], ◌∷◌, map, Option, Some, None, bytes_eq, if◌then◌else◌}
 use Rattle.std.specs.List.{list_all}
 use Rattle.support.specs.Among.{is_among}
@@ -11,9 +11,9 @@ use Rattle.options.specs.option_file.Declarations.{Declaration}
 use Rattle.machine.specs.option_values.Settings.{Setting}
 use Rattle.options.specs.Verdicts.{Verdict, Sets, Warns, Refuses, kind_named}
 
--- ---- each value is one of its option's type
+-- ---- each value has its option's type
 
--- whether a value is one of an option that takes this
+-- Returns whether a value is one of an option that takes this kind.
 abbrev pub fits : kind.Kind → value.Value → Bool
 fits kind.Text (value.Text text) = true
 fits kind.Boolean (value.Boolean boolean) = true
@@ -24,18 +24,19 @@ fits kind.Words (value.Array items) = true
 fits kind.Feature (value.Feature state) = true
 fits _ v = false
 
+-- Returns whether an option that takes this kind, if there is one, takes the value.
 abbrev pub fits_known : Option kind.Kind → value.Value → Bool
 fits_known None v = false
 fits_known (Some k) v = fits k v
 
--- whether there is an option of this name, and the value is one of it
+-- Returns whether there is an option with this name that takes the value.
 abbrev pub has_fitting : List Declaration → Setting → Bool
 has_fitting ds s = fits_known (kind_named ds s.name) s.value
 
 abbrev pub all_fit : List Declaration → List Setting → Bool
 all_fit ds ss = list_all (has_fitting ds) ss
 
--- ---- the names are those that every project has, and then the declared ones
+-- ---- the names are those that every project has, followed by the declared ones
 
 abbrev pub names_in : List Setting → List (List ℕ)
 names_in ss = map (λ s. s.name) ss
@@ -48,16 +49,18 @@ declared_names ds = map (λ d. d.name) ds
 
 -- ---- the last place that gives an option a value decides
 
+-- Returns the later setting if there is one, and else this one.
 abbrev pub or_later : Option Setting → Option Setting → Option Setting
 or_later (Some later) s = Some later
 or_later None s = s
 
+-- Returns what a verdict gives the option with this name.
 abbrev pub set_by : Verdict → List ℕ → Option Setting
 set_by (Sets s) name = if bytes_eq name s.name then Some s else None
 set_by (Warns other) name = None
 set_by (Refuses fault) name = None
 
--- what the last of these gives the option of this name
+-- Returns what the last of these verdicts gives the option with this name.
 abbrev pub last_setting : List Verdict → List ℕ → Option Setting
 last_setting [] name = None
 last_setting (v ∷ vs) name = or_later (last_setting vs name) (set_by v name)

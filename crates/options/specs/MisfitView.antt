@@ -1,4 +1,4 @@
--- What is written at a place, and what is wrong with it, without where it lies in memory.
+-- Defines what is written at a place and what is wrong with it, without their place in memory.
 use Rattle.std.specs.Option.{option_map}
 use Rattle.machine.specs.machine_file.Values as machine_values
 use Rattle.machine.specs.machine_file.View.{value_in as machine_value_in}

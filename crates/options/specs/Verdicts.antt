@@ -1,4 +1,4 @@
--- What it means that a place gives an option a value.
+-- Defines what a value that a place gives means.
 use Rattle.std.specs.Prelude.{ℕ, ◌+◌, Bool, true, false, ◌&&◌, List, [], ◌∷◌, map, Option, Some, None, codes, if◌then◌else◌, bytes_eq}
 use Rattle.std.specs.Option.{option_map}
 use Rattle.syntax.specs.lexer.Bytes.{equals}
@@ -20,112 +20,119 @@ use Rattle.options.specs.Misfits.{MisfitData, NoOption, NoSign, Both, NoValue, N
 use Rattle.machine.specs.option_values.Settings.{Setting}
 use Rattle.options.specs.Defaults.{default_of}
 
--- An option takes a value; or there is no option of this name, of which the user is warned; or the value is refused.
+-- An option takes a value, or no option has this name and the user is warned, or the value is refused.
 pub data Verdict : Type 0 where
   Sets : (setting : Setting) → Verdict
   Warns : (name : List ℕ) → Verdict
   Refuses : (fault : OptionFaultData) → Verdict
 
+-- Returns the verdict of a place whose value is refused.
 abbrev pub refused : Place → MisfitData → Verdict
 refused place m = Refuses (record { place = place; refusal = refusal_of m; detail = words_of m })
 
 -- ---- the declarations
 
+-- Returns the verdict of a declaration with this default, or with none.
 abbrev pub of_default : Declaration → Option Value → Verdict
 of_default d None = refused (Declared d.line) (NoDefault d.name d.kind d.value)
 of_default d (Some v) = Sets (record { name = d.name; value = v; given = false })
 
--- a declaration sets its option to its default
+-- Returns the verdict of a declaration, which sets its option to its default.
 unfoldable pub of_declaration : Declaration → Verdict
 of_declaration d = of_default d (default_of d)
 
--- ---- which names a place knows
+-- ---- the names that a place knows
 
--- what the option of this name takes, where it is declared
+-- Returns what the declared option with this name takes.
 unfoldable pub declared_kind : List Declaration → List ℕ → Option Kind
 declared_kind ds name = option_map (λ d. d.kind) (option_named ds name)
 
+-- Returns what the option takes: the built-in one with this name, or else the declared one.
 abbrev pub or_declared : List Declaration → List ℕ → Option Kind → Option Kind
 or_declared ds name None = declared_kind ds name
 or_declared ds name (Some kind) = Some kind
 
--- what the option of this name takes, built in or declared
+-- Returns what the option with this name takes, built-in or declared.
 unfoldable pub kind_named : List Declaration → List ℕ → Option Kind
 kind_named ds name = or_declared ds name (built_in_kind name)
 
 -- ---- the places
 
--- a library that is both shared and static is left out: that the value is known keeps it apart from one that is none
+-- Returns whether the value is `both` of `default_library`, which is left out. It is known, so it has a refusal of its own.
 abbrev pub is_both : List ℕ → written.Value → Bool
 is_both name (written.Text text) = bytes_eq name (codes "default_library") && bytes_eq text (codes "both")
 is_both name _ = false
 
--- what is wrong with what is written, where it is no value of the option
+-- Returns what is wrong with something that is no value of the option.
 abbrev pub misfit_of : List ℕ → Kind → written.Value → MisfitData
 misfit_of name kind what = if is_both name what then Both else NoValue name kind what
 
--- a place gives an option a value, or something that is none
+-- Returns the verdict of a place that gives an option a value, or something that is none.
 abbrev pub of_value : Place → List ℕ → MisfitData → Option Value → Verdict
 of_value place name otherwise None = refused place otherwise
 of_value place name otherwise (Some v) = Sets (record { name = name; value = v; given = true })
 
--- a place gives an option of this kind what is written there
+-- Returns the verdict of a place that gives an option of this kind what is written there.
 unfoldable pub of_kind : Place → List ℕ → written.Value → Kind → Verdict
 of_kind place name what kind = of_value place name (misfit_of name kind what) (value_of_given kind what)
 
--- a place gives a value to a name that no option has: `default_options` alone may do so
+-- Returns the verdict of a place that gives a value to a name that no option has. Only `default_options` may do so.
 abbrev pub unknown_at : Place → List ℕ → Verdict
 unknown_at (Declared line) name = refused (Declared line) (NoOption name)
 unknown_at Project name = Warns name
 unknown_at (MachineFile line) name = refused (MachineFile line) (NoOption name)
 unknown_at (CommandLine number) name = refused (CommandLine number) (NoOption name)
 
--- a place gives the option of a name a value, if there is such an option
+-- Returns the verdict of a place that gives a value to the option with a name, if there is such an option.
 abbrev pub of_named : Place → List ℕ → written.Value → Option Kind → Verdict
 of_named place name what None = unknown_at place name
 of_named place name what (Some kind) = of_kind place name what kind
 
+-- Returns the verdict of a name and a value, or of a text without `=`.
 abbrev pub of_parts : List Declaration → Place → List ℕ → Option Parts → Verdict
 of_parts ds place text None = refused place (NoSign text)
 of_parts ds place text (Some parts) = of_named place parts.0 (written.Text parts.1) (kind_named ds parts.0)
 
--- a text of `default_options` and a word of the command line are a name and a value behind the first `=`
+-- Returns the verdict of a text of `default_options` or a word of the command line, which is a name and a value after the first `=`.
 unfoldable pub of_assignment : List Declaration → Place → List ℕ → Verdict
 of_assignment ds place text = of_parts ds place text (cut_first equals text)
 
--- What the keyword `default_options` holds: a text of its list, or an entry of its dictionary, whose name may have an `=` in it.
+-- An item of `default_options`: a text of its list, or an entry of its dictionary, whose name may have an `=` in it.
 pub data Default : Type 0 where
   Assignment : (text : List ℕ) → Default
   Entry : (name value : List ℕ) → Default
 
+-- Returns the verdict of an item of `default_options`.
 unfoldable pub of_project_default : List Declaration → Default → Verdict
 of_project_default ds (Assignment text) = of_assignment ds Project text
 of_project_default ds (Entry name value) = of_named Project name (written.Text value) (kind_named ds name)
 
--- words of the command line, of which the first has this number
+-- Returns the verdicts of words of the command line, the first of which has this number.
 unfoldable pub of_words : List Declaration → ℕ → List (List ℕ) → List Verdict
 of_words ds number [] = []
 of_words ds number (word ∷ words) = of_assignment ds (CommandLine number) word ∷ of_words ds (number + 1) words
 
--- the sections of the machine file that give options values: each knows the options that are built in, or those that are declared
+-- Returns which options a section of the machine file knows, if it gives options values: the built-in or the declared ones.
 abbrev pub scope_of : List ℕ → Option Scope
 scope_of section =
     if bytes_eq section (codes "built-in options") then Some BuiltIn
     else (if bytes_eq section (codes "project options") then Some OfProject
     else None)
 
+-- Returns what the option with this name takes that a section knows.
 abbrev pub kind_in_scope : Scope → List Declaration → List ℕ → Option Kind
 kind_in_scope BuiltIn ds name = built_in_kind name
 kind_in_scope OfProject ds name = declared_kind ds name
 
--- a key of the machine file has the name of an option that its section knows
+-- Returns the verdict of a key of the machine file, which must name an option that its section knows.
 unfoldable pub of_entry : List Declaration → Scope → machine.Entry → Verdict
 of_entry ds scope e = of_named (MachineFile e.line) e.key e.value (kind_in_scope scope ds e.key)
 
+-- Returns the verdicts of the entries of a section, if it gives options values.
 abbrev pub of_entries : List Declaration → List machine.Entry → Option Scope → List Verdict
 of_entries ds entries None = []
 of_entries ds entries (Some scope) = map (of_entry ds scope) entries
 
--- a section of the machine file
+-- Returns the verdicts of a section of the machine file.
 unfoldable pub of_section : List Declaration → machine.Section → List Verdict
 of_section ds s = of_entries ds s.entries (scope_of s.name)

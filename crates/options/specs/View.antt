@@ -1,4 +1,4 @@
--- What the code's own types stand for.
+-- Defines the plain values of the code's types.
 use Rattle.std.specs.Prelude.{ℕ, List, map, Result, Ok, Err, string_bytes}
 use Rattle.std.specs.Option.{option_map}
 use Rattle.machine.specs.option_values.View.{strings_in}
@@ -42,15 +42,15 @@ outcome_in (Err fault) = Err (fault_in fault)
 abbrev pub resolved_in : Resolved → resolving.Resolution
 resolved_in r = record { unknown = strings_in r.unknown.items; outcome = outcome_in r.outcome }
 
--- a key of a machine file with what it has
+-- Returns a key of a machine file with its entry.
 abbrev pub key_in : List ℕ → Entry → machine.Entry
 key_in key e = record { key = key; value = machine_value_in e.value; line = e.line }
 
--- the options that are declared, among those that are known
+-- Returns the declared options, among those that are known.
 abbrev pub declared_of : Known → List Declaration
 declared_of known = declared_in known.declared.now
 
--- ---- what is given
+-- ---- the inputs
 
 abbrev pub default_in : ProjectDefault → judged.Default
 default_in (given.Assignment text) = judged.Assignment text.now
@@ -59,6 +59,6 @@ default_in (given.Entry name value) = judged.Entry name.now value.now
 abbrev pub defaults_in : List ProjectDefault → List judged.Default
 defaults_in defaults = map default_in defaults
 
--- what a type of build of this name says
+-- Returns what the type of build with this name decides.
 abbrev pub type_in : List ℕ → BuildType → filling.BuildType
 type_in name t = record { name = name; debug = t.debug; optimization = t.optimization.now }

@@ -1,4 +1,4 @@
-//! The options that every project has, where no value is given.
+//! Gives the options that every project has their default values.
 
 ghost use Rattle.std.specs.Prelude.{◌≡◌, IfOk, OnOk};
 ghost use Rattle.machine.specs.option_values.View.{row_in};
@@ -10,7 +10,7 @@ use machine::option_values::{BuiltIn, Setting, built_in_value, built_ins};
 use std::alloc::{AllocError, Global};
 use support::tables::{SipMap, new_map};
 
-// The option of a row of the table has the value that stands there.
+// Sets the option of a row of the table to its default value.
 fn put_value_of(
     alloc: Global,
     settings: &mut SipMap<String, Setting>,
@@ -24,7 +24,7 @@ fn put_value_of(
     Ok(())
 }
 
-/// The options with the values that they have where none is given.
+/// Returns these options with their default values.
 pub fn built_in_settings(alloc: Global) -> Result<SipMap<String, Setting>, AllocError>
     ensures { IfOk result (λ settings. settings_in settings.entries ≡ built_in_settings) }
 {

@@ -1,4 +1,4 @@
-//! The values that options have by their declarations.
+//! Computes the default values of declared options.
 
 ghost use Rattle.std.specs.Prelude.{◌≡◌, ℕ, List, IfOk};
 ghost use Rattle.std.specs.Option.{option_map};
@@ -14,7 +14,7 @@ use machine::option_values::{
 use std::alloc::{AllocError, Global};
 use support::text_lists::copies;
 
-// A combo's first choice.
+// Returns a combo's first choice.
 fn first_of(alloc: Global, choices: &Choices) -> Result<Option<OptionValue>, AllocError>
     ensures { IfOk result (λ v. option_map value_in v ≡ first_of (texts_of choices.now)) }
 {
@@ -27,7 +27,7 @@ fn first_of(alloc: Global, choices: &Choices) -> Result<Option<OptionValue>, All
     }
 }
 
-// The items of an array that has no default: its choices, if it has any.
+// Returns the value of an array without a default: its choices, if it has any, or else no items.
 fn all_choices(alloc: Global, choices: &Option<Choices>) -> Result<Option<OptionValue>, AllocError>
     ensures { IfOk result (λ v. option_map value_in v ≡ value_of_kind (kind_in (OptionKind.Array choices.now))) }
 {
@@ -37,7 +37,7 @@ fn all_choices(alloc: Global, choices: &Option<Choices>) -> Result<Option<Option
     }
 }
 
-// The value of an option that is declared without one.
+// Returns the value of an option that is declared without one. An integer has none.
 fn value_of_kind(alloc: Global, kind: &OptionKind) -> Result<Option<OptionValue>, AllocError>
     ensures { IfOk result (λ v. option_map value_in v ≡ value_of_kind (kind_in kind.now)) }
 {
@@ -129,7 +129,7 @@ fn value_or_kind(
     }
 }
 
-/// The value that an option has by its declaration; nothing where what is written there is no value of it.
+/// Returns the default value of a declaration, or `None` if what it gives is no value of its option.
 #[tactic(auto, unfolding(crate::specs::Defaults::default_of))]
 pub fn default_of(
     alloc: Global,

@@ -1,4 +1,4 @@
-//! Why options have no values.
+//! Says why options have no values.
 
 ghost use Rattle.std.specs.Prelude.{◌≡◌, IfOk};
 ghost use Rattle.support.specs.View.{fault_view};
@@ -9,7 +9,7 @@ use std::alloc::{AllocError, Global};
 use support::faults::{Fault, Refusal};
 use thiserror::Error;
 
-/// Where a value stands.
+/// Says where a value is.
 #[derive(Clone, Copy, Debug)]
 pub enum Place {
     /// The statement on this line, from 1, of the option file.
@@ -18,23 +18,26 @@ pub enum Place {
     Project,
     /// This line, from 1, of the machine file.
     MachineFile(usize),
-    /// The word with this number, from 1, among those of the command line that give options values.
+    /// The word with this number, from 1, among the `-D` words of the command line.
     CommandLine(usize),
 }
 
-/// What is wrong with a value, and its place: E15, where it is no value of its option, there is no such option, or it is no name
-/// with a value; or E23, where it is a value that is left out.
+/// Holds what is wrong with a value, and its place.
+///
+/// It is E15 if the value is none of its option, if there is no such option, or if a text is no name with a value. It is E23 if the value
+/// is left out.
 #[derive(Debug, Drop, Error)]
 #[error("{refusal}{}{detail}", if .detail.is_empty() {""} else {": "})]
 pub struct OptionFault {
     pub place: Place,
     pub refusal: Refusal,
-    /// What it is about, in words.
+    /// The details, in words.
     pub detail: String,
 }
 
 impl OptionFault {
-    /// The fault as a run tells it: the option file has this path, and the call of `project` is on this line of `meson.build`.
+    /// Returns the fault in the form that a run reports. `option_file` is the path of the option file, and `project_line` the line of the
+    /// call of `project` in `meson.build`.
     pub fn tell_in(
         self,
         alloc: Global,

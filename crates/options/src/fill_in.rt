@@ -1,4 +1,4 @@
-//! What some options say of others.
+//! Fills in what some options decide about others.
 
 ghost use Rattle.std.specs.Prelude.{◌≡◌, codes, map, OnOk};
 ghost use Rattle.std.specs.Option.{option_map};
@@ -13,14 +13,14 @@ use machine::option_values::{FeatureState, OptionValue, Setting};
 use std::alloc::{AllocError, Global};
 use support::tables::SipMap;
 
-/// What a type of build says of the options `debug` and `optimization`.
+/// Holds what a type of build decides about the options `debug` and `optimization`.
 #[derive(Clone, Copy)]
 pub struct BuildType {
     pub debug: bool,
     pub optimization: &'static str,
 }
 
-// What the type of build of this name says, as the table of the Meson manual's page "Built-in options" has it.
+// Returns what the type of build with this name decides, by the table of the Meson manual's page "Built-in options".
 #[tactic(auto, unfolding(crate::specs::FillIns::build_types))]
 fn build_type(name: &str) -> Option<BuildType>
     ensures { option_map (type_in name.now) result ≡ type_among build_types name.now }
@@ -39,7 +39,7 @@ fn build_type(name: &str) -> Option<BuildType>
     })
 }
 
-// The option of this name has this value, if no place gave it one.
+// Sets the option of this name, unless a place gave it a value.
 fn fill(settings: &mut SipMap<String, Setting>, name: &str, value: OptionValue)
     ensures { settings_in settings.new.entries ≡ fill name.now (value_in value) (settings_in settings.old.entries) }
 {
@@ -52,7 +52,7 @@ fn fill(settings: &mut SipMap<String, Setting>, name: &str, value: OptionValue)
     }
 }
 
-// The text that a value is, if it is one.
+// Returns the text, if the value is one.
 fn text_in(value: &OptionValue) -> Option<&str>
     ensures { option_map (λ t. t.now) result ≡ text_in (value_in value.now) }
 {
@@ -63,7 +63,7 @@ fn text_in(value: &OptionValue) -> Option<&str>
     }
 }
 
-// The state of a feature that a value is, if it is one.
+// Returns the state of a feature, if the value is one.
 fn state_in(value: &OptionValue) -> Option<FeatureState>
     ensures { result ≡ state_in (value_in value.now) }
 {
@@ -73,7 +73,7 @@ fn state_in(value: &OptionValue) -> Option<FeatureState>
     }
 }
 
-// The text that the option of this name has.
+// Returns the text of the option with this name.
 fn text_at<'a>(settings: &'a SipMap<String, Setting>, name: &str) -> Option<&'a str>
     ensures { option_map (λ t. t.now) result ≡ text_at name.now (settings_in settings.now.entries) }
 {
@@ -83,7 +83,7 @@ fn text_at<'a>(settings: &'a SipMap<String, Setting>, name: &str) -> Option<&'a 
     }
 }
 
-// The state that the feature option of this name has.
+// Returns the state of the feature option with this name.
 fn state_at(settings: &SipMap<String, Setting>, name: &str) -> Option<FeatureState>
     ensures { result ≡ state_at name.now (settings_in settings.now.entries) }
 {
@@ -93,7 +93,7 @@ fn state_at(settings: &SipMap<String, Setting>, name: &str) -> Option<FeatureSta
     }
 }
 
-// `buildtype` says how `debug` and `optimization` are set where no place sets them.
+// Sets `debug` and `optimization` from `buildtype`, unless a place sets them.
 #[tactic(auto, unfolding(crate::specs::FillIns::by_buildtype))]
 fn by_buildtype(alloc: Global, settings: &mut SipMap<String, Setting>) -> Result<(), AllocError>
     ensures { OnOk result (settings_in settings.new.entries ≡ by_buildtype (settings_in settings.old.entries)) }
@@ -110,7 +110,7 @@ fn by_buildtype(alloc: Global, settings: &mut SipMap<String, Setting>) -> Result
     Ok(())
 }
 
-// Whether the prefix is that of a system.
+// Returns whether the prefix is `/usr`.
 fn is_usr(settings: &SipMap<String, Setting>) -> bool
     ensures { result ≡ is_usr (text_at (codes "prefix") (settings_in settings.now.entries)) }
 {
@@ -120,7 +120,7 @@ fn is_usr(settings: &SipMap<String, Setting>) -> bool
     }
 }
 
-// Below the prefix `/usr` the settings of a system are in `/etc`, where no place says where they are.
+// Sets `sysconfdir` to `/etc` below the prefix `/usr`, unless a place sets it.
 #[tactic(auto, unfolding(crate::specs::FillIns::by_prefix))]
 fn by_prefix(alloc: Global, settings: &mut SipMap<String, Setting>) -> Result<(), AllocError>
     ensures { OnOk result (settings_in settings.new.entries ≡ by_prefix (settings_in settings.old.entries)) }
@@ -133,7 +133,7 @@ fn by_prefix(alloc: Global, settings: &mut SipMap<String, Setting>) -> Result<()
     Ok(())
 }
 
-// Whether a value is the state `auto` of a feature.
+// Returns whether the value is the state `auto` of a feature.
 fn is_auto(value: &OptionValue) -> bool
     ensures { result ≡ is_auto (value_in value.now) }
 {
@@ -143,7 +143,7 @@ fn is_auto(value: &OptionValue) -> bool
     }
 }
 
-// The i-th option, if it is a feature that is `auto`, takes this state.
+// Sets option number `i` to this state, if it is a feature in state `auto`.
 fn decide_at(settings: &mut SipMap<String, Setting>, i: usize, state: FeatureState)
     ensures { settings_in settings.new.entries ≡ change_at (decided state) i (settings_in settings.old.entries) }
 {
@@ -157,7 +157,7 @@ fn decide_at(settings: &mut SipMap<String, Setting>, i: usize, state: FeatureSta
     }
 }
 
-// Every feature option that is `auto` takes this state.
+// Sets every feature option in state `auto` to this state.
 fn decide_all(settings: &mut SipMap<String, Setting>, state: FeatureState)
     ensures { settings_in settings.new.entries ≡ map (decided state) (settings_in settings.old.entries) }
 {
@@ -166,7 +166,7 @@ fn decide_all(settings: &mut SipMap<String, Setting>, state: FeatureState)
     }
 }
 
-// `auto_features` decides for every feature that is left to it.
+// Sets every feature in state `auto` to the state of `auto_features`.
 #[tactic(auto, unfolding(crate::specs::FillIns::by_auto_features))]
 fn by_auto_features(settings: &mut SipMap<String, Setting>)
     ensures { settings_in settings.new.entries ≡ by_auto_features (settings_in settings.old.entries) }
@@ -177,7 +177,7 @@ fn by_auto_features(settings: &mut SipMap<String, Setting>)
     }
 }
 
-/// What some options say of others is filled in.
+/// Fills in what some options decide about others.
 pub fn fill_in(alloc: Global, settings: &mut SipMap<String, Setting>) -> Result<(), AllocError>
     ensures { OnOk result (settings_in settings.new.entries ≡ filled_in (settings_in settings.old.entries)) }
 {

@@ -1,4 +1,4 @@
-//! Which options a place knows.
+//! Looks up which options a place knows.
 
 ghost use Rattle.std.specs.Prelude.{◌≡◌, IfOk};
 ghost use Rattle.std.specs.Option.{option_map};
@@ -12,16 +12,16 @@ use machine::option_values::{OptionKind, built_in_kinds};
 use std::alloc::{AllocError, Global};
 use support::tables::SipMap;
 
-/// Which options a section of the machine file knows.
+/// Says which options a section of the machine file knows.
 #[derive(Clone, Copy)]
 pub enum Scope {
-    /// `[built-in options]`: those that every project has.
+    /// `[built-in options]`: the options that every project has.
     BuiltIn,
-    /// `[project options]`: those that are declared.
+    /// `[project options]`: the declared options.
     OfProject,
 }
 
-/// Which options the section of this name knows, if it gives options values.
+/// Returns which options the section of this name knows, or `None` if it gives no option a value.
 pub fn scope_of(section: &str) -> Option<Scope>
     ensures { result ≡ scope_of section.now }
 {
@@ -32,7 +32,7 @@ pub fn scope_of(section: &str) -> Option<Scope>
     }
 }
 
-/// The options that there are, with what each takes.
+/// Holds all options, with what each takes.
 pub struct Known<'a> {
     built_ins: SipMap<String, OptionKind>,
     declared: &'a Declared,
@@ -49,7 +49,7 @@ impl Drop for Known<'_> {
 }
 
 impl<'a> Known<'a> {
-    /// Those that every project has, and these.
+    /// Returns the options that every project has, with these declared ones.
     pub fn new(alloc: Global, declared: &'a Declared) -> Result<Known<'a>, AllocError>
         ensures { IfOk result (λ known. known.declared.now ≡ declared.now) }
     {
@@ -60,15 +60,17 @@ impl<'a> Known<'a> {
         })
     }
 
-    // What the option of this name takes, where it is built in.
+    // Returns what the built-in option with this name takes.
     fn built_in_kind(&self, name: &str) -> Option<&OptionKind>
         ensures { option_map (λ k. kind_in k.now) result ≡ built_in_kind name.now }
     {
         self.built_ins.get(name)
     }
 
-    // What the option of this name takes, where it is declared. The declared options stand among the settings in their order, behind the
-    // built-in ones: so `setting`, the number of the setting of this name, tells where to look first, and any other number is right too.
+    // Returns what the declared option with this name takes.
+    //
+    // The declared options come after the built-in ones among the settings, in their order. So `setting`, the number of the setting with
+    // this name, is a hint where to look first. Any other number is allowed too.
     #[tactic(auto, unfolding(crate::specs::Verdicts::declared_kind))]
     fn declared_kind(&self, setting: usize, name: &str) -> Option<&OptionKind>
         ensures { option_map (λ k. kind_in k.now) result ≡ declared_kind (declared_in self.now.declared.now) name.now }
@@ -80,7 +82,7 @@ impl<'a> Known<'a> {
         }
     }
 
-    /// What the option of this name takes, built in or declared. It is found fastest with the number of its setting.
+    /// Returns what the option with this name takes, built-in or declared. The number of its setting makes the look-up faster.
     #[tactic(auto, unfolding(crate::specs::Verdicts::kind_named))]
     pub fn kind_named(&self, setting: usize, name: &str) -> Option<&OptionKind>
         ensures { option_map (λ k. kind_in k.now) result ≡ kind_named (declared_in self.now.declared.now) name.now }
@@ -91,7 +93,8 @@ impl<'a> Known<'a> {
         }
     }
 
-    /// What the option of this name takes, where a section with this scope knows it. It is found fastest with the number of its setting.
+    /// Returns what the option with this name takes, if a section with this scope knows it. The number of its setting makes the look-up
+    /// faster.
     pub fn kind_in_scope(&self, scope: Scope, setting: usize, name: &str) -> Option<&OptionKind>
         ensures { option_map (λ k. kind_in k.now) result ≡ kind_in_scope scope (declared_in self.now.declared.now) name.now }
     {

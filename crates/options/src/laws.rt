@@ -1,5 +1,4 @@
-//! What holds of all final values: laws above [`resolve`](crate::resolve), each stated by the contract of a function that does
-//! nothing.
+//! States laws of all final values of [`resolve`](crate::resolve), as functions that do nothing and whose contracts hold.
 
 ghost use Rattle.std.specs.Prelude.{◌≡◌, ◌++◌, ℕ, List, Ok, Some, true, false};
 ghost use Rattle.machine.specs.machine_file.Files.{Section};
@@ -12,7 +11,7 @@ ghost use Rattle.options.specs.Verdicts.{Default};
 
 use crate::option_file::Declared;
 
-/// Each final value is a value of its option's type, and within its choices and bounds.
+/// Proves that each final value has its option's type, and is within its choices and bounds.
 pub fn values_fit(declared: &Declared)
     ensures { (defaults : List Default) (sections : List Section) (words : List (List ℕ)) (settings : List SettingSaid)
         → (resolved (declared_in declared.now) defaults sections words).outcome ≡ Ok settings
@@ -21,8 +20,8 @@ pub fn values_fit(declared: &Declared)
     let _declared = declared;
 }
 
-/// The options are those that every project has, in the order of their table, and then the declared ones, in the order of their
-/// declarations.
+/// Proves that the options are those that every project has, in the order of their table, followed by the declared ones in the order of
+/// their declarations.
 pub fn names_are_in_order(declared: &Declared)
     ensures { (defaults : List Default) (sections : List Section) (words : List (List ℕ)) (settings : List SettingSaid)
         → (resolved (declared_in declared.now) defaults sections words).outcome ≡ Ok settings
@@ -31,8 +30,8 @@ pub fn names_are_in_order(declared: &Declared)
     let _declared = declared;
 }
 
-/// Where `default_options`, the machine file or the words give an option a value, the last that does decides; but a feature
-/// that is left at `auto` is as `auto_features` says.
+/// Proves that the last of `default_options`, the machine file and the command line that gives an option a value decides. A feature that
+/// stays `auto` is as `auto_features` says.
 pub fn last_place_decides(declared: &Declared)
     ensures { (defaults : List Default) (sections : List Section) (words : List (List ℕ)) (settings : List SettingSaid)
         → (resolved (declared_in declared.now) defaults sections words).outcome ≡ Ok settings

@@ -1,20 +1,18 @@
-//! The options of a project: which value each has in the end, of those that its declaration, `default_options`, the machine
-//! file and the words of the command line give it.
+//! Computes the final values of a project's options, from their declarations, `default_options`, the machine file and the command line.
 //!
-//! [`declare`] reads an option file, [`Machine::read`] a machine file, and [`resolve`] gives the values. Everything that these
-//! show stands here under one name.
+//! [`declare`] reads an option file, [`Machine::read`] reads a machine file, and [`resolve`] returns the values. This crate re-exports all
+//! types of these functions.
 //!
 //! The rules are those of the Meson manual's pages "Build options" and "Built-in options".
 //!
 //! # Decisions
 //!
 //! **A project's defaults are texts or entries.** `default_options` may be a list of texts, which are cut at their first `=`, or a
-//! dictionary, whose keys are names as they stand. [`resolve`] takes either, item by item: an `=` in a key is part of a name that no
-//! option has.
+//! dictionary, whose keys are whole names. [`resolve`] takes either, item by item. An `=` in a key is part of a name, which no option has.
 //!
-//! **Values come as a list of verdicts.** What a place says of an option is one of three: it sets a value, it warns of a name that no
-//! option has, or it refuses. The definition makes the list of all verdicts, in the order of the places, and folds it up to the first
-//! refusal; so "the last one holds" and "the first bad one is the fault" are read off one line each.
+//! **Values form a list of verdicts.** A place sets a value, warns of a name that no option has, or refuses. The definition lists all
+//! verdicts in the order of the places, and folds the list up to the first refusal. So one line each states that the last value holds and
+//! that the first bad one is the fault.
 #![tactic(auto)]
 
 mod built_in;

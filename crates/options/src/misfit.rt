@@ -1,4 +1,4 @@
-//! What is wrong with a value that a place gives an option, and the words that say so.
+//! Says in words what is wrong with a value that a place gives an option.
 
 ghost use Rattle.std.specs.Prelude.{◌≡◌, IfOk, option_map, string_bytes};
 ghost use Rattle.std.specs.Fmt.{signed_decimal};
@@ -17,7 +17,7 @@ use machine::option_values::{OptionKind, kind_words};
 use std::alloc::{AllocError, Global};
 use support::faults::Refusal;
 
-/// What is written at a place.
+/// Holds what is written at a place.
 #[derive(Clone, Copy)]
 pub enum Written<'a> {
     Text(&'a str),
@@ -25,18 +25,18 @@ pub enum Written<'a> {
     Value(&'a MachineValue),
 }
 
-/// What is refused of a name and a value.
+/// Says why a name and a value are refused.
 #[derive(Clone, Copy)]
 pub enum Misfit<'a> {
     /// No option has this name.
     NoOption(&'a str),
-    /// A text that is no name with a value, since it has no `=`.
+    /// A text that is no name with a value, because it has no `=`.
     NoSign(&'a str),
     /// The value `both` of `default_library`, which is left out.
     Both,
-    /// The option of this name takes this, and something else was given.
+    /// The option of this name takes this kind, and the value is not of this kind.
     NoValue(&'a str, &'a OptionKind, Written<'a>),
-    /// The same of the default of its declaration.
+    /// The option of this name takes this kind, and the default of its declaration is not of this kind.
     NoDefault(&'a str, &'a OptionKind, &'a Option<Given>),
 }
 
@@ -60,7 +60,7 @@ fn integer_words(alloc: Global, number: i64) -> Result<String, AllocError>
     String::from_str(alloc, buffer.format(number))
 }
 
-// A value of the machine file, a list by its form alone.
+// Returns the words for a value of the machine file. A list has only the words `a list`.
 fn value_words(alloc: Global, value: &MachineValue) -> Result<String, AllocError>
     ensures { IfOk result (λ words. string_bytes words ≡ written_words (machine_value_in value.now)) }
 {
@@ -81,7 +81,7 @@ fn written_words(alloc: Global, what: Written<'_>) -> Result<String, AllocError>
     }
 }
 
-// What a declaration gives, a list by its form alone.
+// Returns the words for what a declaration gives. A list has only the words `a list`.
 fn given_words(alloc: Global, given: &Given) -> Result<String, AllocError>
     ensures { IfOk result (λ words. string_bytes words ≡ given_words (given_in given.now)) }
 {
@@ -103,14 +103,14 @@ fn default_words(alloc: Global, value: &Option<Given>) -> Result<String, AllocEr
     }
 }
 
-// Of an option this is so.
+// Returns the text that says these words of an option.
 fn option_is(alloc: Global, name: &str, words: &str) -> Result<String, AllocError>
     ensures { IfOk result (λ text. string_bytes text ≡ option_is name.now words.now) }
 {
     format!(in alloc; "option '{name}': {words}")
 }
 
-// An option takes this, and that was given.
+// Returns the text that an option takes this kind and got that.
 fn takes(alloc: Global, name: &str, kind: &OptionKind, got: &str) -> Result<String, AllocError>
     ensures { IfOk result (λ text. string_bytes text ≡ takes name.now (kind_in kind.now) got.now) }
 {
@@ -118,14 +118,14 @@ fn takes(alloc: Global, name: &str, kind: &OptionKind, got: &str) -> Result<Stri
     format!(in alloc; "option '{name}': takes {kind}, and got {got}")
 }
 
-// A text has no `=`.
+// Returns the text for a word without `=`.
 fn without_sign(alloc: Global, text: &str) -> Result<String, AllocError>
     ensures { IfOk result (λ words. string_bytes words ≡ words_of (NoSign text.now)) }
 {
     format!(in alloc; "'{text}': has no '='")
 }
 
-// An option does not take what a place gives it.
+// Returns the text for an option that does not take what a place gives it.
 fn not_taken(
     alloc: Global,
     name: &str,
@@ -138,7 +138,7 @@ fn not_taken(
     takes(alloc, name, kind, &got)
 }
 
-// An option does not take the default of its declaration.
+// Returns the text for an option that does not take the default of its declaration.
 fn default_not_taken(
     alloc: Global,
     name: &str,
@@ -152,7 +152,7 @@ fn default_not_taken(
 }
 
 impl<'a> Misfit<'a> {
-    /// What it is refused as: E15, or E23 where it is left out by name.
+    /// Returns the refusal: E15, or E23 for a value that is left out by name.
     pub fn refusal(self) -> Refusal
         ensures { result ≡ refusal_of (misfit_in self.entry) }
     {
@@ -162,7 +162,7 @@ impl<'a> Misfit<'a> {
         }
     }
 
-    /// What it is about.
+    /// Returns the details in words.
     pub fn words(self, alloc: Global) -> Result<String, AllocError>
         ensures { IfOk result (λ text. string_bytes text ≡ words_of (misfit_in self.entry)) }
     {

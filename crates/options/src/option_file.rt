@@ -1,15 +1,15 @@
-//! The option file of a project, `meson.options`: which options its calls of `option` declare.
+//! Reads the option file of a project, `meson.options`: the options that its calls of `option` declare.
 //!
-//! The rules are those of the Meson manual's page "Build options". Values are not looked at here: whether a declared default
-//! is a value of its option is found where options are resolved.
+//! The rules are those of the Meson manual's page "Build options". Values are not checked here: whether a declared default is a value of
+//! its option is decided when options are resolved.
 //!
 //! # Decisions
 //!
-//! **What a declared default is.** An argument of `option` is read by its form alone: a text, a truth value, an integer of 64 bits, a list
-//! of texts, or `Other`: a number that 64 bits don't hold, or a list of other things than texts.
+//! **What a declared default is.** An argument of `option` is read by its form only: a text, a truth value, an integer of 64 bits, a list
+//! of texts, or `Other`. `Other` is a number that does not fit in 64 bits, or a list of things other than texts.
 //!
-//! **The order of faults in one call.** A keyword that comes twice is found first, then one that is left out, and then all else. All else
-//! has one number and one line, so no order is kept among the rest.
+//! **The order of faults in one call.** A keyword that occurs twice is reported first, then one that is left out, then everything else. All
+//! other faults have the same number and line, so their order does not matter.
 
 mod call;
 mod declaration;

@@ -1,4 +1,4 @@
-//! The places that give options values, one after another.
+//! Reads the places that give options values, one after another.
 
 ghost use Rattle.std.specs.Prelude.{◌≡◌, IfOk, OnOk, fold, map};
 ghost use Rattle.std.specs.List.{flat_map};
@@ -22,7 +22,7 @@ use machine::machine_file::{Entry, Machine, Section, cut_first};
 use machine::option_values::{OptionKind, Setting};
 use std::alloc::{AllocError, Global};
 
-/// A value that the keyword `default_options` of `project` gives, with the name of its option.
+/// Holds a value that the keyword `default_options` of `project` gives, with the name of its option.
 #[derive(Clone, Copy)]
 pub enum ProjectDefault<'a> {
     /// A text of a list: `NAME=VALUE`, cut at its first `=`.
@@ -31,7 +31,7 @@ pub enum ProjectDefault<'a> {
     Entry(&'a str, &'a str),
 }
 
-// A declaration sets its option to its default.
+// Returns the verdict of a declaration, which sets its option to its default.
 #[tactic(auto, unfolding(crate::specs::Verdicts::of_declaration))]
 fn of_declaration<'a>(
     alloc: Global,
@@ -55,7 +55,7 @@ fn of_declaration<'a>(
     }
 }
 
-/// All options that are declared, with their defaults.
+/// Takes all declared options, with their defaults.
 pub fn take_declarations(
     alloc: Global,
     state: &mut State,
@@ -76,7 +76,7 @@ pub fn take_declarations(
     Ok(())
 }
 
-// A text of `default_options` and a word of the command line are a name and a value behind the first `=`.
+// Returns the verdict of a text of `default_options` or a word of the command line, which is a name and a value after the first `=`.
 #[tactic(auto, unfolding(crate::specs::Verdicts::of_assignment))]
 fn of_assignment<'a>(
     alloc: Global,
@@ -94,7 +94,7 @@ fn of_assignment<'a>(
     of_named(alloc, place, name, kind, Written::Text(value))
 }
 
-// A text of `default_options`, or an entry.
+// Returns the verdict of a text or an entry of `default_options`.
 #[tactic(auto, unfolding(crate::specs::Verdicts::of_project_default))]
 fn of_project_default<'a>(
     alloc: Global,
@@ -119,7 +119,7 @@ fn of_project_default<'a>(
     }
 }
 
-/// All that `default_options` holds.
+/// Takes everything in `default_options`.
 pub fn take_defaults(
     alloc: Global,
     state: &mut State,
@@ -139,7 +139,7 @@ pub fn take_defaults(
     Ok(())
 }
 
-// A key of the machine file gives the option of this kind a value, where its section knows one of that name.
+// Returns the verdict of a key of the machine file. `kind` is that of the option with this name, if the section knows one.
 fn of_entry<'a>(
     alloc: Global,
     kind: Option<&OptionKind>,
@@ -153,7 +153,7 @@ fn of_entry<'a>(
     of_named(alloc, place, key, kind, Written::Value(&entry.value))
 }
 
-// All keys of a section that knows these options.
+// Takes all keys of a section that knows these options.
 fn take_entries(
     alloc: Global,
     state: &mut State,
@@ -178,7 +178,7 @@ fn take_entries(
     Ok(())
 }
 
-// All keys of a section of the machine file, where it gives options values.
+// Takes all keys of a section of the machine file, if the section gives options values.
 #[tactic(auto, unfolding(crate::specs::Verdicts::of_section))]
 fn take_section(
     alloc: Global,
@@ -199,7 +199,7 @@ fn take_section(
     }
 }
 
-/// All sections of the machine file, in the order of their lines.
+/// Takes all sections of the machine file, in the order of their lines.
 pub fn take_machine(
     alloc: Global,
     state: &mut State,
@@ -218,7 +218,7 @@ pub fn take_machine(
     Ok(())
 }
 
-/// All words of the command line, numbered from 1.
+/// Takes all words of the command line, which are numbered from 1.
 #[tactic(auto, unfolding(crate::specs::Verdicts::of_words))]
 pub fn take_words(
     alloc: Global,

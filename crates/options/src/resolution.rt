@@ -1,4 +1,4 @@
-//! The values that options have in the end.
+//! Computes the final values of options.
 
 ghost use Rattle.std.specs.Prelude.{◌≡◌, IfOk};
 ghost use Rattle.machine.specs.machine_file.Questions.{options_at};
@@ -18,16 +18,16 @@ use machine::machine_file::Machine;
 use machine::option_values::Options;
 use std::alloc::{AllocError, Global};
 
-/// What the values of a project's options come to.
+/// Holds the final values of a project's options.
 #[derive(Drop)]
 pub struct Resolved {
-    /// The names in `default_options` that no option has, in their order and up to the first fault.
+    /// The names in `default_options` that no option has, in their order, up to the first fault.
     pub unknown: Vec<String>,
     /// The options with their values, or the first fault.
     pub outcome: Result<Options, OptionFault>,
 }
 
-// Every option that a project has anyway, and no value.
+// Returns the options that every project has, with their defaults.
 #[tactic(auto, unfolding(crate::specs::Resolves::at_first))]
 fn at_first(alloc: Global) -> Result<State, AllocError>
     ensures { IfOk result (λ state. state_in state ≡ at_first) }
@@ -39,13 +39,14 @@ fn at_first(alloc: Global) -> Result<State, AllocError>
     })
 }
 
-/// The options of a project with their values, from what its option file declares, the keyword `default_options` of its call of
-/// `project`, a machine file, and the words `NAME=VALUE` of a command line.
+/// Returns the options of a project with their values.
 ///
-/// Of several values that an option is given the last one holds, in this order; each has to be a value of its option, and the
-/// first that is none is the fault. A name in `default_options` that no option has is handed back, for a warning, and any other
-/// such name is a fault. What is given nowhere has its default, or what `buildtype`, `prefix` and `auto_features` say of it.
-/// Of the machine file its sections of options alone are read.
+/// They come from the declarations of the option file, the keyword `default_options` of the call of `project`, a machine file, and the
+/// words `NAME=VALUE` of a command line. In this order, the last value of an option holds. Each must be a value of its option, and the
+/// first that is none is the fault.
+///
+/// A name in `default_options` that no option has is returned, for a warning. Any other such name is a fault. An option without any value
+/// has its default, or what `buildtype`, `prefix` and `auto_features` decide. Only the sections of options of the machine file are read.
 /// The rules are those of the Meson manual's pages "Build options" and "Built-in options".
 pub fn resolve(
     alloc: Global,

@@ -1,4 +1,4 @@
-//! What is known after some values.
+//! Holds what is known after some values.
 
 ghost use Rattle.std.specs.Prelude.{◌≡◌, is_some, IfOk, OnOk};
 ghost use Rattle.options.specs.Resolves.{after_verdict, next, resolution_of};
@@ -15,7 +15,7 @@ use machine::option_values::{Options, Setting};
 use std::alloc::{AllocError, Global};
 use support::tables::SipMap;
 
-/// The names of no option so far, the options with their values, and the first fault.
+/// Holds the names of no option so far, the options with their values, and the first fault.
 pub struct State {
     pub unknown: Vec<String>,
     pub settings: SipMap<String, Setting>,
@@ -32,7 +32,7 @@ impl Drop for State {
     }
 }
 
-/// An option takes a value: it keeps its place, and a new one stands last.
+/// Gives an option a value. A known option keeps its place, and a new one is last.
 pub fn put(
     alloc: Global,
     settings: &mut SipMap<String, Setting>,
@@ -47,7 +47,7 @@ pub fn put(
 }
 
 impl State {
-    // An option has a name that no option has.
+    // Records a name that no option has.
     fn warn(&mut self, alloc: Global, name: &str) -> Result<(), AllocError>
         ensures { OnOk result (state_in self.new ≡ after_verdict (state_in self.old) (Warns name.now)) }
     {
@@ -56,7 +56,7 @@ impl State {
         Ok(())
     }
 
-    // One more value, where there was no fault.
+    // Takes one more verdict, while there is no fault.
     fn take(&mut self, alloc: Global, verdict: Verdict<'_>) -> Result<(), AllocError>
         ensures { OnOk result (state_in self.new ≡ after_verdict (state_in self.old) (verdict_in verdict.entry)) }
     {
@@ -68,19 +68,19 @@ impl State {
         Ok(())
     }
 
-    /// Where the setting of this name stands; any number where there is none.
+    /// Returns the number of the setting with this name, or any number if there is none.
     pub fn number_of(&self, name: &str) -> usize {
         self.settings.get_index_of(name).unwrap_or(0)
     }
 
-    /// Whether there was a fault.
+    /// Returns whether there was a fault.
     pub fn is_refused(&self) -> bool
         ensures { result ≡ is_some (state_in self.now).fault }
     {
         self.fault.is_some()
     }
 
-    /// One more value. Nothing comes after a fault.
+    /// Takes one more verdict. Nothing is taken after a fault.
     pub fn next(&mut self, alloc: Global, verdict: Verdict<'_>) -> Result<(), AllocError>
         ensures { OnOk result (state_in self.new ≡ next (state_in self.old) (verdict_in verdict.entry)) }
     {
@@ -93,7 +93,7 @@ impl State {
         }
     }
 
-    /// What is known in the end.
+    /// Returns the final values, or the fault.
     pub fn end(self, alloc: Global) -> Result<Resolved, AllocError>
         ensures { IfOk result (λ r. resolved_in r ≡ resolution_of (state_in self)) }
     {

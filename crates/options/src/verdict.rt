@@ -1,4 +1,4 @@
-//! What it means that a place gives an option a value.
+//! Decides what a value that a place gives means.
 
 ghost use Rattle.std.specs.Prelude.{◌≡◌, IfOk};
 ghost use Rattle.machine.specs.machine_file.Readers.{text_said};
@@ -14,18 +14,18 @@ use crate::misfit::{Misfit, Written};
 use machine::option_values::{OptionKind, OptionValue, Setting, value_of_given, value_of_text};
 use std::alloc::{AllocError, Global};
 
-/// What a value at a place means.
+/// Says what a value at a place means.
 #[derive(Drop)]
 pub enum Verdict<'a> {
     /// The option of this name takes the value.
     Sets(&'a str, Setting),
-    /// There is no option of this name, of which the user is warned.
+    /// No option has this name, and the user is warned.
     Warns(&'a str),
     /// The value is refused.
     Refuses(OptionFault),
 }
 
-/// What is written at this place is refused.
+/// Refuses what is written at this place.
 pub fn refuse<'a>(
     alloc: Global,
     place: Place,
@@ -42,7 +42,7 @@ pub fn refuse<'a>(
     }))
 }
 
-/// A place gives a value to a name that no option has: `default_options` alone may do so.
+/// Returns the verdict of a place that gives a value to a name that no option has. Only `default_options` may do so.
 fn refuse_unknown<'a>(alloc: Global, place: Place, name: &'a str) -> Result<Verdict<'a>, AllocError>
     ensures { IfOk result (λ v. verdict_in v ≡ unknown_at place name.now) }
 {
@@ -55,7 +55,7 @@ fn refuse_unknown<'a>(alloc: Global, place: Place, name: &'a str) -> Result<Verd
 }
 
 impl Written<'_> {
-    // The text that is written, if it is one.
+    // Returns the text that is written, if it is one.
     fn text(&self) -> Option<&str>
         ensures { option_map (λ t. t.now) result ≡ text_said (written_in self.now) }
     {
@@ -65,7 +65,7 @@ impl Written<'_> {
         }
     }
 
-    // Whether this is the value of `default_library` that is left out.
+    // Returns whether this is the value of `default_library` that is left out.
     fn is_both(&self, name: &str) -> bool
         ensures { result ≡ is_both name.now (written_in self.now) }
     {
@@ -75,7 +75,7 @@ impl Written<'_> {
         }
     }
 
-    // The value of an option of this kind that is written, if it is one.
+    // Returns the value that an option of this kind takes from what is written, if it takes it.
     fn value(&self, alloc: Global, kind: &OptionKind) -> Result<Option<OptionValue>, AllocError>
         ensures { IfOk result (λ v. option_map value_in v ≡ value_of_given (kind_in kind.now) (written_in self.now)) }
     {
@@ -85,7 +85,7 @@ impl Written<'_> {
         }
     }
 
-    // What is wrong with it, where it is no value of the option of this name and kind.
+    // Returns what is wrong with a value that the option of this name and kind does not take.
     fn misfit<'m>(&'m self, name: &'m str, kind: &'m OptionKind) -> Misfit<'m>
         ensures { misfit_in result ≡ misfit_of name.now (kind_in kind.now) (written_in self.now) }
     {
@@ -97,7 +97,7 @@ impl Written<'_> {
     }
 }
 
-// A place gives an option a value, or something that is none.
+// Returns the verdict of a place that gives an option a value, or something that is none.
 fn of_value<'a>(
     alloc: Global,
     place: Place,
@@ -113,7 +113,7 @@ fn of_value<'a>(
     }
 }
 
-/// A place gives the option of this name what is written there; without a kind there is no such option.
+/// Returns the verdict of a place that gives the option of this name what is written there. Without a kind, there is no such option.
 #[tactic(auto, unfolding(crate::specs::Verdicts::of_kind))]
 pub fn of_named<'a>(
     alloc: Global,

@@ -1,8 +1,8 @@
-//! `build.ninja` of a project, and what it means.
+//! Writes `build.ninja` of a project, and states what it means.
 //!
-//! [`write_build_file`] writes it, byte for byte what `specs/BuildFile` says. The edges of one target are made when they are written,
-//! and not kept. That a reader who knows the Ninja manual reads it as the project's edges is the contract of [`meaning`], which does
-//! nothing. [`conclude`] ends a run with all outputs, [`refuse`] with the line of a fault.
+//! [`write_build_file`] writes it, byte for byte as `specs/BuildFile` defines. The edges of one target are made when they are written, and
+//! not kept. The contract of [`meaning`], which does nothing, states that a reader who knows the Ninja manual reads the file as the
+//! project's edges. [`conclude`] ends a run with all outputs, [`refuse`] with the line of a fault.
 
 mod concluding;
 mod document;

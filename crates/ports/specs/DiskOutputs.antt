@@ -1,16 +1,15 @@
--- What outputs on a disk are seen as. Whether a disk keeps what it said it took no program can know. So what was taken, and whether the
--- list of it is kept, are closed here: whoever uses the outputs can't show that they tell, and not that they don't. It is for the user to
--- say.
+-- Defines how contracts see outputs on a disk. No program can know whether a disk stores what it accepts. So these definitions are closed:
+-- a user of the outputs can prove neither that they tell nor that they don't. Only the user of the program can know it.
 pub mod Closed
 use Rattle.std.specs.Prelude.{ℕ, Bool, false, List, [], Option, option_map, string_bytes}
 use Rattle.ports.specs.Outputs.{Event, OutputState}
 use Rattle.ports.specs.declared.disk_file.DiskOutput.{DiskOutput}
 
--- what a disk took
+-- The events that a disk took.
 pub taken_by_disk : List Event
 taken_by_disk = []
 
--- whether that is all that its calls say they took
+-- Returns whether the disk took exactly what its calls say.
 pub disk_tells : Bool
 disk_tells = false
 

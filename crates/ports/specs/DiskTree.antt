@@ -1,15 +1,14 @@
--- What a tree of files on a disk is seen as. Whether somebody writes the files while a run reads them no program can know. So what a folder
--- holds, and whether that stays, are closed here: whoever uses a tree can't show that it is steady, and not that it isn't. It is for the
--- user to say.
+-- Defines how contracts see a tree of files on a disk. No program can know whether somebody writes the files during a run. So these
+-- definitions are closed: a user of a tree can prove neither that it is steady nor that it isn't. Only the user of the program can know it.
 pub mod Closed
 use Rattle.std.specs.Prelude.{ℕ, Bool, false, List, []}
 use Rattle.ports.specs.Tree.{TreeState}
 
--- the files below a folder
+-- Returns the files below a folder.
 pub files_below : (folder : List ℕ) → List (List ℕ × List ℕ)
 files_below folder = []
 
--- whether they stay as they are
+-- Returns whether these files stay unchanged.
 pub are_steady : (folder : List ℕ) → Bool
 are_steady folder = false
 

@@ -1,14 +1,14 @@
--- How a call of devices ends, and what it counts.
+-- Defines how a call of a device ends, and what it counts.
 use Rattle.std.specs.Prelude.{ℕ, ◌+◌, ◌^◌, ◌<◌, Bool, true, false, Result, Ok, Err}
 use Rattle.ports.specs.declared.fault.DeviceFault.{DeviceFault}
 
--- how a call ended: with all that it was to do, at a device that failed, or before its end for another reason
+-- A call did everything (`Whole`), its device failed (`Failed`), or it ended early for another reason (`Short`).
 pub data Ending : Type 0 where
   Whole : Ending
   Failed : Ending
   Short : Ending
 
--- how a call ended whose one error is that of a device
+-- Returns the ending of a call whose only error is that of a device.
 abbrev pub ended : {T : Type 0} → Result T DeviceFault → Ending
 ended (Ok x) = Whole
 ended (Err e) = Failed
@@ -18,12 +18,12 @@ is_whole Whole = true
 is_whole Failed = false
 is_whole Short = false
 
--- the count of a device's failures after a call that ended so
+-- Returns the count of a device's failures after a call with this ending.
 abbrev pub failures_after : ℕ → Ending → ℕ
 failures_after n Whole = n
 failures_after n Failed = n + 1
 failures_after n Short = n
 
--- one failure more can be counted: what each call of a device asks
+-- One more failure can be counted. Each call of a device requires it.
 abbrev pub HasRoom : ℕ → Type 0
 HasRoom failures = failures + 1 < 2 ^ 64

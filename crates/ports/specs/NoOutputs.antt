@@ -1,4 +1,4 @@
--- What outputs that keep nothing are seen as: they tell nothing.
+-- Defines how contracts see outputs that keep nothing: they do not tell.
 use Rattle.std.specs.Prelude.{ℕ, false, [], Option, String, option_map, string_bytes}
 use Rattle.std.specs.Global.{Global}
 use Rattle.ports.specs.Outputs.{OutputState}

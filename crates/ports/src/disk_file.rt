@@ -1,4 +1,4 @@
-//! A file of a disk that is written beside its place, and put there when it is whole.
+//! Writes a file of a disk under a temporary name, and renames it to its path when it is whole.
 ghost use Rattle.std.specs.Prelude.{◌≡◌, IfOk, string_bytes};
 
 use crate::disk_folder::DiskFolder;
@@ -8,17 +8,17 @@ use std::io::{BufWriter, ErrorKind, Read, Write};
 use std::rt::Files;
 use std::{fs, io};
 
-// How many bytes of an output wait at most, and how many of two files are compared at once.
+// The size in bytes of the buffer of an output, and of the buffers with which two files are compared.
 const BUFFER: usize = 65_536;
 
-/// An output that is being written.
+/// Holds an output that is being written.
 #[derive(Drop)]
 pub(crate) struct DiskOutput<W: Write + Drop> {
     pub(crate) paths: Paths,
     pub(crate) file: BufWriter<W>,
 }
 
-/// An output's name, its whole path, and that of the file that is written until it is whole.
+/// Holds an output's name, its whole path, and the path of the temporary file that is written until it is whole.
 #[derive(Drop)]
 pub(crate) struct Paths {
     pub(crate) name: String,
@@ -26,7 +26,7 @@ pub(crate) struct Paths {
     beside: String,
 }
 
-// The path of the file beside this place. It ends in what no output's name can have: `|` means something else in a `build.ninja`.
+// Returns the path of the temporary file. Its ending `|new` is in no output's name, because `|` has another meaning in a `build.ninja`.
 fn beside(place: &String) -> Result<String, AllocError> {
     let mut beside = place.clone()?;
     beside.push_str("|new")?;
@@ -49,7 +49,7 @@ fn paths_of<R: Files<File = File>>(
     })
 }
 
-// Makes the file anew. What stands there, as what an earlier run left or a link, is taken away and not followed.
+// Makes a new file. Whatever has the path, such as a file of an earlier run or a link, is removed and not followed.
 fn make_file<R: Files>(files: &R, path: &str) -> io::Result<R::File> {
     match fs::remove_file(files, path) {
         Err(error) if error.kind() != ErrorKind::NotFound => return Err(error),
@@ -58,7 +58,7 @@ fn make_file<R: Files>(files: &R, path: &str) -> io::Result<R::File> {
     File::create_new(files, path)
 }
 
-// Makes the folders that an output of these paths needs, and begins the file beside its place.
+// Makes the folders that an output of these paths needs, and begins its temporary file.
 fn begin_file<R: Files<File = File>>(
     disk: &DiskFolder<'_, R>,
     paths: &Paths,
@@ -68,7 +68,7 @@ fn begin_file<R: Files<File = File>>(
     BufWriter::with_capacity(disk.alloc, BUFFER, file)
 }
 
-/// Begins the output of this name.
+/// Begins the output of this name, below the folder.
 pub(crate) fn begin_output<R: Files<File = File>>(
     disk: &DiskFolder<'_, R>,
     name: &str,
@@ -80,7 +80,7 @@ pub(crate) fn begin_output<R: Files<File = File>>(
     Ok(DiskOutput { paths, file })
 }
 
-// Whether two readers have the same bytes left, read into these buffers of one length.
+// Returns whether two readers have the same bytes left. Both buffers have the same length.
 fn have_same_bytes<A: Read, B: Read>(
     left: &mut A,
     right: &mut B,
@@ -103,20 +103,20 @@ fn have_same_bytes<A: Read, B: Read>(
     Ok(false)
 }
 
-// Whether two files have the same bytes.
+// Returns whether two files have the same bytes.
 fn are_equal<A: Read, B: Read>(alloc: Global, left: &mut A, right: &mut B) -> io::Result<bool> {
     let mut here = vec![in alloc; 0; BUFFER]?;
     let mut there = vec![in alloc; 0; BUFFER]?;
     have_same_bytes(left, right, &mut here, &mut there)
 }
 
-// Whether the first path is a file, and no link, as long as what has the second.
+// Returns whether `left` is a file, and not a link, with the same size as the file at `right`.
 fn have_same_size<R: Files>(files: &R, left: &str, right: &str) -> io::Result<bool> {
     let old = fs::symlink_metadata(files, left)?;
     Ok(old.is_file() && old.len() == fs::metadata(files, right)?.len())
 }
 
-// Whether both paths are files, and no links, with the same bytes.
+// Returns whether `left` is a file, and not a link, with the same bytes as the file at `right`.
 fn are_same_files<R: Files>(files: &R, alloc: Global, left: &str, right: &str) -> io::Result<bool> {
     if !have_same_size(files, left, right)? {
         return Ok(false);
@@ -126,14 +126,13 @@ fn are_same_files<R: Files>(files: &R, alloc: Global, left: &str, right: &str) -
     are_equal(alloc, &mut left, &mut right)
 }
 
-// Whether a run waits until the disk has the bytes of the output of this name. A wait for each generated header would make a run many
-// times as long.
+// Returns whether the output of this name is synced to the disk. Syncing each generated header would make a run many times as long.
 fn is_synced(name: &str) -> bool {
     matches!(name, "build.ninja" | "meson-info/introspect.json")
 }
 
-/// Writes out what waits for the output and renames it to its place. `build.ninja` and the introspection document are synced first. An
-/// old file that has the same bytes stays.
+/// Flushes the output and renames it to its path. `build.ninja` and the introspection document are synced first. If the old file has the
+/// same bytes, it stays instead.
 pub(crate) fn finish_output<R: Files<File = File>>(
     disk: &DiskFolder<'_, R>,
     output: &mut DiskOutput<File>,
@@ -152,7 +151,7 @@ pub(crate) fn finish_output<R: Files<File = File>>(
     fs::rename(disk.files, beside, place)
 }
 
-/// Removes what was written of an output that is given up. The file in its place stays.
+/// Removes the temporary file of an output that is given up. The file at the output's own path stays.
 pub(crate) fn remove_output<R: Files<File = File>>(
     disk: &DiskFolder<'_, R>,
     output: &DiskOutput<File>,

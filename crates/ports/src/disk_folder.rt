@@ -1,4 +1,4 @@
-//! The folder of a disk that outputs go to.
+//! Makes and locks the folder of a disk that outputs go to.
 
 use crate::disk_tree::{is_absent, join};
 use std::alloc::{AllocError, Global};
@@ -7,27 +7,27 @@ use std::io::{ErrorKind, Write};
 use std::rt::Files;
 use std::{fs, io};
 
-/// The folder that outputs go to, and the runs at work in it.
+/// Holds the folder that outputs go to, and the lock that keeps other runs out of it.
 ///
-/// What stands below the root may come from a stranger, so no link there is followed: a folder on the way to an output that is none, as
-/// a link to one, is refused.
+/// A stranger may have written what is below the root, so no link there is followed. If a folder on the way to an output is a link or no
+/// folder, the call fails.
 #[derive(Drop)]
 pub(crate) struct DiskFolder<'a, R: Files<File = File>> {
     pub(crate) files: &'a R,
     pub(crate) alloc: Global,
-    // the folder that is trusted, and the one below it, by its parts
+    // The trusted folder, and the path of the output folder below it.
     root: String,
     folder: String,
-    // the folder, opened and locked, from the first output on
+    // The folder, opened and locked, from the first output on.
     lock: Option<File>,
 }
 
-// Whether this is a folder, and no link to one.
+// Returns whether the path is a folder, and not a link to one.
 fn is_folder<R: Files>(files: &R, path: &str) -> io::Result<bool> {
     Ok(fs::symlink_metadata(files, path)?.is_dir())
 }
 
-// Makes this folder, where it isn't there. What else is there is refused.
+// Makes a folder, unless there is one. Fails if something else has the path.
 fn make_folder<R: Files>(files: &R, path: &str) -> io::Result<()> {
     match fs::create_dir(files, path) {
         Err(error) if error.kind() == ErrorKind::AlreadyExists => match is_folder(files, path) {
@@ -39,14 +39,14 @@ fn make_folder<R: Files>(files: &R, path: &str) -> io::Result<()> {
     }
 }
 
-// Makes the folder that this part names below the path, and goes there.
+// Appends this part to the path and makes that folder.
 fn make_next<R: Files>(files: &R, path: &mut String, part: &str) -> io::Result<()> {
     path.push_str("/")?;
     path.push_str(part)?;
     make_folder(files, path.as_str())
 }
 
-// Makes the folders that these parts name, one below the other, below this one.
+// Makes the folders that these parts name below `root`, each below the one before.
 fn make_folders<R: Files>(files: &R, alloc: Global, root: &str, parts: &str) -> io::Result<()> {
     let mut path = String::from_str(alloc, root)?;
     for part in parts.split('/') {
@@ -55,7 +55,7 @@ fn make_folders<R: Files>(files: &R, alloc: Global, root: &str, parts: &str) -> 
     Ok(())
 }
 
-// Opens the folder and locks it, or answers none where another run has.
+// Opens the folder and locks it. Returns `None` if another run has locked it.
 fn lock_folder<R: Files<File = File>>(files: &R, path: &str) -> io::Result<Option<File>> {
     let opened = fs::open(files, path)?;
     match opened.try_lock() {
@@ -65,7 +65,7 @@ fn lock_folder<R: Files<File = File>>(files: &R, path: &str) -> io::Result<Optio
     }
 }
 
-// Says that another run has the folder, which is an error.
+// Reports that another run has locked the folder, and returns an error.
 fn refuse_another_run<F: Write>(folder: &str, faults: &mut F) -> io::Result<()> {
     faults.write_all(b"meson: another run is at work in ")?;
     faults.write_all(folder.as_bytes())?;
@@ -75,7 +75,7 @@ fn refuse_another_run<F: Write>(folder: &str, faults: &mut F) -> io::Result<()> 
 }
 
 impl<'a, R: Files<File = File>> DiskFolder<'a, R> {
-    /// The folder of these parts below this root. Nothing is made yet.
+    /// Returns the folder `folder` below `root`. Nothing is made yet.
     pub(crate) fn new(files: &'a R, alloc: Global, root: String, folder: String) -> Self {
         DiskFolder {
             files,
@@ -86,18 +86,18 @@ impl<'a, R: Files<File = File>> DiskFolder<'a, R> {
         }
     }
 
-    // The whole path of the folder.
+    // Returns the whole path of the folder.
     fn path(&self) -> Result<String, AllocError> {
         join(self.alloc, self.root.as_str(), self.folder.as_str())
     }
 
-    /// The whole path of what has this path below the folder.
+    /// Returns the whole path of `path` below the folder.
     pub(crate) fn whole(&self, path: &str) -> Result<String, AllocError> {
         let folder = self.path()?;
         join(self.alloc, folder.as_str(), path)
     }
 
-    /// Has the folder for this run alone from now on, where it is there.
+    /// Locks the folder for this run, if it exists. Fails, with a fault line, if another run has locked it.
     pub(crate) fn claim<F: Write>(&mut self, faults: &mut F) -> io::Result<()> {
         let path = self.path()?;
         match is_folder(self.files, path.as_str()) {
@@ -108,7 +108,7 @@ impl<'a, R: Files<File = File>> DiskFolder<'a, R> {
         }
     }
 
-    // Makes the folder, opens it and locks it, or answers none where another run has.
+    // Makes the folder, opens it and locks it. Returns `None` if another run has locked it.
     fn make_and_lock(&self) -> io::Result<Option<File>> {
         make_folders(
             self.files,
@@ -120,7 +120,7 @@ impl<'a, R: Files<File = File>> DiskFolder<'a, R> {
         lock_folder(self.files, path.as_str())
     }
 
-    /// Makes the folder and has it for this run alone, where it hasn't yet. Where another run has it, that is said, and it is an error.
+    /// Makes the folder and locks it for this run, unless this run has it already. Fails, with a fault line, if another run has locked it.
     pub(crate) fn take<F: Write>(&mut self, faults: &mut F) -> io::Result<()> {
         if self.lock.is_some() {
             return Ok(());

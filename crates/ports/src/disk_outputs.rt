@@ -11,23 +11,23 @@ use std::io;
 use std::io::{BufWriter, Write};
 use std::rt::Files;
 
-// How many bytes of the log or of fault lines wait for the end of their line at most.
+// The size in bytes of the buffers of the log and of fault lines, which hold a line until its end.
 const LINE_BUFFER: usize = 1024;
 
-/// Outputs as files below a folder, with a log and a place for fault lines. Nothing is said of what they hold.
+/// Writes outputs as files below a folder, and keeps a log and a stream of fault lines. Its contracts say nothing of the bytes on the disk.
 ///
-/// An output is written beside its place, as `NAME|new`, which no output can be named, and `close` renames it to its place once the
-/// disk has taken its bytes. So an old file of that name stays as it was until the new one is whole, also where a device fails or the
-/// program is killed. Where the old file has the same bytes it stays, with its time. What stands beside is taken away, and no link is
-/// followed: where a folder on the way from the root is a link, that is a device fault.
+/// An output is written as `NAME|new`, a name that no output can have. `close` renames it to `NAME` once the disk has taken its bytes. So
+/// an old `NAME` stays unchanged until the new one is whole, even if a device fails or the program is killed. An old file with the same
+/// bytes stays, and keeps its time. Whatever has the name `NAME|new` is removed. No link is followed: if a folder on the way from the root
+/// is a link, the call returns a device fault.
 ///
-/// The folder is locked for as long as the outputs are there, by `claim` or by the first `open`, which makes it. Where another run has
-/// it, that is said among the fault lines, and is a device fault.
+/// The folder stays locked as long as the outputs exist. `claim` locks it, or the first `open`, which makes it. If another run has locked
+/// it, a fault line says so, and the call returns a device fault.
 ///
-/// `open` makes the folders that an output needs, and gives up one that was open. What is put waits in a buffer, which is written out as
-/// it fills, at `close`, and before another output is begun or a fault's bytes are taken: where that fails, the call answers a device
-/// fault. A line of the log or of a fault is written out at its end, and the one before anything of the other, so a user sees both in
-/// their order. Want of memory in a call is a device fault.
+/// `open` makes the folders that an output needs, and gives up an output that was open. A buffer holds what is put. It is written out when
+/// it is full, at `close`, before another output is begun, and before a fault's bytes are taken. If that fails, the call returns a device
+/// fault. A line of the log or of a fault is written out at its end, after everything before it, so a user sees both in order. A call that
+/// runs out of memory returns a device fault.
 #[derive(Drop)]
 pub struct DiskOutputs<'a, R: Files<File = File>, L: Write + Drop, F: Write + Drop> {
     disk: DiskFolder<'a, R>,
@@ -37,14 +37,14 @@ pub struct DiskOutputs<'a, R: Files<File = File>, L: Write + Drop, F: Write + Dr
     failures: u64,
 }
 
-/// Where outputs go: a folder that is trusted, by its whole path, and the folder below it, by its parts.
+/// Says where outputs go: `root` is the whole path of a trusted folder, `folder` the path of the output folder below it.
 #[derive(Drop)]
 pub struct OutputPlace {
     pub root: String,
     pub folder: String,
 }
 
-// Writes out what waits for the open output, if one is open.
+// Flushes the open output, if there is one.
 fn flush_output<W: Write + Drop>(current: &mut Option<DiskOutput<W>>) -> io::Result<()>
     ensures { option_map name_of current.new ≡ option_map name_of current.old }
 {
@@ -54,7 +54,7 @@ fn flush_output<W: Write + Drop>(current: &mut Option<DiskOutput<W>>) -> io::Res
     }
 }
 
-// Begins the output of this name, after what waits for the open one is written out.
+// Flushes the open output, then begins the output of this name.
 fn make_output<R: Files<File = File>, F: Write>(
     disk: &mut DiskFolder<'_, R>,
     faults: &mut F,
@@ -69,7 +69,7 @@ fn make_output<R: Files<File = File>, F: Write>(
     begin_output(disk, name)
 }
 
-// Ends the open output, if one is open.
+// Finishes the open output, if there is one.
 fn end_output<R: Files<File = File>>(
     disk: &DiskFolder<'_, R>,
     current: &mut Option<DiskOutput<File>>,
@@ -82,7 +82,7 @@ fn end_output<R: Files<File = File>>(
     }
 }
 
-// Writes some of these bytes.
+// Writes the first of these bytes, at least one if there are any, and returns how many.
 fn write_some<W: Write>(writer: &mut W, bytes: &[u8]) -> Result<usize, DeviceFault>
     ensures within { IfOk result (λ n. n ≤ length bytes.now) }
     ensures some { IfOk result (λ n. 0 < length bytes.now → 0 < n) }
@@ -96,7 +96,7 @@ fn write_some<W: Write>(writer: &mut W, bytes: &[u8]) -> Result<usize, DeviceFau
     }
 }
 
-// Writes some of these bytes into the open output.
+// Writes the first of these bytes into the open output, and returns how many. Fails if no output is open.
 fn write_output<W: Write + Drop>(
     current: &mut Option<DiskOutput<W>>,
     bytes: &[u8],
@@ -111,7 +111,7 @@ fn write_output<W: Write + Drop>(
     }
 }
 
-// Writes some of these bytes of a line, and all that waits where they end it. What waits of the other lines goes first.
+// Writes the first of these bytes of a line, and flushes the writer after the end of the line. The other stream's bytes are flushed first.
 fn write_line<V: Write, W: Write>(
     others: &mut V,
     writer: &mut W,
@@ -130,7 +130,7 @@ fn write_line<V: Write, W: Write>(
     Ok(count)
 }
 
-// Writes some of these bytes of a fault's line, after all that waits for the open output and for the log.
+// Writes the first of these bytes of a fault's line, after flushing the open output and the log.
 fn write_fault<W: Write + Drop, L: Write, F: Write>(
     current: &mut Option<DiskOutput<W>>,
     log: &mut L,
@@ -148,7 +148,10 @@ fn write_fault<W: Write + Drop, L: Write, F: Write>(
 }
 
 impl<'a, R: Files<File = File>, L: Write + Drop, F: Write + Drop> DiskOutputs<'a, R, L, F> {
-    /// Outputs as files below this place, with this log and this place for fault lines. Nothing is made before the first is begun.
+    /// Returns outputs as files below `place`, with this log and this stream of fault lines. The file system stays unchanged until the
+    /// first `open`.
+    ///
+    /// Fails if no memory is left for the buffers of both streams.
     pub fn new(
         files: &'a R,
         alloc: Global,
@@ -175,16 +178,16 @@ impl<'a, R: Files<File = File>, L: Write + Drop, F: Write + Drop> DiskOutputs<'a
         })
     }
 
-    /// Has the folder for this run alone from now on, where it is there; else the first `open` makes it and has it then. An error where
-    /// another run has it, which is said among the fault lines, or where it can't be locked.
+    /// Locks the folder for this run, if it exists. Otherwise the first `open` makes and locks it.
+    ///
+    /// Fails if another run has locked the folder, which a fault line says, or if it can't be locked.
     pub fn claim(&mut self) -> io::Result<()>
         ensures { ⟦<DiskOutputs<'a, R, L, F> as Outputs>⟧.seen self.new ≡ ⟦<DiskOutputs<'a, R, L, F> as Outputs>⟧.seen self.old }
     {
         self.disk.claim(&mut self.faults)
     }
 
-    /// Removes what was written of the open output, if one is open, from the folder. A run that ends before an output is whole calls this
-    /// last.
+    /// Removes the temporary file of the open output, if one is open. A run that ends before an output is whole calls this last.
     pub fn clean_up(&self) -> io::Result<()> {
         match &self.current {
             Some(output) => remove_output(&self.disk, output),

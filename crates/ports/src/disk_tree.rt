@@ -7,40 +7,40 @@ use std::io::{ErrorKind, Read, Seek, SeekFrom};
 use std::rt::Files;
 use std::{fs, io};
 
-/// The files of a folder, by their paths below it. Nothing is said of their bytes.
+/// Reads the files of a folder of a disk, by their paths below it. Its contracts say nothing of their bytes.
 ///
-/// The file that is being read stays open from one call of `read_at` to the next; `size` looks at the folder anew, but for the file that
-/// its last call found. A file of which `size` has just told the size is opened without a further look. What is no file, as a folder, and
-/// what no file can be named are absent. Want of memory in a call is a device fault.
+/// The file that is being read stays open from one call of `read_at` to the next. `size` looks at the disk again, except for the file that
+/// its last call found, and such a file is opened without another look. Something that is no file, such as a folder, is absent, and so is a
+/// path that no file can have. A call that runs out of memory returns a device fault.
 #[derive(Drop)]
 pub struct DiskTree<'a, R: Files> {
     files: &'a R,
     alloc: Global,
     folder: String,
-    // what `size` looked at in the last call
+    // What `size` looked at in its last call.
     last: Look,
-    // the file that was read last
+    // The file that was read last.
     current: Option<OpenFile<R::File>>,
     failures: u64,
 }
 
-// What was looked at, by its whole path, and the size of the file that was found there. The next look takes the room of this path.
+// Holds the whole path that was looked at, and the size of the file there. The next look reuses the memory of this path.
 #[derive(Drop)]
 struct Look {
     whole: String,
     size: Option<u64>,
 }
 
-// A file that is being read.
+// Holds a file that is being read.
 #[derive(Drop)]
 struct OpenFile<F: Drop> {
     path: String,
     file: F,
-    // the place in it that the next read begins at
+    // The position in the file at which the next read begins.
     place: u64,
 }
 
-// A path below a folder.
+// Returns the path `path` below `folder`.
 pub(crate) fn join(alloc: Global, folder: &str, path: &str) -> Result<String, AllocError> {
     let mut whole = String::with_capacity(alloc, folder.len() + 1 + path.len())?;
     whole.push_str(folder)?;
@@ -49,8 +49,8 @@ pub(crate) fn join(alloc: Global, folder: &str, path: &str) -> Result<String, Al
     Ok(whole)
 }
 
-// Whether this error says that no file has the path: the path ends at nothing or goes through a file, or has a NUL or a part that
-// is longer than any file's name.
+// Returns whether this error says that no file has the path. The path may not exist, lead through a file, contain a NUL, or have a part
+// that is too long for a file name.
 pub(crate) fn is_absent(error: &io::Error) -> bool {
     matches!(
         error.kind(),
@@ -61,7 +61,7 @@ pub(crate) fn is_absent(error: &io::Error) -> bool {
     )
 }
 
-// How many bytes the file at this whole path has, if there is one.
+// Returns the size in bytes of the file at this whole path, or `None` if there is no file.
 fn file_size<R: Files>(files: &R, whole: &str) -> io::Result<Option<u64>> {
     match fs::metadata(files, whole) {
         Ok(found) if found.is_file() => Ok(Some(found.len())),
@@ -71,7 +71,7 @@ fn file_size<R: Files>(files: &R, whole: &str) -> io::Result<Option<u64>> {
     }
 }
 
-// Whether the whole path is that of a path below a folder.
+// Returns whether `whole` is `path` below `folder`.
 fn is_at(whole: &str, folder: &str, path: &str) -> bool {
     let Some(below) = whole.strip_prefix(folder) else {
         return false;
@@ -83,7 +83,7 @@ fn is_at(whole: &str, folder: &str, path: &str) -> bool {
 }
 
 impl Look {
-    // Looks at this path, unless a file was found there in the last call, and answers the size of the file, if there is one.
+    // Looks at this path, unless the last call found a file there, and returns the size of the file, or `None` if there is no file.
     fn at<R: Files>(&mut self, files: &R, folder: &str, path: &str) -> io::Result<Option<u64>> {
         if self.size.is_some() && is_at(self.whole.as_str(), folder, path) {
             return Ok(self.size);
@@ -98,7 +98,7 @@ impl Look {
     }
 }
 
-// Opens the file at this path, if there is one: there is where one was found.
+// Opens the file at this path. Returns `None` if there is no file.
 fn open_file<R: Files>(
     files: &R,
     alloc: Global,
@@ -120,7 +120,7 @@ fn open_file<R: Files>(
 }
 
 impl<F: Read + Seek + Drop> OpenFile<F> {
-    // Reads some bytes from this place on.
+    // Reads bytes from position `at` on into the buffer, and returns how many.
     fn read_part(&mut self, at: u64, buf: &mut [u8]) -> io::Result<usize>
         ensures { IfOk result (λ n. n ≤ length buf.old) }
     {
@@ -134,7 +134,7 @@ impl<F: Read + Seek + Drop> OpenFile<F> {
 }
 
 impl<'a, R: Files> DiskTree<'a, R> {
-    /// The files below this folder.
+    /// Returns the tree of the files below this folder. Nothing is read yet.
     pub fn new(files: &'a R, alloc: Global, folder: String) -> Self
         ensures { (⟦<DiskTree<'a, R> as Tree>⟧.seen result).failures ≡ 0 }
     {

@@ -1,6 +1,6 @@
 use thiserror::Error;
 
-/// A device could not do what it was asked to: the one error of all calls of devices.
+/// Reports that a device could not do what it was asked to do. All calls of devices have this one error.
 #[derive(Clone, Copy, Debug, PartialEq, Eq, Error)]
 #[error("device fault")]
 pub struct DeviceFault;

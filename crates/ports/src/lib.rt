@@ -1,50 +1,51 @@
-//! What a run is lent: a tree of files to read and outputs to write, on a disk.
+//! Defines the devices of a run: a tree of files to read and outputs to write, on a disk or in memory.
 //!
-//! A device is a value of a type that is a [`Tree`] or [`Outputs`]. The calls of a device have one error, [`DeviceFault`], and each
-//! device counts its own: [`Tree::failures`] and [`Outputs::failures`]. So a caller, and a theorem about it, can tell whether a device
-//! failed.
+//! A device is a value of a type that implements [`Tree`] or [`Outputs`]. The calls of a device have one error, [`DeviceFault`], and each
+//! device counts its own errors: [`Tree::failures`] and [`Outputs::failures`]. So a caller, and a theorem about it, can find out whether a
+//! device failed.
 //!
-//! Contracts see a device as plain data. A tree is seen as its files, the count of its failures and whether it is *steady*: while it
-//! is, each call answers from the files and leaves them as they are. Outputs are seen as the list of their *events*, the name of the
-//! open output, the count of their failures and whether they *tell*: while they do, each call adds to the list what its answer says.
-//! Devices in memory, which tests are lent, are always steady and always tell. Of a disk no program knows either, so for [`DiskTree`] and
-//! [`DiskOutputs`] both are closed: nothing states them, and nothing denies them. What is proved of the bytes holds of a disk of which the
-//! user knows that nobody writes the files meanwhile, and that it takes what it says it took.
+//! Contracts see a device as plain data. A tree is its files, the count of its failures, and whether it is *steady*. Each call of a steady
+//! tree answers from the files and leaves them unchanged. Outputs are the list of their *events*, the name of the open output, the count of
+//! their failures, and whether they *tell*. Each call of outputs that tell adds to the list what its result says.
 //!
-//! An *event* is one byte of an output, of the log or of a fault's line, or that an output was begun or ended. Outputs, log and
-//! fault lines share one list, so it has their order. What a call writes is stated as a list of *steps*, which are events without the
-//! output's name: the run of a function is the runs of its calls, one behind the other, whatever is open. The steps become events by
-//! the name that is open before them.
+//! Devices in memory, which tests use, are always steady and always tell. No program can know either of a disk. For [`DiskTree`] and
+//! [`DiskOutputs`] both are therefore closed: no contract states them or denies them. What is proved of bytes holds for a disk if nobody
+//! writes the files during the run, and if it stores what it accepts. Only the user can know that.
+//!
+//! An *event* is one byte of an output, of the log or of a fault's line, or the opening or closing of an output. Outputs, log and fault
+//! lines share one list, so it keeps their order. Contracts describe what a call writes as a list of *steps*, which are events without the
+//! output's name. The steps of a function are those of its calls, one after the other, whatever is open. The name that is open before them
+//! turns steps into events.
 //!
 //! ```text
-//! Sends old new run whole       of the run the steps `sent` were taken: all of it where `whole` is true, else a beginning
-//! Took old steps ending new     one call of a device: exactly these steps were taken, and a failure counted where `ending` says so
-//! Writes old run ending new     a call that writes: it sends the run, counts its failure, and what was open is open still
+//! Sends old new run whole       the outputs took all steps of the run if `whole` is true, else a beginning of them
+//! Took old steps ending new     one call of a device: it took exactly these steps, and counted a failure if `ending` says so
+//! Writes old run ending new     a call that writes: it sends the run, counts its failure, and leaves the same output open
 //! Makes old run ending new      a call that also opens and closes outputs: it sends the run, and counts its failure
-//! Asks old ending new           a call of a tree: a steady one stays as it is, and a failure is counted
+//! Asks old ending new           a call of a tree: a steady tree stays as it is, and a failure is counted
 //! ```
 //!
-//! An ending is `Whole`, `Failed` (the device counted one failure more) or `Short` (another reason ended the call, as want of memory);
-//! `ended result` is that of a result whose one error is a device's. What a call asks is `HasRoom`, that one failure more can be
-//! counted, and `IsOpen` where it writes into an output.
+//! An ending is `Whole`, `Failed` (the device counted one more failure) or `Short` (another reason ended the call, such as a lack of
+//! memory). `ended result` is the ending of a result whose one error is a device's. A call requires `HasRoom`: one more failure can be
+//! counted. It requires `IsOpen` if it writes into an output.
 //!
-//! [`put_all`], [`log_all`] and [`fault_all`] are the calls to write with. Their run is one step a byte.
+//! [`put_all`], [`log_all`] and [`fault_all`] write whole slices. They take one step for each byte.
 //!
 //! # Decisions
 //!
-//! **What a disk does where the rules are silent.** A path that goes through a file, one with a NUL byte and one that is too long are
-//! absent, not failures. Reading a file that is not there gives no bytes. [`DiskOutputs`] writes an output's bytes out when its buffer is
-//! full, at `close`, and before the next output is begun or a fault is told, and takes the buffers of log and fault lines when it is made.
-//! So a run that a template's fault ends has status 2 where the bytes in front of the fault can't be written. A line of the log and one of
-//! a fault are written out at their ends, each after the other stream's, so that a user sees them in order.
+//! **What a disk does where the rules are silent.** Three kinds of path are absent, not failures: one that leads through a file, one with a
+//! NUL byte and one that is too long. Reading a file that does not exist gives no bytes. [`DiskOutputs`] flushes an output when its buffer
+//! is full, at `close`, and before the next output is begun or a fault is reported. It allocates the buffers of log and fault lines when it
+//! is made. So a run that a template's fault ends has status 2 if the bytes before the fault can't be written. A line of the log and a line
+//! of a fault are flushed at their ends, each after the other stream, so that a user sees them in order.
 //!
-//! **An output is whole or it isn't there.** An output is written beside its place, under a name that no output can have (`|` is refused
-//! in the paths of a `build.ninja`). Before it is renamed it is compared with the old one where both are as long: a file with the same
-//! bytes keeps its time. Where the comparison fails for any reason the file is synced and renamed.
+//! **An output is whole or absent.** An output is written under a name that no output can have (`|` is refused in the paths of a
+//! `build.ninja`). If the old file has the same size, both are compared before the new one is renamed: a file with the same bytes keeps its
+//! time. If the comparison fails for any reason, the file is synced and renamed.
 //!
-//! **Nothing below the root is trusted.** What stands beside an output is taken away and the file made new, so that no link there is
-//! followed; a folder on the way that is a link is refused. What changes the folders while the program runs is not kept out: the library
-//! has no calls that go from folder to folder.
+//! **Nothing below the root is trusted.** Whatever has the temporary name of an output is removed and the file made anew, so no link there
+//! is followed. A folder on the way that is a link is refused. A program that changes the folders during the run is not kept out, because
+//! the standard library has no calls relative to an open folder.
 #![tactic(auto)]
 
 mod disk_file;

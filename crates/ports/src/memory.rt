@@ -1,13 +1,13 @@
-//! Devices in memory: a tree of files that are given, and outputs that keep each event. They are for tests, for measures, and for runs of a
-//! project without a disk. The program uses disks.
+//! Provides devices in memory: a tree of given files, and outputs that keep each event. They are for tests, for measurements, and for runs
+//! of a project without a disk. The program uses disks.
 //!
-//! Each can be told to take a few bytes a call, and to fail once, so that a test sees short calls and failures. Contracts see them as any
-//! device of `ports`: [`MemTree`] is always steady, and [`MemOutputs`] always tell.
+//! A plan lets each take a few bytes a call and fail once, so that a test sees short calls and failures. Contracts see them as any device
+//! of `ports`: [`MemTree`] is always steady, and [`MemOutputs`] always tell.
 //!
 //! # Decisions
 //!
-//! **A device in memory states its plan, not its moment.** `with_plan` and `only` state what is planned. Which call then fails is stated
-//! on private functions and shown by tests: the traits' clauses let any call fail, and a caller has to reckon with that.
+//! **A device in memory states its plan, not its progress.** `with_plan` and `only` state what is planned. Private functions state which
+//! call then fails, and tests show it. The clauses of the traits let any call fail, and a caller has to expect that.
 
 mod event;
 mod outputs;

@@ -1,4 +1,4 @@
-//! Outputs that keep nothing.
+//! Provides outputs that keep nothing.
 ghost use Rattle.std.specs.Prelude.{◌≡◌, None};
 ghost use Rattle.ports.specs.NoOutputs.{untold};
 
@@ -6,8 +6,8 @@ use crate::fault::DeviceFault;
 use crate::outputs::Outputs;
 use std::alloc::Global;
 
-/// Outputs that take all and keep nothing but the name of the open one, for a run of which only something else is wanted. A call fails
-/// only where there is no memory for that name.
+/// Accepts all outputs and keeps only the name of the open one. It serves runs of which something other than the outputs is wanted. A call
+/// fails only if no memory is left for that name.
 #[derive(Drop)]
 pub struct NoOutputs {
     alloc: Global,
@@ -16,7 +16,7 @@ pub struct NoOutputs {
 }
 
 impl NoOutputs {
-    /// Outputs of which none is open.
+    /// Returns outputs of which none is open.
     pub fn new(alloc: Global) -> NoOutputs
         ensures { ⟦<NoOutputs as Outputs>⟧.seen result ≡ untold None 0 }
     {

@@ -4,32 +4,31 @@ ghost use Rattle.ports.specs.Outputs.{OutputState, IsOpen, Took, puts, logs, fau
 
 use crate::DeviceFault;
 
-/// What a run writes to: outputs with names, of which one at most is open, a log, and a place for fault lines.
+/// Takes what a run writes: outputs with names, of which at most one is open, a log, and fault lines.
 ///
-/// They are seen as the list of the events that they took; the name of the open output, if one is open; the count of their failures;
-/// and whether they tell. While outputs tell, each call appends to the list what its answer says: `Ok(n)` the first `n` bytes, a
-/// device fault nothing. What the calls say of events holds of outputs that tell, and no call ends that; the rest, with the open
-/// name, holds of all outputs.
+/// Contracts see outputs as the list of the events that they took, the name of the open output, if any, the count of their failures, and
+/// whether they tell. While outputs tell, each call appends what its result says: `Ok(n)` the first `n` bytes, a device fault nothing. What
+/// the calls say of events holds of outputs that tell, and no call ends that. The rest, with the open name, holds of all outputs.
 pub trait Outputs {
     ghost seen: { Self → OutputState };
 
-    /// How many calls have failed. A device fault adds one to the count, and nothing else changes it. Each call asks that the count
-    /// is below its last value.
+    /// Returns how many calls have failed. A device fault adds one to the count, and nothing else changes it. Each call requires that the
+    /// count is below the greatest `u64`.
     fn failures(&self) -> u64
         ensures { result ≡ (seen self.now).failures };
 
-    /// Begins the output of this name, which is open from then on, in place of one that was open before.
+    /// Opens the output of this name, in place of one that was open before.
     fn open(&mut self, name: &str) -> Result<(), DeviceFault>
         requires { HasRoom (seen self.old).failures }
         ensures took { Took (seen self.old) (if is_ok result then opening name.now else []) (ended result) (seen self.new) }
         ensures is_open { OnOk result (IsOpen (seen self.new)) };
 
-    /// Ends the open output. After a device fault it is still open.
+    /// Closes the open output. After a device fault it is still open.
     fn close(&mut self) -> Result<(), DeviceFault>
         requires { IsOpen (seen self.old) }
         ensures { Took (seen self.old) (if is_ok result then closing else []) (ended result) (seen self.new) };
 
-    /// Takes the first of these bytes into the open output, at least one if there are any, and says how many.
+    /// Takes the first of these bytes into the open output, at least one if there are any, and returns how many.
     fn put(&mut self, bytes: &[u8]) -> Result<usize, DeviceFault>
         requires { IsOpen (seen self.old) }
         ensures within { IfOk result (λ n. n ≤ length bytes.now) }

@@ -5,7 +5,7 @@ ghost use Rattle.ports.specs.Outputs.{IsOpen, Writes, puts, logs, faults};
 
 use crate::{DeviceFault, Outputs};
 
-/// Puts all these bytes into the open output, by as many calls as that takes. At a device fault a beginning of them was taken.
+/// Puts all these bytes into the open output, with as many calls as needed. After a device fault, a beginning of them was taken.
 pub fn put_all<O: Outputs>(out: &mut O, bytes: &[u8]) -> Result<(), DeviceFault>
     requires { IsOpen (O.seen out.old) }
     ensures { Writes (O.seen out.old) (puts bytes.now) (ended result) (O.seen out.new) }

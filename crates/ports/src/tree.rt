@@ -5,30 +5,30 @@ ghost use Rattle.ports.specs.Tree.{TreeState, file_at, bytes_at, Asks, Reads};
 
 use crate::DeviceFault;
 
-/// A tree of files by their paths, as a run reads it. A path has parts divided by `/`, none of them empty, `.` or `..`.
+/// Gives a run the files that it reads, by their paths. A path has parts separated by `/`, none of them empty, `.` or `..`.
 ///
-/// It is seen as its files, a finite map from paths to bytes; the count of its failures; and whether it is `steady`. While a tree is
-/// steady, each call answers from the map, or with a device fault, and leaves the map as it is. What the calls say of bytes and
-/// sizes holds of steady trees; the rest holds of every tree, also of one that answers as it likes.
+/// Contracts see a tree as its files, a finite map from paths to bytes, the count of its failures, and whether it is `steady`. While a tree
+/// is steady, each call answers from the map, or with a device fault, and leaves the map unchanged. What the calls say of bytes and sizes
+/// holds of steady trees. The rest holds of every tree, even of one with arbitrary answers.
 ///
-/// What a call answered is told by `tells_size` and `gives`, also by a tree that is not steady. A function over any tree knows nothing of
-/// these two but what its own calls told, so by them its contract says which calls it made and what they gave (`GivenWhole`).
+/// `tells_size` and `gives` record the answer of a call, also for a tree that is not steady. A function over any tree knows only what its
+/// own calls recorded in them. So its contract can say which calls it made and what they gave (`GivenWhole`).
 pub trait Tree {
     ghost seen: { Self → TreeState };
 
-    // From the first state, a call of `size` for this path told this size, and left the second state.
+    // From the first state, a call of `size` for this path returned this size, and left the second state.
     ghost tells_size: { Self → List ℕ → Option ℕ → Self → Type 0 } = { λ _ _ _ _. ⊤ };
 
-    // From the first state, a call of `read_at` for this path, from this place on and for at most so many bytes, gave these bytes, and
+    // From the first state, a call of `read_at` for this path, from this position on and for at most this many bytes, gave these bytes, and
     // left the second state.
     ghost gives: { Self → List ℕ → ℕ → ℕ → List ℕ → Self → Type 0 } = { λ _ _ _ _ _ _. ⊤ };
 
-    /// How many calls have failed. A device fault adds one to the count, and nothing else changes it. Each call asks that the count
-    /// is below its last value.
+    /// Returns how many calls have failed. A device fault adds one to the count, and nothing else changes it. Each call requires that the
+    /// count is below the greatest `u64`.
     fn failures(&self) -> u64
         ensures { result ≡ (seen self.now).failures };
 
-    /// How many bytes the file at this path has, or none where there is no file.
+    /// Returns the size in bytes of the file at this path, or `None` if there is no file.
     fn size(&mut self, path: &str) -> Result<Option<u64>, DeviceFault>
         requires { HasRoom (seen self.old).failures }
         ensures size { IsTrue (seen self.old).steady
@@ -36,8 +36,8 @@ pub trait Tree {
         ensures tells { IfOk result (λ size. tells_size self.old path.now size self.new) }
         ensures asks { Asks (seen self.old) (ended result) (seen self.new) };
 
-    /// Reads bytes of the file at this path, from the place `at` on, into the front of the buffer, and says how many: at least one
-    /// where some are left and the buffer is not empty. A file that is absent has no bytes.
+    /// Reads bytes of the file at this path, from position `at` on, into the front of the buffer, and returns how many. It reads at least
+    /// one byte if some are left and the buffer is not empty. An absent file has no bytes.
     fn read_at(&mut self, path: &str, at: u64, buf: &mut [u8]) -> Result<usize, DeviceFault>
         requires { HasRoom (seen self.old).failures }
         ensures within { IfOk result (λ n. n ≤ length buf.old) }

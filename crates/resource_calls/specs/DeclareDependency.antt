@@ -1,4 +1,4 @@
--- `declare_dependency`: lists that a target takes over.
+-- Defines `declare_dependency`: lists that a target takes over.
 use Rattle.std.specs.Prelude.{Option, Some}
 use Rattle.arguments.specs.Arguments.{ArgumentsData}
 use Rattle.values.specs.Data.{Data, object}
@@ -12,19 +12,19 @@ use Rattle.resource_calls.specs.NamedFiles.{files_required}
 use Rattle.resource_calls.specs.OwnLists.{OwnData, own_lists}
 use Rattle.world.specs.Here.{here_of}
 
--- what the call lists of its own: E9 of arguments that break a rule
+-- Returns the lists that the call itself gives, and refuses arguments that break a rule with E9.
 unfoldable pub said_lists : ArgumentsData → Deed OwnData
 said_lists a = do
   facts ← read
   passed (own_lists (here_of facts) a)
 
--- the dependency of these lists and those of its dependencies: E22 where one of them is too long
+-- Returns the dependency with these lists and those of its dependencies, and refuses lists that are too long with E22.
 unfoldable pub joined_given : ArgumentsData → OwnData → Deed Dependency
 joined_given a own = do
   facts ← read
   answered (joined_dependency facts.project.surroundings.facts.version (linked_of facts.project.targets) a own)
 
--- `declare_dependency()`: E9; E14 of the first missing source; E22
+-- Defines `declare_dependency()`. Refuses with E9, with E14 for the first missing source, and with E22.
 unfoldable pub declare_dependency : ArgumentsData → Deed (Option Data)
 declare_dependency a = do
   own ← said_lists a

@@ -1,4 +1,4 @@
--- `dependency`: what the machine file has.
+-- Defines `dependency`, which finds dependencies in the machine file.
 use Rattle.std.specs.Prelude.{ℕ, Bool, false, List, [], ◌∷◌, Option, Some, None, codes, Result}
 use Rattle.arguments.specs.Arguments.{ArgumentsData}
 use Rattle.values.specs.Flat.{flat_all}
@@ -19,66 +19,69 @@ use Rattle.resource_calls.specs.Required.{gives_disabler, object_or, required_by
 use Rattle.world.specs.Declaring.{add_dependency}
 use Rattle.world.specs.Deed.{Deed, give, refuse, consult, ◌>>=◌, answered}
 
--- ---- what is noted
+-- ---- what is recorded
 
+-- Returns what is recorded of a dependency.
 abbrev pub answer_of : Dependency → AnswerData
 answer_of d = record { name = d.name; version = d.version; is_found = d.is_found }
 
 -- ---- the call
 
--- the dependency of a name, where the machine file has a section of it whose version meets the conditions of the call
+-- Returns the dependency with a name if the machine file has a section for it and its version meets the conditions of the call.
 unfoldable pub ask_dependency : List ℕ → ArgumentsData → Deed (Option (Result Dependency Refusal))
 ask_dependency name a = do
   answer ← consult (call_question (dependency_topic name) a)
   give (dependency_that_fits (texts (codes "version") a) name answer)
 
--- the same; for the empty name nothing is asked, and there is none
+-- Returns the dependency with a name. For the empty name nothing is asked, and there is none.
 unfoldable pub dependency_named : List ℕ → ArgumentsData → Deed (Option (Result Dependency Refusal))
 dependency_named [] a = give None
 dependency_named (b ∷ name) a = ask_dependency (b ∷ name) a
 
+-- Returns what was found, and otherwise looks further.
 abbrev pub said_or : Option (Result Dependency Refusal) → Deed (Option (Result Dependency Refusal))
     → Deed (Option (Result Dependency Refusal))
 said_or (Some said) others = give (Some said)
 said_or None others = others
 
--- what is said of the first name that fits: names are asked for one after another
+-- Returns what the machine file says of the first name that fits. The names are asked one after another.
 unfoldable pub first_said : ArgumentsData → List (List ℕ) → Deed (Option (Result Dependency Refusal))
 first_said a [] = give None
 first_said a (name ∷ names) = do
   said ← dependency_named name a
   said_or said (first_said a names)
 
--- the same: where a feature is disabled nothing is asked for
+-- Returns what the machine file says of the first name that fits. Nothing is asked if `required` is a disabled feature.
 unfoldable pub fitting_dependency : Requirement → ArgumentsData → Deed (Option (Result Dependency Refusal))
 fitting_dependency requirements.Disabled a = give None
 fitting_dependency _ a = first_said a (flat_all a.positional)
 
--- a dependency is noted and given, or a disabler in its place; E22 where what is said of it is too large
+-- Records a dependency, and returns it or a disabler in its place. Refuses one that is too large with E22.
 unfoldable pub give_noted : Result Dependency Refusal → (is_disabled : Bool) → Deed (Option Data)
 give_noted said is_disabled = do
   d ← answered said
   _ ← add_dependency (answer_of d)
   give (Some (object (object_or (objects.Dependency d) is_disabled)))
 
--- what the machine file says is given
+-- Returns the dependency that the machine file describes.
 unfoldable pub give_found : Result Dependency Refusal → Deed (Option Data)
 give_found said = give_noted said false
 
--- of a dependency that isn't found, the first name is noted; the keyword `disabler` asks for a disabler in its place
+-- Records the first name of a dependency that was not found. Returns a disabler if the keyword `disabler` requests one.
 unfoldable pub give_missing : ArgumentsData → Deed (Option Data)
 give_missing a = give_noted (missing (text_at 0 a)) (gives_disabler a)
 
--- where none of the names fits: E17 of the first name where the dependency is required
+-- Returns the result if no name fits. Refuses with E17 of the first name if the dependency is required.
 unfoldable pub none_fits : Requirement → ArgumentsData → Deed (Option Data)
 none_fits requirements.Required a = refuse refusals.NotFound (text_at 0 a)
 none_fits _ a = give_missing a
 
+-- Returns the dependency that fits, or the result if none fits.
 unfoldable pub give_fitting : ArgumentsData → Option (Result Dependency Refusal) → Deed (Option Data)
 give_fitting a (Some said) = give_found said
 give_fitting a None = none_fits (required_by a) a
 
--- `dependency(names..)`
+-- Defines `dependency(names..)`.
 unfoldable pub dependency : ArgumentsData → Deed (Option Data)
 dependency a = do
   said ← fitting_dependency (required_by a) a

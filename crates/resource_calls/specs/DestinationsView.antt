@@ -1,4 +1,4 @@
--- Folders and files that are installed, without where they lie in memory.
+-- Defines the views of directories and of installed files.
 use Rattle.std.specs.Prelude.{map}
 use Rattle.build.specs.project.View.{install_view}
 use Rattle.named_sources.specs.SourcesView.{named_view}
@@ -7,6 +7,7 @@ use Rattle.resource_calls.specs.Destinations.{FoldersData, SaidData}
 use Rattle.resource_calls.specs.declared.destinations.Folders.{Folders}
 use Rattle.resource_calls.specs.declared.destinations.Said.{Said}
 
+-- Returns the plain data of directories.
 abbrev pub folders_view : Folders → FoldersData
 folders_view f = record {
   here = here_view f.here;
@@ -17,5 +18,6 @@ folders_view f = record {
   project = f.project.now;
 }
 
+-- Returns the plain data of what a call installs.
 abbrev pub said_view : Said → SaidData
 said_view s = record { named = map named_view s.named.items; installs = map install_view s.installs.items }

@@ -1,4 +1,4 @@
--- The dependency that `declare_dependency` gives: its own lists, then those of its dependencies, all within the limits (E22).
+-- Defines the result of `declare_dependency`: its own lists followed by those of its dependencies, all within the limits (E22).
 use Rattle.std.specs.Prelude.{ℕ, true, false, List, [], ◌∷◌, ◌++◌, length, codes, Option, Some, None, option_map, unwrap_or}
 use Rattle.std.specs.Prelude.{Result, Ok}
 use Rattle.arguments.specs.Arguments.{ArgumentsData}
@@ -19,45 +19,48 @@ use Rattle.resource_calls.specs.OwnLists.{OwnData}
 
 -- ---- sources, as a value of the language has them
 
--- how many outputs a target has
+-- Returns how many outputs a target has.
 abbrev pub count_at : List LinkedData → ℕ → ℕ
 count_at earlier number = unwrap_or (option_map length (outputs_at earlier number)) 0
 
+-- Returns a source file, or the refusal if its path is too long.
 abbrev pub tree_source : Path → Result Source Refusal
 tree_source path = do
   p ← within_bytes path
   Ok (source.File p false)
 
+-- Returns the source that is named, or the refusal if its path is too long.
 abbrev pub source_of : List LinkedData → NamedData → Result Source Refusal
 source_of earlier (tree path) = tree_source path
 source_of earlier (built path) = Ok (source.File path true)
 source_of earlier (outputs number) = Ok (source.CustomTarget number (count_at earlier number))
 source_of earlier (output target place) = Ok (source.CustomOutput target place)
 
--- sources, and behind them those that are named
+-- Returns sources followed by those that are named.
 abbrev pub sources_behind : List LinkedData → List Source → List NamedData → Result (List Source) Refusal
 sources_behind earlier ss [] = Ok ss
 sources_behind earlier ss (n ∷ ns) = source_of earlier n >>= (λ s. sources_behind earlier (ss ++ s ∷ []) ns)
 
--- the sources that are named
+-- Returns the sources that are named, or E22 if a path is too long.
 abbrev pub sources_within : List LinkedData → List NamedData → Result (List Source) Refusal
 sources_within earlier ns = sources_behind earlier [] ns
 
 -- ---- the dependency
 
--- the keyword `version`, else the version of the project
+-- Returns the keyword `version`, and otherwise the version of the project.
 abbrev pub version_or : Text → ArgumentsData → Text
 version_or project a = unwrap_or (text_given (codes "version") a) project
 
+-- Returns the dependency with its directories, libraries and sources.
 abbrev pub with_own : Dependency → (folders : List Path) → (libraries : List ℕ) → List Source → Dependency
 with_own d folders libraries sources =
     record d { include_directories = folders; link_with = d.link_with ++ libraries; sources = sources }
 
--- what it has but folders, libraries and sources; it has no name
+-- Returns the dependency with its version and arguments, without directories, libraries and sources. It has no name.
 abbrev pub with_arguments : Text → ArgumentsData → Result Dependency Refusal
 with_arguments project a = found [] (version_or project a) (texts (codes "compile_args") a) (texts (codes "link_args") a)
 
--- the dependency with the lists of its own
+-- Returns the dependency with its own lists.
 abbrev pub own_dependency : Text → List LinkedData → ArgumentsData → OwnData → Result Dependency Refusal
 own_dependency project earlier a own = do
   d ← with_arguments project a
@@ -65,11 +68,12 @@ own_dependency project earlier a own = do
   sources ← sources_within earlier own.sources
   Ok (with_own d folders own.libraries sources)
 
+-- Returns the dependencies of the keyword `dependencies`.
 abbrev pub dependencies_given : Option Data → List Dependency
 dependencies_given None = []
 dependencies_given (Some d) = dependencies_in d
 
--- with the lists of its dependencies behind its own
+-- Returns the dependency with its own lists, followed by those of its dependencies.
 abbrev pub joined_dependency : Text → List LinkedData → ArgumentsData → OwnData → Result Dependency Refusal
 joined_dependency project earlier a own = do
   d ← own_dependency project earlier a own

@@ -1,16 +1,16 @@
--- The files of the tree among sources, which have to be there.
+-- Defines which sources must be present as files.
 use Rattle.std.specs.Prelude.{List, [], ◌∷◌}
 use Rattle.named_sources.specs.Sources.{NamedData, tree, built, outputs, output}
 use Rattle.world.specs.Deed.{Deed, give, ◌>>=◌, required}
 
--- a file of the tree is looked at and is there (E14)
+-- Refuses a source that is a missing file in the source directory (E14).
 unfoldable pub file_required : NamedData → Deed (Unit {0})
 file_required (tree path) = required path
 file_required (built path) = give tt
 file_required (outputs number) = give tt
 file_required (output target place) = give tt
 
--- each of them, one after another, up to the first missing one
+-- Refuses the call at the first of these sources that is missing.
 unfoldable pub files_required : List NamedData → Deed (Unit {0})
 files_required [] = give tt
 files_required (n ∷ ns) = do

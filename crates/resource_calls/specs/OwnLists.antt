@@ -1,4 +1,4 @@
--- What `declare_dependency` lists of its own, as its arguments name it.
+-- Defines the lists that a call of `declare_dependency` itself gives.
 use Rattle.std.specs.Prelude.{ℕ, List, codes, Option, Some, None, Ok, option_and_then, if◌then◌else◌}
 use Rattle.std.specs.List.{list_all}
 use Rattle.arguments.specs.Arguments.{ArgumentsData}
@@ -13,20 +13,22 @@ use Rattle.named_sources.specs.Sources.{NamedData, sources_of}
 use Rattle.build.specs.Libraries.{LinkedData, is_library_at}
 use Rattle.world.specs.Here.{HereData}
 
--- the numbers where each is that of a library
+-- Returns the numbers if each is that of a library.
 abbrev pub if_libraries : List LinkedData → List ℕ → Option (List ℕ)
 if_libraries earlier ns = if list_all (is_library_at earlier) ns then Some ns else None
 
--- the numbers of the libraries that values are; none where one is no library
+-- Returns the target numbers of these values, and none if one is no library.
 abbrev pub libraries_of : List LinkedData → List Data → Option (List ℕ)
 libraries_of earlier ds = option_and_then (if_libraries earlier) (numbers_of ds)
 
+-- The lists that a call itself gives.
 pub record OwnData : Type 0 where
   pub folders : List Path
   pub libraries : List ℕ
   pub sources : List NamedData
 
--- what the call lists of its own, where each path stays in the tree, and each thing to link with is a library
+-- Returns the lists that the call itself gives, or its refusal. Each path must be below the source root, and `link_with` takes only
+-- libraries.
 abbrev pub own_lists : HereData → ArgumentsData → Said OwnData
 own_lists here a = do
   folders ← folders_of here.source_root here.folder (leaves_named (codes "include_directories") a)

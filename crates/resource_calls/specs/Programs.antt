@@ -1,4 +1,4 @@
--- `find_program`: a program of the machine file, or a file of the tree.
+-- Defines `find_program`, which finds a program in the machine file or in the source directory.
 use Rattle.std.specs.Prelude.{Bool, true, false, List, [], ◌∷◌, Option, Some, None, codes, option_map, Result}
 use Rattle.arguments.specs.Arguments.{ArgumentsData}
 use Rattle.values.specs.Flat.{flat_all}
@@ -22,78 +22,83 @@ use Rattle.world.specs.Deed.{Deed, give, refuse, read, consult, ◌>>=◌, answe
 use Rattle.world.specs.Ruled.{ruled}
 use Rattle.resource_calls.specs.Required.{missing_object, required_by}
 
--- the words that `[binaries]` of the machine file has
+-- Returns the program with the command that `[binaries]` of the machine file has.
 unfoldable pub program_of_words : Result (List Text) Refusal → Deed (Option Program)
 program_of_words said = do
   words ← answered said
   give (Some (programs.Words words))
 
--- a file of the tree
+-- Returns the program at a path in the source directory.
 unfoldable pub file_program : Path → Deed (Option Program)
 file_program path = do
   p ← answered (within_bytes path)
   give (Some (programs.File p))
 
--- the file at a path, if it is there
+-- Returns the program at a path if the file is present.
 unfoldable pub program_at : Path → Bool → Deed (Option Program)
 program_at path false = give None
 program_at path true = file_program path
 
--- the file of the tree that a name of the present definition file means: E9 where it means none
+-- Returns the path that a name in the present build file refers to, and refuses one outside the source directory with E9.
 unfoldable pub named_path : Text → Deed Path
 named_path name = do
   facts ← read
   ruled (tree_path facts.settings.source_root facts.folder name) rules.NamesFile name
 
--- that file, which is looked at
+-- Returns the program at that path if the file is present. The path counts as looked at.
 unfoldable pub file_named : Text → Deed (Option Program)
 file_named name = do
   path ← named_path name
   found ← there path
   program_at path found
 
+-- Returns the program of the machine file, and otherwise the file with this name.
 unfoldable pub words_or_file : Option (Result (List Text) Refusal) → Text → Deed (Option Program)
 words_or_file (Some said) name = program_of_words said
 words_or_file None name = file_named name
 
--- the program of a name: the machine file's, else a file
+-- Returns the program with a name: that of the machine file, and otherwise a file.
 unfoldable pub program_named : Text → Deed (Option Program)
 program_named name = do
   answer ← consult (plain (Key (codes "binaries") name))
   words_or_file (option_map within_texts (program_words answer)) name
 
+-- Returns the program that was found, and otherwise looks further.
 abbrev pub or_else : Option Program → Deed (Option Program) → Deed (Option Program)
 or_else (Some p) others = give (Some p)
 or_else None others = others
 
--- names are looked up one after another, up to the first that there is
+-- Returns the first program that is found. The names are looked up one after another.
 unfoldable pub first_program : List Text → Deed (Option Program)
 first_program [] = give None
 first_program (name ∷ names) = do
   p ← program_named name
   or_else p (first_program names)
 
--- nothing is looked up where a feature is disabled
+-- Returns the first program that is found. Nothing is looked up if `required` is a disabled feature.
 unfoldable pub program_wanted : Requirement → ArgumentsData → Deed (Option Program)
 program_wanted requirements.Disabled a = give None
 program_wanted _ a = first_program (flat_all a.positional)
 
+-- Returns the program as a value.
 unfoldable pub found_program : Program → Deed (Option Data)
 found_program p = give (Some (object (objects.Program p)))
 
+-- Returns the result for a program that was not found.
 unfoldable pub missing_program : ArgumentsData → Deed (Option Data)
 missing_program a = give (Some (object (missing_object a (objects.Program programs.NotFound))))
 
--- where none of the names is found: E17 of the first name where the program is required
+-- Returns the result if no name is found. Refuses with E17 of the first name if the program is required.
 unfoldable pub no_program : Requirement → ArgumentsData → Deed (Option Data)
 no_program requirements.Required a = refuse refusals.NotFound (text_at 0 a)
 no_program _ a = missing_program a
 
+-- Returns the program that was found, or the result if none was.
 unfoldable pub give_program : ArgumentsData → Option Program → Deed (Option Data)
 give_program a (Some p) = found_program p
 give_program a None = no_program (required_by a) a
 
--- `find_program(names..)`
+-- Defines `find_program(names..)`.
 unfoldable pub find_program : ArgumentsData → Deed (Option Data)
 find_program a = do
   p ← program_wanted (required_by a) a

@@ -1,4 +1,4 @@
--- What a test runs, and with which variables.
+-- Defines what a test runs, and with which environment variables.
 use Rattle.std.specs.Prelude.{List, Option, Some, Ok}
 use Rattle.arguments.specs.Arguments.{ArgumentsData}
 use Rattle.arguments.specs.Given.{argument, text_at}
@@ -13,21 +13,24 @@ use Rattle.named_sources.specs.resources.Testing.{environment}
 use Rattle.resource_calls.specs.TestCommands.{command_given}
 use Rattle.world.specs.Here.{HereData}
 
+-- What a test runs.
 pub record RunData : Type 0 where
   pub command : List Text
-  -- texts `NAME=VALUE`
+  -- Texts `NAME=VALUE`.
   pub environment : List Text
 
--- of what can't run: a program was not found; anything else is a library
+-- Returns the rule that something that cannot run breaks: a program was not found, and anything else is a library.
 abbrev pub object_rule : Object → Rule
 object_rule (objects.Program p) = rules.RunsProgram
 object_rule _ = rules.RunsNoLibrary
 
+-- Returns the rule that a program that cannot run breaks.
 abbrev pub program_rule : Option Data → Rule
 program_rule (Some (object o)) = object_rule o
 program_rule _ = rules.RunsNoLibrary
 
--- the command and the variables that a call says; what can't run breaks a rule by the test's name
+-- Returns the command and the variables of a call, or its refusal. A program that cannot run breaks a rule, and the detail is the test's
+-- name.
 abbrev pub run_of : HereData → ArgumentsData → Said RunData
 run_of here a = do
   command ← found (command_given here a) (program_rule (argument 1 a)) (text_at 0 a)

@@ -1,4 +1,4 @@
--- `test`: a program that the project is tested by.
+-- Defines `test`, which declares a test of the project.
 use Rattle.std.specs.Prelude.{ℤ, pos, false, Option, None, codes, Result, Ok, Err}
 use Rattle.arguments.specs.Arguments.{ArgumentsData}
 use Rattle.arguments.specs.Given.{flag, integer_of, text_at, texts}
@@ -12,12 +12,13 @@ use Rattle.world.specs.Fit.{passed}
 use Rattle.world.specs.Here.{here_of}
 use Rattle.resource_calls.specs.Runs.{RunData, run_of}
 
--- what runs, and with which variables: E9 of arguments that break a rule
+-- Returns what runs, and with which variables. Refuses arguments that break a rule with E9.
 unfoldable pub said_run : ArgumentsData → Deed RunData
 said_run a = do
   facts ← read
   passed (run_of (here_of facts) a)
 
+-- Returns the test with this timeout.
 abbrev pub test_of : ArgumentsData → RunData → ℤ → TestData
 test_of a run seconds = record {
   name = text_at 0 a;
@@ -28,19 +29,20 @@ test_of a run seconds = record {
   timeout = seconds;
 }
 
--- the keyword `timeout`, which is 30 where it is not given; E7 where it needs more than 64 bits
+-- Returns the seconds of the keyword `timeout`, which are 30 by default, and E7 if they do not fit in 64 bits.
 abbrev pub seconds_given : ArgumentsData → Result ℤ Refusal
 seconds_given a = seconds_of (integer_of (codes "timeout") (pos 30) a)
 
+-- Returns the test, or the refusal of its timeout.
 abbrev pub with_seconds : ArgumentsData → RunData → Result ℤ Refusal → Result TestData Refusal
 with_seconds a run (Ok seconds) = Ok (test_of a run seconds)
 with_seconds a run (Err refusal) = Err refusal
 
--- the test that the arguments say
+-- Returns the test that the arguments describe.
 abbrev pub test_given : ArgumentsData → RunData → Result TestData Refusal
 test_given a run = with_seconds a run (seconds_given a)
 
--- `test(name, program)`: E9; E7 of the timeout
+-- Defines `test(name, program)`. Refuses with E9, and with E7 for the timeout.
 unfoldable pub test : ArgumentsData → Deed (Option Data)
 test a = do
   run ← said_run a

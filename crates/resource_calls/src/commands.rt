@@ -1,4 +1,4 @@
-//! The command of a test. Files and targets are absolute paths.
+//! Makes the command of a test. Files and targets become absolute paths.
 ghost use Rattle.std.specs.Prelude.{◌≡◌, IfOk, map, option_map, string_bytes};
 ghost use Rattle.build.specs.edge.Texts.{texts};
 ghost use Rattle.arguments.specs.Each.{all_behind};
@@ -17,7 +17,7 @@ use support::paths::path_below;
 use values::{Program, Value};
 use world::Here;
 
-// ---- things of the project, by the words that they are
+// ---- things of the project, as command-line arguments
 
 fn one_word(alloc: Global, word: String) -> Result<Vec<String>, AllocError>
     ensures { IfOk result (λ v. texts v.items ≡ one_word (string_bytes word)) }
@@ -27,7 +27,7 @@ fn one_word(alloc: Global, word: String) -> Result<Vec<String>, AllocError>
     Ok(words)
 }
 
-// What a value names that may stand in a command.
+// Returns the thing that a value refers to, and `None` if it is no object of that kind.
 fn thing_in<'t>(here: &Here<'t>, value: &'t Value) -> Option<Thing<'t>>
     ensures { option_map thing_view result ≡ thing_in (here_view here.now) (data_of value.now) }
 {
@@ -54,7 +54,7 @@ fn target_word(here: &Here<'_>, target: &BuildTarget) -> Result<String, AllocErr
     path_below(here.alloc, here.build_root, path.as_str())
 }
 
-// Each path below the build root.
+// Returns each path below the build root.
 fn built_words(here: &Here<'_>, paths: &[String]) -> Result<Vec<String>, AllocError>
     ensures { IfOk result (λ v. texts v.items ≡ map (path_below (here_view here.now).build_root) (texts paths.now)) }
 {
@@ -65,7 +65,7 @@ fn built_words(here: &Here<'_>, paths: &[String]) -> Result<Vec<String>, AllocEr
     Ok(words)
 }
 
-// The words of a file, a target or outputs of one; none of a program.
+// Returns the arguments for a file, a target or outputs of one, and `None` for a program.
 fn words_of(here: &Here<'_>, thing: Thing<'_>) -> Result<Option<Vec<String>>, AllocError>
     ensures { IfOk result (λ ws. option_map (λ v. texts v.items) ws ≡ words_of (here_view here.now) (thing_view thing.entry)) }
 {
@@ -81,7 +81,7 @@ fn words_of(here: &Here<'_>, thing: Thing<'_>) -> Result<Option<Vec<String>>, Al
 
 // ---- the program
 
-// A program that was not found can't run.
+// Returns the command of a program, and `None` if it was not found.
 fn words_of_program(here: &Here<'_>, program: &Program) -> Result<Option<Vec<String>>, AllocError>
     ensures { IfOk result (λ ws. option_map (λ v. texts v.items) ws ≡ words_of_program (here_view here.now) program.now) }
 {
@@ -95,7 +95,7 @@ fn words_of_program(here: &Here<'_>, program: &Program) -> Result<Option<Vec<Str
     }
 }
 
-// Nor can a library.
+// Returns the path of an executable, and `None` for a library.
 fn word_if_executable(
     here: &Here<'_>,
     target: &BuildTarget,
@@ -120,7 +120,7 @@ fn command_words(here: &Here<'_>, thing: Thing<'_>) -> Result<Option<Vec<String>
     }
 }
 
-// The words that call the program that a value is; none where it can't run.
+// Returns the command that calls the program of a value, and `None` if it cannot run.
 fn command_of(here: &Here<'_>, value: &Value) -> Result<Option<Vec<String>>, AllocError>
     ensures { IfOk result (λ ws. option_map (λ v. texts v.items) ws ≡ command_of (here_view here.now) (data_of value.now)) }
 {
@@ -132,7 +132,7 @@ fn command_of(here: &Here<'_>, value: &Value) -> Result<Option<Vec<String>>, All
 
 // ---- arguments
 
-// The words of an argument of the program: a text, a file, a target or an output of one.
+// Returns the arguments for a value given to the program: a text, a file, a target or an output of one. Returns `None` for any other value.
 fn argument_words(here: &Here<'_>, value: &Value) -> Result<Option<Vec<String>>, AllocError>
     ensures { IfOk result (λ ws. option_map (λ v. texts v.items) ws ≡ argument_words (here_view here.now) (data_of value.now)) }
 {
@@ -148,7 +148,7 @@ fn argument_words(here: &Here<'_>, value: &Value) -> Result<Option<Vec<String>>,
     }
 }
 
-// Words, and behind them those of values, or none where one of them has none.
+// Returns arguments followed by those for values, and `None` if one of the values has none.
 fn words_behind(
     here: &Here<'_>,
     words: Vec<String>,
@@ -169,7 +169,7 @@ fn words_behind(
 
 // ---- the command
 
-/// The program and its arguments. None where it can't run.
+/// Returns the program and its arguments, and `None` if the program cannot run.
 pub fn command_given(
     here: &Here<'_>,
     arguments: &Arguments,

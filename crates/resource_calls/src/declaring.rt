@@ -1,4 +1,4 @@
-//! `declare_dependency`: <https://mesonbuild.com/Reference-manual_functions.html#declare_dependency>.
+//! Implements `declare_dependency`: <https://mesonbuild.com/Reference-manual_functions.html#declare_dependency>.
 ghost use Rattle.std.specs.Prelude.{option_map};
 ghost use Rattle.world.specs.Prelude.{Does, MayFail, arguments_data, data_of};
 ghost use Rattle.resource_calls.specs.DeclareDependency.{declare_dependency, joined_given};
@@ -13,7 +13,7 @@ use ports::{Outputs, Tree};
 use values::{Dependency, Object, Value};
 use world::{Caller, Stop};
 
-// The dependency with these lists, or the refusal of lists that are too long.
+// Returns the dependency with these lists, and refuses lists that are too long with E22.
 fn join_given<T: Tree, O: Outputs>(
     caller: &Caller<'_, T, O>,
     arguments: &Arguments,
@@ -27,7 +27,7 @@ fn join_given<T: Tree, O: Outputs>(
     caller.answer(answer)
 }
 
-/// `declare_dependency()`: E9, E14, E22 in this order.
+/// Runs `declare_dependency()`. Refuses with E9, E14, E22 in this order.
 pub fn declare_dependency<T: Tree, O: Outputs>(
     caller: &mut Caller<'_, T, O>,
     arguments: &Arguments,

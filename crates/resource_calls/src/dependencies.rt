@@ -1,4 +1,4 @@
-//! `dependency`: <https://mesonbuild.com/Reference-manual_functions.html#dependency>.
+//! Implements `dependency`: <https://mesonbuild.com/Reference-manual_functions.html#dependency>.
 ghost use Rattle.std.specs.Prelude.{◌≡◌, IfOk, map, option_map};
 ghost use Rattle.build.specs.project.View.{answer_view};
 ghost use Rattle.world.specs.Prelude.{Does, MayFail, arguments_data, data_of};
@@ -18,8 +18,8 @@ use support::faults::Refusal;
 use values::{Dependency, Object, Value};
 use world::{Caller, Stop};
 
-// The dependency of a name that the machine file has in a version that fits; for the empty name nothing is asked. Beside the question the
-// call says what its arguments do.
+// Returns the dependency with a name if the machine file has it in a version that fits. For the empty name nothing is asked. The question
+// carries what the arguments of the call say.
 fn dependency_named<T: Tree, O: Outputs>(
     caller: &mut Caller<'_, T, O>,
     name: &str,
@@ -38,7 +38,7 @@ fn dependency_named<T: Tree, O: Outputs>(
     Ok(said)
 }
 
-// What the machine file says of the first of these names that fits.
+// Returns what the machine file says of the first of these names that fits.
 fn first_said<T: Tree, O: Outputs>(
     caller: &mut Caller<'_, T, O>,
     names: &[&str],
@@ -56,7 +56,7 @@ fn first_said<T: Tree, O: Outputs>(
     Ok(None)
 }
 
-// What the machine file says of the first name that fits; where a feature is disabled nothing is asked for.
+// Returns what the machine file says of the first name that fits. Nothing is asked if `required` is a disabled feature.
 fn fitting_dependency<T: Tree, O: Outputs>(
     caller: &mut Caller<'_, T, O>,
     arguments: &Arguments,
@@ -83,7 +83,7 @@ fn answer_of(alloc: Global, dependency: &Dependency) -> Result<Answer, AllocErro
     })
 }
 
-// Notes a dependency, and gives it or a disabler in its place; refuses the call where what is said of it is too large.
+// Records a dependency, and returns it or a disabler in its place. Refuses one that is too large with E22.
 fn give_noted<T: Tree, O: Outputs>(
     caller: &mut Caller<'_, T, O>,
     said: Result<Dependency, values::Refusal>,
@@ -100,7 +100,7 @@ fn give_noted<T: Tree, O: Outputs>(
     )
 }
 
-// What the call comes to where no name fits.
+// Returns the result if no name fits. Refuses with E17 of the first name if the dependency is required.
 fn none_fits<T: Tree, O: Outputs>(
     caller: &mut Caller<'_, T, O>,
     arguments: &Arguments,
@@ -117,8 +117,9 @@ fn none_fits<T: Tree, O: Outputs>(
     }
 }
 
-/// `dependency(names..)`: the first name that the machine file has in a version that fits; E17 where a required one isn't found, E22 where
-/// what the machine file says of it is too large. Each answer is noted.
+/// Runs `dependency(names..)`, which returns the first name that the machine file has in a version that fits.
+///
+/// Refuses with E17 if a required one is not found, and with E22 if one is too large. Each result is recorded.
 pub fn dependency<T: Tree, O: Outputs>(
     caller: &mut Caller<'_, T, O>,
     arguments: &Arguments,

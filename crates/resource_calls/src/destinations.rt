@@ -1,4 +1,4 @@
-//! Where files go when they are installed.
+//! Decides where files are installed.
 ghost use Rattle.std.specs.Prelude.{◌≡◌, IfOk, [], codes, map, option_map, string_bytes};
 ghost use Rattle.arguments.specs.Each.{each_said};
 ghost use Rattle.arguments.specs.Given.{text_given};
@@ -19,16 +19,16 @@ use std::alloc::{AllocError, Global};
 use support::paths::{path_below, plain_name};
 use world::{Caller, Here};
 
-/// What sort of file is installed.
+/// The sort of file that is installed.
 #[derive(Clone, Copy)]
 pub enum Sort {
     Header,
     Data,
-    /// A page of the manual.
+    /// A man page.
     ManPage,
 }
 
-/// Where the call stands, and the folders of options that installed files go to.
+/// The place of the call, and the directories of options in which files are installed.
 #[derive(Clone, Copy)]
 pub struct Folders<'a> {
     pub here: Here<'a>,
@@ -40,7 +40,7 @@ pub struct Folders<'a> {
     pub project: &'a str,
 }
 
-/// A call that installs files of a sort.
+/// A call that installs files of one sort.
 #[derive(Clone, Copy)]
 pub struct Call<'f, 'a> {
     pub folders: Folders<'f>,
@@ -48,7 +48,7 @@ pub struct Call<'f, 'a> {
     pub arguments: &'a Arguments,
 }
 
-/// What a call says.
+/// What a call installs.
 #[derive(Drop)]
 pub struct Said {
     /// The files that it names.
@@ -56,7 +56,7 @@ pub struct Said {
     pub installs: Vec<Install>,
 }
 
-/// The folders of the present project.
+/// Returns the directories of the present project.
 pub fn folders_in<'c, T: Tree, O: Outputs>(caller: &'c Caller<'_, T, O>) -> Folders<'c>
     ensures { folders_view result ≡ folders_in (state_of T.seen O.seen caller.now).world.facts }
 {
@@ -70,10 +70,10 @@ pub fn folders_in<'c, T: Tree, O: Outputs>(caller: &'c Caller<'_, T, O>) -> Fold
     }
 }
 
-// ---- folders
+// ---- directories
 
-// Headers go to `includedir` and the keyword `subdir`, data to `datadir` and the project's name, a man page to the section of its name's
-// last digit in `mandir`; none where it has no digit.
+// Returns the default directory. Headers are installed to `includedir` and the keyword `subdir`, data to `datadir` and the project's name.
+// A man page is installed to the section of its name's last digit in `mandir`; without a digit there is none.
 fn usual_folder(call: &Call<'_, '_>, name: &str) -> Result<Option<String>, AllocError>
     ensures { IfOk result (λ f. option_map string_bytes f
         ≡ usual_folder (folders_view call.now.folders) call.now.sort (arguments_data call.now.arguments.now) name.now) }
@@ -89,7 +89,7 @@ fn usual_folder(call: &Call<'_, '_>, name: &str) -> Result<Option<String>, Alloc
     }
 }
 
-// The folder that the keyword `install_dir` says, else this one.
+// Returns the directory of the keyword `install_dir`, and otherwise this one.
 fn take_or(alloc: Global, arguments: &Arguments, usual: String) -> Result<String, AllocError>
     ensures { IfOk result (λ f. string_bytes f
         ≡ given_or (text_given (codes "install_dir") (arguments_data arguments.now)) (string_bytes usual)) }
@@ -112,7 +112,7 @@ fn install_folder(call: &Call<'_, '_>, name: &str) -> Result<Option<String>, All
 
 // ---- files
 
-// A file below a root, and where it goes.
+// Returns a file below a root, and where it is installed.
 fn install_at(call: &Call<'_, '_>, root: &str, path: &str) -> Result<Option<Install>, AllocError>
     ensures { IfOk result (λ i. option_map install_view i
         ≡ install_at (folders_view call.now.folders) call.now.sort (arguments_data call.now.arguments.now) root.now path.now) }
@@ -128,7 +128,7 @@ fn install_at(call: &Call<'_, '_>, root: &str, path: &str) -> Result<Option<Inst
     }
 }
 
-// What is installed of a file that is named: a target can't be installed so.
+// Returns where a named file is installed, and `None` for a target, which cannot be installed like this.
 fn install_of(call: &Call<'_, '_>, named: &NamedSource) -> Result<Option<Install>, AllocError>
     ensures { IfOk result (λ i. option_map install_view i
         ≡ install_of (folders_view call.now.folders) call.now.sort (arguments_data call.now.arguments.now) (named_view named.now)) }
@@ -141,7 +141,7 @@ fn install_of(call: &Call<'_, '_>, named: &NamedSource) -> Result<Option<Install
     }
 }
 
-// The path of a file that is named; of a target it is empty.
+// Returns the path of a named file, and `""` for a target.
 fn path_said(named: &NamedSource) -> &str
     ensures { result.now ≡ path_said (named_view named.now) }
 {
@@ -152,7 +152,7 @@ fn path_said(named: &NamedSource) -> &str
     }
 }
 
-// What is installed of the files that are named. One that can't be installed breaks a rule.
+// Returns where the named files are installed, or the refusal of one that cannot be installed.
 fn installs_of(
     call: &Call<'_, '_>,
     named: &[NamedSource],
@@ -175,7 +175,8 @@ fn installs_of(
     Ok(Ok(installs))
 }
 
-/// What a call says that installs files of a sort. A path that leads out of the tree breaks a rule, and a man page without a section.
+/// Returns what a call installs, or its refusal. Refused are a path that leads out of the source directory, and a man page without a
+/// section.
 pub fn said_of(call: &Call<'_, '_>) -> Result<Result<Said, Refused>, AllocError>
     ensures { IfOk result (λ s. said_data said_view s
         ≡ said_of (folders_view call.now.folders) call.now.sort (arguments_data call.now.arguments.now)) }

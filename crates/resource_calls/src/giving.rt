@@ -1,4 +1,4 @@
-//! What a call gives.
+//! Makes the result of a call.
 ghost use Rattle.std.specs.Prelude.{Some, option_map};
 ghost use Rattle.values.specs.Data.{object};
 ghost use Rattle.world.specs.Prelude.{Does, data_of};
@@ -8,7 +8,7 @@ use ports::{Outputs, Tree};
 use values::{Object, Value};
 use world::{Caller, Stop};
 
-/// The object as a value.
+/// Returns the object as a value.
 pub fn give_object<T: Tree, O: Outputs>(
     caller: &Caller<'_, T, O>,
     given: Object,

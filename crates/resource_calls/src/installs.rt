@@ -1,5 +1,5 @@
-//! `install_headers`, `install_data` and `install_man`: <https://mesonbuild.com/Reference-manual_functions.html#install_headers> and its
-//! like.
+//! Implements `install_headers`, `install_data` and `install_man`: <https://mesonbuild.com/Reference-manual_functions.html#install_headers>
+//! and its like.
 ghost use Rattle.std.specs.Prelude.{map, option_map};
 ghost use Rattle.build.specs.project.View.{install_view};
 ghost use Rattle.world.specs.Prelude.{Does, MayFail, arguments_data, data_of};
@@ -13,7 +13,7 @@ use ports::{Outputs, Tree};
 use values::Value;
 use world::{Caller, Stop};
 
-// Notes where each file goes.
+// Records where each file is installed.
 fn install_all<T: Tree, O: Outputs>(
     caller: &mut Caller<'_, T, O>,
     installs: Vec<Install>,
@@ -26,8 +26,8 @@ fn install_all<T: Tree, O: Outputs>(
     Ok(())
 }
 
-/// `install_headers`, `install_data` or `install_man`, by the sort of the files: E9, also of a page of the manual without a digit; then
-/// E14 of the first missing file.
+/// Runs `install_headers`, `install_data` or `install_man`, by the sort of the files. Refuses with E9, also for a man page without a digit,
+/// and then with E14 for the first missing file.
 pub fn install<T: Tree, O: Outputs>(
     caller: &mut Caller<'_, T, O>,
     sort: Sort,

@@ -1,4 +1,4 @@
-//! The dependency that `declare_dependency` gives: its own lists, then those of its dependencies, all within the limits.
+//! Makes the result of `declare_dependency`: its own lists followed by those of its dependencies, all within the limits.
 ghost use Rattle.std.specs.Prelude.{◌≡◌, codes, IfOk, map};
 ghost use Rattle.arguments.specs.Given.{keyword};
 ghost use Rattle.named_sources.specs.SourcesView.{named_view};
@@ -19,7 +19,7 @@ use world::Here;
 
 // ---- sources
 
-// How many outputs a target has.
+// Returns how many outputs a target has.
 #[tactic(auto, using(crate::proofs::Counting::as_many))]
 fn count_at(earlier: &[Linked], number: usize) -> usize
     ensures { result ≡ count_at (linked_views earlier.now) number }
@@ -66,7 +66,7 @@ fn source_of(
     }
 }
 
-// The sources that are named, or `Refusal::Limit` where the path of one is too long for a text.
+// Returns the sources that are named, or `Refusal::Limit` if the path of one is too long for a text.
 fn sources_within(
     alloc: Global,
     earlier: &[Linked],
@@ -86,7 +86,7 @@ fn sources_within(
 
 // ---- the dependency
 
-// The keyword `version`, else the version of the project.
+// Returns the keyword `version`, and otherwise the version of the project.
 fn version_or<'a>(project: &'a str, arguments: &'a Arguments) -> &'a str
     ensures { result.now ≡ version_or project.now (arguments_data arguments.now) }
 {
@@ -111,7 +111,7 @@ fn with_own(
     Ok(whole)
 }
 
-// What it has but folders, libraries and sources.
+// Returns the dependency with its version and arguments, without directories, libraries and sources.
 fn with_arguments(
     alloc: Global,
     project: &str,
@@ -135,7 +135,7 @@ fn dependencies_given(alloc: Global, arguments: &Arguments) -> Result<Vec<&Depen
     }
 }
 
-/// The dependency of a call that lists this of its own, in a project of this version; or `Refusal::Limit` where one of its lists is too
+/// Returns the dependency of a call with these own lists, in a project of this version, or `Refusal::Limit` if one of its lists is too
 /// long.
 pub fn joined_dependency(
     here: &Here<'_>,

@@ -1,7 +1,7 @@
-//! The functions of the page "Reference manual" that say what a project takes from outside and gives away: dependencies, programs,
-//! installed files and tests.
+//! Implements the functions of the page "Reference manual" for what a project takes from outside and what it provides: dependencies,
+//! programs, installed files and tests.
 //!
-//! What a function does is a deed of `specs/`, and its code carries it out on a [`world::Caller`].
+//! What a function does is defined as a deed in `specs/`, and its code does that on a [`world::Caller`].
 #![tactic(auto)]
 
 mod commands;

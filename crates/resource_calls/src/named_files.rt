@@ -1,4 +1,4 @@
-//! The files of the tree among sources.
+//! Checks that the source files of a call are present.
 ghost use Rattle.std.specs.Prelude.{map};
 ghost use Rattle.named_sources.specs.SourcesView.{named_view};
 ghost use Rattle.world.specs.Prelude.{Does, MayFail};
@@ -23,7 +23,7 @@ fn require_file<T: Tree, O: Outputs>(
     }
 }
 
-/// Refuses the call unless each file of the tree among sources is there.
+/// Refuses the call unless each source that is a file in the source directory is present (E14).
 pub fn require_files<T: Tree, O: Outputs>(
     caller: &mut Caller<'_, T, O>,
     named: &[NamedSource],

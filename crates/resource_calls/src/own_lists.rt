@@ -1,4 +1,4 @@
-//! What `declare_dependency` lists of its own, as its arguments name it.
+//! Reads the lists that a call of `declare_dependency` itself gives.
 ghost use Rattle.std.specs.Prelude.{◌≡◌, IfOk, codes, option_map};
 ghost use Rattle.arguments.specs.Leaves.{leaves_named};
 ghost use Rattle.arguments.specs.Refused.{said_data};
@@ -13,12 +13,12 @@ use named_sources::{NamedSource, folders_named, numbers_named, sources_named};
 use std::alloc::{AllocError, Global};
 use world::Here;
 
-/// What a call lists of its own.
+/// The lists that a call itself gives.
 #[derive(Drop)]
 pub struct Own {
-    /// Paths of folders for `include_directories`.
+    /// Paths for `include_directories`.
     pub folders: Vec<String>,
-    /// The numbers of the libraries to link with.
+    /// The target numbers of the libraries to link with.
     pub libraries: Vec<usize>,
     pub sources: Vec<NamedSource>,
 }
@@ -33,7 +33,7 @@ fn if_libraries(earlier: &[Linked], numbers: Vec<usize>) -> Option<Vec<usize>>
     }
 }
 
-// The libraries that the keyword `link_with` names.
+// Returns the target numbers of the keyword `link_with`, and `None` if one is no library.
 fn libraries_given(
     alloc: Global,
     earlier: &[Linked],
@@ -48,7 +48,8 @@ fn libraries_given(
     }
 }
 
-/// What the call lists of its own. A path that leads out of the tree breaks a rule, and something to link with that is no library.
+/// Returns the lists that the call itself gives, or its refusal. Refused are a path that leads out of the source directory, and a value of
+/// `link_with` that is no library.
 pub fn own_lists(here: &Here<'_>, arguments: &Arguments) -> Result<Result<Own, Refused>, AllocError>
     ensures { IfOk result (λ own. said_data own_view own ≡ own_lists (here_view here.now) (arguments_data arguments.now)) }
 {

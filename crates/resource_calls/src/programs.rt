@@ -1,4 +1,4 @@
-//! `find_program`: <https://mesonbuild.com/Reference-manual_functions.html#find_program>.
+//! Implements `find_program`: <https://mesonbuild.com/Reference-manual_functions.html#find_program>.
 ghost use Rattle.std.specs.Prelude.{map, option_map, string_bytes};
 ghost use Rattle.world.specs.Prelude.{Does, MayFail, arguments_data, data_of};
 ghost use Rattle.resource_calls.specs.Programs.{file_named, find_program, first_program, named_path, no_program};
@@ -15,9 +15,9 @@ use support::paths::tree_path;
 use values::{Object, Program, Text, Value};
 use world::{Caller, Stop};
 
-// ---- the program of a name
+// ---- the program with a name
 
-// The file at a path, if it is there.
+// Returns the program at a path if the file is present.
 fn program_at<T: Tree, O: Outputs>(
     caller: &Caller<'_, T, O>,
     path: String,
@@ -33,7 +33,7 @@ fn program_at<T: Tree, O: Outputs>(
     Ok(Some(Program::File(text)))
 }
 
-// The path of the file of the tree that a name means, or the refusal of one that means none.
+// Returns the path that a name refers to, and refuses one outside the source directory with E9.
 fn named_path<T: Tree, O: Outputs>(caller: &Caller<'_, T, O>, name: &str) -> Result<String, Stop>
     ensures { Does T.seen O.seen string_bytes (named_path name.now) caller.now result caller.now }
 {
@@ -45,7 +45,7 @@ fn named_path<T: Tree, O: Outputs>(caller: &Caller<'_, T, O>, name: &str) -> Res
     }
 }
 
-// The file of the tree that a name means, if it is there; it is looked at.
+// Returns the program that a name refers to if the file is present. The path counts as looked at.
 fn file_named<T: Tree, O: Outputs>(
     caller: &mut Caller<'_, T, O>,
     name: &str,
@@ -58,7 +58,7 @@ fn file_named<T: Tree, O: Outputs>(
     program_at(caller, path, found)
 }
 
-// The program of a name: the machine file's, else a file.
+// Returns the program with a name: that of the machine file, and otherwise a file.
 fn program_named<T: Tree, O: Outputs>(
     caller: &mut Caller<'_, T, O>,
     name: &str,
@@ -77,9 +77,9 @@ fn program_named<T: Tree, O: Outputs>(
     }
 }
 
-// ---- the first that there is
+// ---- the first program that is found
 
-// Looks names up one after another, up to the first that there is.
+// Returns the first program that is found. The names are looked up one after another.
 fn first_program<T: Tree, O: Outputs>(
     caller: &mut Caller<'_, T, O>,
     names: &[&str],
@@ -96,7 +96,7 @@ fn first_program<T: Tree, O: Outputs>(
     Ok(None)
 }
 
-// The first program that there is; none where nothing is looked up.
+// Returns the first program that is found, and `None` if nothing is found or looked up.
 fn program_wanted<T: Tree, O: Outputs>(
     caller: &mut Caller<'_, T, O>,
     arguments: &Arguments,
@@ -116,7 +116,7 @@ fn program_wanted<T: Tree, O: Outputs>(
 
 // ---- the call
 
-// What the call comes to where none of the names is found.
+// Returns the result if no name is found. Refuses with E17 of the first name if the program is required.
 fn no_program<T: Tree, O: Outputs>(
     caller: &Caller<'_, T, O>,
     arguments: &Arguments,
@@ -133,8 +133,9 @@ fn no_program<T: Tree, O: Outputs>(
     }
 }
 
-/// `find_program(names..)`: the first name that the machine file has, or that is a file of the tree; E9 of a name outside the tree, E17
-/// where a required program isn't found.
+/// Runs `find_program(names..)`, which returns the first name that the machine file has or that is a file in the source directory.
+///
+/// Refuses a name outside the source directory with E9, and with E17 if a required program is not found.
 pub fn find_program<T: Tree, O: Outputs>(
     caller: &mut Caller<'_, T, O>,
     arguments: &Arguments,

@@ -1,4 +1,4 @@
-//! The rows of the functions: what each takes.
+//! Defines the rows of the functions: the arguments that each takes.
 ghost use Rattle.std.specs.Prelude.{◌≡◌};
 ghost use Rattle.arguments.specs.RowView.{row_data};
 ghost use Rattle.resource_calls.specs.Rows.{declare_dependency_row, dependency_row, find_program_row, install_data_row};
@@ -6,7 +6,7 @@ ghost use Rattle.resource_calls.specs.Rows.{install_headers_row, install_man_row
 
 use arguments::{Keyword, Kind, Piece, Row};
 
-// What all functions take that find something.
+// The keywords of all functions that find something.
 const FINDING: &[Keyword] = &[
     Keyword::Optional("required", Kind::Requirement),
     Keyword::Optional("disabler", Kind::Boolean),
@@ -48,49 +48,49 @@ const TEST: &[Keyword] = &[
     Keyword::Optional("is_parallel", Kind::Any),
 ];
 
-/// What `dependency` takes.
+/// Returns the row of `dependency`.
 pub fn dependency_row() -> Row
     ensures { row_data result ≡ dependency_row }
 {
     Row::of(&[Kind::Text], 1, &[FINDING, DEPENDENCY]).with_others(Kind::Text)
 }
 
-/// What `declare_dependency` takes.
+/// Returns the row of `declare_dependency`.
 pub fn declare_dependency_row() -> Row
     ensures { row_data result ≡ declare_dependency_row }
 {
     Row::of(&[], 0, &[DECLARE_DEPENDENCY])
 }
 
-/// What `find_program` takes.
+/// Returns the row of `find_program`.
 pub fn find_program_row() -> Row
     ensures { row_data result ≡ find_program_row }
 {
     Row::of(&[Kind::Text], 1, &[FINDING]).with_others(Kind::Text)
 }
 
-/// What `install_headers` takes.
+/// Returns the row of `install_headers`.
 pub fn install_headers_row() -> Row
     ensures { row_data result ≡ install_headers_row }
 {
     Row::of(&[], 0, &[INSTALL_HEADERS]).with_others(Kind::Flat(Piece::Path))
 }
 
-/// What `install_data` takes.
+/// Returns the row of `install_data`.
 pub fn install_data_row() -> Row
     ensures { row_data result ≡ install_data_row }
 {
     Row::of(&[], 0, &[INSTALL_FILES]).with_others(Kind::Flat(Piece::Path))
 }
 
-/// What `install_man` takes.
+/// Returns the row of `install_man`.
 pub fn install_man_row() -> Row
     ensures { row_data result ≡ install_man_row }
 {
     Row::of(&[], 0, &[INSTALL_FILES]).with_others(Kind::Flat(Piece::Path))
 }
 
-/// What `test` takes.
+/// Returns the row of `test`.
 pub fn test_row() -> Row
     ensures { row_data result ≡ test_row }
 {

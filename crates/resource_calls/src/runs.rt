@@ -1,4 +1,4 @@
-//! What a test runs, and with which variables.
+//! Reads what a test runs, and with which environment variables.
 ghost use Rattle.std.specs.Prelude.{◌≡◌, IfOk, option_map};
 ghost use Rattle.arguments.specs.Refused.{said_data};
 ghost use Rattle.world.specs.Prelude.{arguments_data, data_of, here_view};
@@ -15,13 +15,13 @@ use world::Here;
 /// What a test runs.
 #[derive(Drop)]
 pub struct Run {
-    /// The words of the program and of its arguments.
+    /// The program and its arguments.
     pub command: Vec<String>,
     /// Texts `NAME=VALUE`.
     pub environment: Vec<String>,
 }
 
-// Of what can't run, a program was not found; anything else is a library.
+// Returns the rule that something that cannot run breaks: a program was not found, and anything else is a library.
 fn object_rule(object: &Object) -> Rule
     ensures { result ≡ object_rule object.now }
 {
@@ -40,7 +40,8 @@ fn program_rule(program: Option<&Value>) -> Rule
     }
 }
 
-/// The command and the variables that a call says. What can't run breaks a rule by the test's name, and so does what says no variable.
+/// Returns the command and the variables of a call, or its refusal. Refused are a program that cannot run, with the test's name as detail,
+/// and a text that is no variable.
 pub fn run_of(here: &Here<'_>, arguments: &Arguments) -> Result<Result<Run, Refused>, AllocError>
     ensures { IfOk result (λ run. said_data run_view run ≡ run_of (here_view here.now) (arguments_data arguments.now)) }
 {

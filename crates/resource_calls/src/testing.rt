@@ -1,4 +1,4 @@
-//! `test`: <https://mesonbuild.com/Reference-manual_functions.html#test>.
+//! Implements `test`: <https://mesonbuild.com/Reference-manual_functions.html#test>.
 ghost use Rattle.std.specs.Prelude.{◌≡◌, IfOk, option_map};
 ghost use Rattle.build.specs.project.View.{test_view};
 ghost use Rattle.world.specs.Prelude.{Does, MayFail, arguments_data, data_of};
@@ -15,14 +15,14 @@ use std::alloc::{AllocError, Global};
 use values::Value;
 use world::{Caller, Stop};
 
-// The seconds that the keyword `timeout` says, else 30.
+// Returns the seconds of the keyword `timeout`, which are 30 by default, or `Refusal::Range` if they do not fit in 64 bits.
 fn seconds_given(arguments: &Arguments) -> Result<i64, values::Refusal>
     ensures { result ≡ seconds_given (arguments_data arguments.now) }
 {
     seconds_of(arguments.integer("timeout", 30))
 }
 
-// The test that the arguments say, or `Refusal::Range` of its timeout.
+// Returns the test that the arguments describe, or `Refusal::Range` for its timeout.
 fn test_given(
     alloc: Global,
     arguments: &Arguments,
@@ -46,7 +46,7 @@ fn test_given(
     }))
 }
 
-/// `test(name, program)`: E9, then E7 of a `timeout` past 64 bits.
+/// Runs `test(name, program)`. Refuses with E9, then with E7 for a `timeout` that does not fit in 64 bits.
 pub fn test<T: Tree, O: Outputs>(
     caller: &mut Caller<'_, T, O>,
     arguments: &Arguments,

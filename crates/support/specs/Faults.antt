@@ -1,20 +1,20 @@
--- A fault, and the line that tells it.
+-- Defines faults, and the line that reports one.
 use Rattle.std.specs.Prelude.{ℕ, List, [], ◌++◌, Option, Some, None, codes, decimal}
 use Rattle.support.specs.declared.faults.refusal.Refusal.{Refusal}
 use Rattle.support.specs.declared.faults.refusal.Refusal.TheVariants as refusals
 
--- the file, the line in it, what was refused, and the name, path or message that it was refused with
+-- A fault: the file, the line in it, the refusal, and the detail: a name, path or message.
 pub record FaultData : Type 0 where
   pub file : List ℕ
   pub line : ℕ
   pub refusal : Refusal
   pub detail : List ℕ
 
--- a fault whose place says enough
+-- Returns a fault without a detail: its place says enough.
 abbrev pub plain_fault : List ℕ → ℕ → Refusal → FaultData
 plain_fault file line refusal = record { file = file; line = line; refusal = refusal; detail = [] }
 
--- the number by which users know a refusal, and its words: E18 has none but its message
+-- Returns the number of a refusal that users see, and its text. E18 has no text but its message.
 abbrev pub told_of : Refusal → ℕ × List ℕ
 told_of refusals.NotUtf8 = (1, codes "not UTF-8")
 told_of refusals.Token = (2, codes "token")
@@ -41,13 +41,15 @@ told_of refusals.Limit = (22, codes "limit")
 told_of refusals.LeftOut = (23, codes "left out by name")
 told_of refusals.LateArguments = (24, codes "arguments added after a target")
 
+-- Returns the number of a refusal.
 abbrev pub number_of : Refusal → ℕ
 number_of refusal = (told_of refusal).0
 
+-- Returns the words of a refusal.
 abbrev pub words_of : Refusal → List ℕ
 words_of refusal = (told_of refusal).1
 
--- what stands before the detail, where it is told
+-- Returns what is printed before the detail, and none if the detail is not printed.
 abbrev pub detail_sign : Refusal → Option (List ℕ)
 detail_sign refusals.UndefinedName = Some (codes ": ")
 detail_sign refusals.UnknownFunction = Some (codes ": ")
@@ -56,18 +58,19 @@ detail_sign refusals.NotFound = Some (codes ": ")
 detail_sign refusals.Message = Some []
 detail_sign refusal = None
 
+-- Returns the detail with what precedes it, and nothing if the detail is not printed.
 abbrev pub detail_behind : Option (List ℕ) → List ℕ → List ℕ
 detail_behind None detail = []
 detail_behind (Some sign) detail = sign ++ detail
 
--- what is told of the detail
+-- Returns the detail as it is printed.
 abbrev pub detail_text : FaultData → List ℕ
 detail_text f = detail_behind (detail_sign f.refusal) f.detail
 
--- the number, a space, the words and the detail
+-- Returns `E` with the number, a space, the text and the detail.
 abbrev pub fault_text : FaultData → List ℕ
 fault_text f = codes "E" ++ (decimal (number_of f.refusal) ++ (codes " " ++ (words_of f.refusal ++ detail_text f)))
 
--- FILE:LINE: ERROR: TEXT, and the end of the line
+-- Returns the line `FILE:LINE: ERROR: TEXT`, with its newline.
 abbrev pub fault_line : FaultData → List ℕ
 fault_line f = f.file ++ (codes ":" ++ (decimal f.line ++ (codes ": ERROR: " ++ (fault_text f ++ codes "\n"))))

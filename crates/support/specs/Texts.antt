@@ -1,7 +1,7 @@
--- Lists of texts.
+-- Defines lists of texts.
 use Rattle.std.specs.Prelude.{ℕ, List, map, String, string_bytes}
 use Rattle.std.specs.Global.{Global}
 
--- the bytes of each of these strings
+-- Returns the bytes of each of these strings.
 abbrev pub texts : List (String Global) → List (List ℕ)
 texts strings = map string_bytes strings

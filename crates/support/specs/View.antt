@@ -1,4 +1,4 @@
--- What a fault is seen as.
+-- Defines the view of a fault.
 use Rattle.std.specs.Prelude.{string_bytes}
 use Rattle.support.specs.declared.faults.fault.Fault.{Fault}
 use Rattle.support.specs.declared.faults.fault.Told.{Told}

@@ -1,6 +1,8 @@
-//! What all others may need. [`faults`] has the faults E1 to E24 and the line that tells one, [`limits`] the sizes that a run may not
-//! pass, [`paths`] the rules of paths, [`tables`] the hash tables whose keys a stranger chooses, and [`text_lists`] lists of texts. Nothing
-//! here knows what is refused and when, or what the keys and the texts are for.
+//! Provides what all other crates may need.
+//!
+//! [`faults`] has the faults E1 to E24 and the line that reports one, and [`limits`] the limits of a run. [`paths`] has the rules of paths,
+//! [`tables`] hash tables for untrusted keys, and [`text_lists`] lists of texts. Nothing here knows what is refused and when, or what the
+//! keys and the texts are for.
 #![tactic(auto)]
 
 pub mod faults;

@@ -1,19 +1,20 @@
-//! The sizes that a run may not pass: what is larger is refused as E22.
+//! Defines the limits of a run. Anything larger is refused with E22.
 
-/// How many bytes a text and a definition file may have.
+/// The most bytes of a text and of a build file.
 pub const TEXT_BYTES: usize = 16_777_216;
 
-/// How many items a list or a dictionary may have.
+/// The most items of a list or a dictionary.
 pub const ITEMS: usize = 65_536;
 
-/// How many lists and dictionaries may stand inside one another.
+/// The most levels of nested lists and dictionaries.
 pub const LEVELS: u32 = 64;
 
-/// The most that a value may weigh: a text weighs its bytes and one, a list or a dictionary one and what it holds, anything else one.
+/// The greatest weight of a value. A text weighs its bytes plus one, a list or a dictionary the sum of its content plus one, anything else
+/// one.
 pub const WEIGHT: u32 = 33_554_432;
 
-/// How many folders may be entered. The root counts.
+/// The most folders that are entered, including the root.
 pub const FOLDERS: usize = 4_096;
 
-/// How many bytes a line of a template may have, its end counted.
+/// The most bytes of a line of a template, including its line ending.
 pub const LINE_BYTES: usize = 65_536;

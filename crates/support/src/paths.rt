@@ -1,7 +1,7 @@
-//! The rules of paths: the paths of the tree that texts of a definition file name, paths below others, and the names of files.
+//! Implements the rules of paths: the paths that texts of a build file name, paths below others, and the names of files.
 //!
-//! A text is relative to the folder of the file, or an absolute path below the source root; parts `.` go, and `..` takes the part before
-//! it away. A path of the tree has none of them, and the root's is empty.
+//! A text is relative to the folder of the build file, or an absolute path below the source root. Parts `.` are removed, and `..` removes
+//! the part before it. The resulting path has no such parts, and is empty for the root.
 
 mod below;
 mod folders;

@@ -1,11 +1,10 @@
-//! Hash tables whose keys a stranger chooses: names, paths and keys that come from a file.
+//! Provides hash tables for untrusted keys: names, paths and keys that come from a file.
 //!
-//! [`SipSet`] and [`SipMap`] are the set and the map of `indexmap`, which keep their keys in the order of insertion, hashed by SipHash.
-//! The hash that `indexmap` takes by itself is quick, but keys that collide in it are easily made, and a table of such keys takes time
-//! quadratic in their number. Of SipHash no way is known to make them without the key. Its key is fixed here, since a run depends on
-//! nothing but its bytes.
+//! [`SipSet`] and [`SipMap`] are the set and the map of `indexmap`, which keep their keys in order of insertion, hashed by SipHash. The
+//! default hash of `indexmap` is fast, but colliding keys are easy to make, and a table of such keys takes quadratic time. For SipHash no
+//! way is known to make them without its key. The key is fixed here, since a run depends on nothing but its input.
 //!
-//! A contract names what a map holds by `m.entries`, and what a set holds by `s.keys`.
+//! A contract refers to the content of a map by `m.entries`, and to that of a set by `s.keys`.
 //!
 //! ```text
 //! use tables::{SipMap, new_map};

@@ -1,4 +1,4 @@
-//! Lists of texts.
+//! Works with lists of texts.
 
 ghost use Rattle.std.specs.Prelude.{◌≡◌, IfOk, map};
 ghost use Rattle.support.specs.Among.{is_among};
@@ -6,14 +6,14 @@ ghost use Rattle.support.specs.Texts.{texts};
 
 use std::alloc::{AllocError, Global};
 
-/// Whether the text is one of these names. The time is linear in their number.
+/// Returns whether a text is one of these names. The time is linear in their number.
 pub fn is_among(names: &[&str], text: &str) -> bool
     ensures { result ≡ is_among (map (λ name. name.now) names.now) text.now }
 {
     names.iter().any(|name| text == *name)
 }
 
-/// The texts as strings of their own.
+/// Returns copies of the texts as strings.
 pub fn strings(alloc: Global, parts: &[&str]) -> Result<Vec<String>, AllocError>
     ensures { IfOk result (λ v. texts v.items ≡ map (λ p. p.now) parts.now) }
 {
@@ -24,7 +24,7 @@ pub fn strings(alloc: Global, parts: &[&str]) -> Result<Vec<String>, AllocError>
     Ok(strings)
 }
 
-/// The strings once more.
+/// Returns copies of the strings.
 pub fn copies(alloc: Global, strings: &[String]) -> Result<Vec<String>, AllocError>
     ensures { IfOk result (λ v. texts v.items ≡ texts strings.now) }
 {

@@ -1,4 +1,4 @@
--- The tree of an expression without where it lies in memory.
+-- Defines the tree of an expression, without its place in memory.
 use Rattle.std.specs.Prelude.{ℕ, List, [], ◌∷◌, map, Option}
 use Rattle.std.specs.Option.{option_map}
 use Rattle.syntax.specs.declared.tree.Expression.{Expression}
@@ -14,7 +14,7 @@ use Rattle.syntax.specs.declared.tree.Prefix.{Prefix}
 use Rattle.syntax.specs.declared.tree.Literal.{Literal}
 use Rattle.syntax.specs.declared.tree.Operator.{Operator}
 
--- the last number of a node is its line
+-- The last number of a node is its line.
 mutual
   pub data ExpressionTree : Type 0 where
     NameTree : List ℕ → ℕ → ExpressionTree
@@ -51,15 +51,15 @@ mutual
     NoOperand : OperandTrees
     MoreOperands : Operator → ExpressionTree → OperandTrees → OperandTrees
 
--- a key and its value
+-- A key and its value.
 abbrev pub EntryTree : Type 0
 EntryTree = ExpressionTree × ExpressionTree
 
--- a name or none, and the value
+-- An optional name, and the value.
 abbrev pub ArgumentTree : Type 0
 ArgumentTree = Option (List ℕ) × ExpressionTree
 
--- an operator and the value behind it
+-- An operator and the value after it.
 abbrev pub OperandTree : Type 0
 OperandTree = Operator × ExpressionTree
 
@@ -83,7 +83,7 @@ abbrev pub operands : List OperandTree → OperandTrees
 operands [] = NoOperand
 operands (o ∷ os) = MoreOperands o.0 o.1 (operands os)
 
--- ---- of what the code makes
+-- ---- the trees of what the code makes
 
 abbrev pub expression_step : Expression-F ExpressionTree LinkTree ArgumentTree EntryTree OperandTree → ExpressionTree
 expression_step (Name name line) = NameTree name.now line
@@ -129,11 +129,11 @@ abbrev pub entry_of : Entry → EntryTree
 entry_of = fold-Entry ExpressionTree LinkTree ArgumentTree EntryTree OperandTree expression_step link_step argument_step entry_step
     operand_step
 
--- the arguments that the code has
+-- Returns the trees of the code's arguments.
 abbrev pub argument_trees : List Argument → ArgumentTrees
 argument_trees xs = arguments (map argument_of xs)
 
--- the line of the first token
+-- Returns the line of the first token.
 abbrev pub line_of : ExpressionTree → ℕ
 line_of (NameTree name line) = line
 line_of (LiteralTree literal text line) = line

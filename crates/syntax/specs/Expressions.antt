@@ -1,5 +1,5 @@
--- The grammar of expressions, a form for each line, as the Meson manual's page "Syntax" has it. `b` says whether a
--- ternary (`test ? yes : no`) may stand in the expression, `u` what may stand behind a token that opens a level.
+-- Defines the grammar of expressions, with a form for each line, as the Meson manual has it (page "Syntax"). `b` says whether a ternary
+-- (`test ? yes : no`) may be in the expression. `u` is what may follow a token that opens a level.
 use Rattle.std.specs.Prelude.{ℕ, zero, suc, Bool, true, false, List, [], ◌∷◌, Option, Some, None}
 use Rattle.std.specs.Option.{is_some, option_to_list}
 use Rattle.syntax.specs.lexer.Lexeme.{Lexeme}
@@ -17,7 +17,7 @@ use Rattle.syntax.specs.ExpressionTree.{OperandTree, arguments, entries, express
 use Rattle.syntax.specs.Form.{Form, token, give, ◌>>=◌, ◌or◌, many, optional, listed, listed_by}
 use Rattle.syntax.specs.Parts.{Inner, Closed, Inside, here, opened, token_as}
 
--- ---- what tokens stand for
+-- ---- what tokens mean
 
 -- NUMBER, STRING, "true" and "false"
 abbrev pub literal_of : Kind → Option Literal
@@ -61,7 +61,7 @@ multiplicative _ = None
 
 -- ---- chains of operators
 
--- a chain of one part is that part
+-- Returns the tree of a chain. A chain of one part is that part.
 abbrev pub chain_tree : ℕ → ExpressionTree → List OperandTree → ExpressionTree
 chain_tree line first [] = first
 chain_tree line first (o ∷ os) = ChainTree first (operands (o ∷ os)) line
@@ -125,7 +125,7 @@ conjunction unary = chain conjunctive (comparison unary)
 abbrev pub disjunction : Form ExpressionTree → Form ExpressionTree
 disjunction unary = chain disjunctive (conjunction unary)
 
--- a ternary without branches is its test
+-- Returns the tree of a ternary. A ternary without branches is its test.
 abbrev pub ternary_tree : ℕ → ExpressionTree → Option (ExpressionTree × ExpressionTree) → ExpressionTree
 ternary_tree line test None = test
 ternary_tree line test (Some x) = TernaryTree test x.0 x.1 line
@@ -139,7 +139,7 @@ branches part = do
   other ← part
   give (one, other)
 
--- expr = or ["?" or ":" or], where no ternary stands inside the branches, brackets or not
+-- expr = or ["?" or ":" or], where the branches hold no other ternary, in brackets or not
 abbrev pub ternary : (Bool → Form ExpressionTree) → Bool → Form ExpressionTree
 ternary unary false = disjunction (unary false)
 ternary unary true = do
@@ -216,12 +216,12 @@ positional expr = do
   e ← expr
   give (None, e)
 
--- item = expr | NAME ":" expr, and behind a named one only a named one
+-- item = expr | NAME ":" expr, and after a named item only named ones
 abbrev pub argument : Form ExpressionTree → Bool → Form ArgumentTree
 argument expr true = named expr
 argument expr false = named expr or positional expr
 
--- whether an argument has a name
+-- Returns whether an argument has a name.
 abbrev pub is_named : Bool → ArgumentTree → Bool
 is_named before a = is_some a.0
 
@@ -243,7 +243,7 @@ call args = do
   xs ← args
   give (FunctionTree t.text (arguments xs) t.line)
 
--- ---- what is asked of a value
+-- ---- methods and indexes
 
 -- "." NAME "(" args ")"
 abbrev pub method : Form (List ArgumentTree) → Form LinkTree
@@ -264,7 +264,7 @@ index unary b o = do
 abbrev pub link : Inner → Bool → Form LinkTree
 link u b = method (in_parentheses u b) or opened Kinds.OpenBracket u (λ e. index e b)
 
--- a value of which nothing is asked is that value
+-- Returns the tree of a value with its methods and indexes. A value without any is itself.
 abbrev pub postfix_tree : ℕ → ExpressionTree → List LinkTree → ExpressionTree
 postfix_tree line first [] = first
 postfix_tree line first (l ∷ ls) = PostfixTree first (links (l ∷ ls)) line

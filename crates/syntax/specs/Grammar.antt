@@ -1,10 +1,10 @@
--- The grammar of files. The number is that of the levels that may still be opened.
+-- Defines the grammar of files. The number is that of the levels that may still be opened.
 use Rattle.std.specs.Prelude.{ℕ, false, [], ◌∷◌, ◌++◌}
 use Rattle.syntax.specs.Tree.{FileTree}
 use Rattle.syntax.specs.Form.{Form, give, ◌>>=◌, many, optional}
 use Rattle.syntax.specs.Statements.{stmt, line, given}
 
--- how many levels may be open
+-- Returns the number of levels that may be open.
 abbrev pub most_levels : ℕ
 most_levels = 64
 

@@ -1,17 +1,17 @@
--- What holds of every text.
+-- States what holds of every text.
 use Rattle.std.specs.Prelude.{◌≡◌, ℕ, List, Result, Ok, Err}
 use Rattle.syntax.specs.declared.lexer.fault.SyntaxFault.{SyntaxFault}
 use Rattle.syntax.specs.Grammar.{most_levels}
 use Rattle.syntax.specs.Parsed.{FrontsAreShorter, HasFault, Spells, parsed}
 use Rattle.syntax.specs.Tree.{FileTree}
 
--- the tokens of a text spell this file, with as many levels as may be open, or it has this fault
+-- Holds if the tokens of a text spell this file, within the limit of levels, or if the text has this fault.
 abbrev pub IsParsed : List ℕ → Result FileTree SyntaxFault → Type 0
 IsParsed text (Ok f) = Spells most_levels text f
 IsParsed text (Err fault) = HasFault text fault
 
--- Each text spells one file, or has one fault, and not both: what `parsed` gives of it. No text spells a second file with any number of
--- levels. A fault is the first: where the tokens up to one begin a file, so do those up to each before it.
+-- Each text either spells one file or has one fault, which `parsed` returns. No text spells a second file, with any number of levels. A
+-- fault is the first one: if the tokens up to one begin a file, so do the tokens up to each earlier one.
 pub record TextsAreParsed : Type 0 where
   pub something : (text : List ℕ) → IsParsed text (parsed text)
   pub once : (text : List ℕ) (read : Result FileTree SyntaxFault) → IsParsed text read → parsed text ≡ read

@@ -1,20 +1,20 @@
--- What reading all tokens by a form says, where the form is given for each number of levels.
+-- Defines the outcomes of reading all tokens by a form, which is given for each number of levels.
 use Rattle.std.specs.Prelude.{◌≡◌, ℕ, ◌+◌, ◌<◌, ◌≤◌, List, [], length, drop}
 use Rattle.syntax.specs.lexer.Lexeme.{Lexeme}
 use Rattle.syntax.specs.Form.{Form}
 
--- the first k tokens begin the form
+-- Holds if the first k tokens begin the form.
 abbrev pub BeginsBy : {A : Type 0} → Form A → List Lexeme → ℕ → Type 0
 BeginsBy F ts k = (k ≤ length ts) × F.front ts (drop k ts)
 
--- The first k tokens begin the form, and the first k + 1 do not, however many levels may be opened.
--- Where there are only k, all of them spell nothing.
+-- The first k tokens begin the form, and the first k + 1 do not, however many levels may be opened. If there are only k tokens, all of them
+-- spell nothing.
 pub record IsUnexpected {A : Type 0} (F : ℕ → Form A) (levels : ℕ) (ts : List Lexeme) (k : ℕ) : Type 0 where
   pub before : BeginsBy (F levels) ts k
   pub here : (n : ℕ) → k < length ts → BeginsBy (F n) ts (k + 1) → ⊥
   pub at_end : (n : ℕ) (a : A) → k ≡ length ts → (F n).spells a ts [] → ⊥
 
--- The first k tokens begin the form, and the first k + 1 do only where one more level may be opened.
+-- The first k tokens begin the form, and the first k + 1 do so only if one more level may be opened.
 pub record IsTooDeep {A : Type 0} (F : ℕ → Form A) (levels : ℕ) (ts : List Lexeme) (k : ℕ) : Type 0 where
   pub before : BeginsBy (F levels) ts k
   pub here : BeginsBy (F levels) ts (k + 1) → ⊥

@@ -1,4 +1,4 @@
--- What a source reads as.
+-- Defines what a source spells.
 use Rattle.std.specs.Prelude.{◌≡◌, ℕ, ◌+◌, ◌-◌, ◌≤◌, List, [], ◌∷◌, length, drop, Result, Ok, Err}
 use Rattle.syntax.specs.lexer.Bytes.{newlines}
 use Rattle.syntax.specs.lexer.Lexeme.{Lexeme}
@@ -21,11 +21,11 @@ abbrev pub first_line : ℕ → List Lexeme → ℕ
 first_line end [] = end
 first_line end (t ∷ ts) = t.line
 
--- the line of the token with this index, or of the end
+-- Returns the line of the token with this index, or of the source's end.
 abbrev pub line_of : List ℕ → List Lexeme → ℕ → ℕ
 line_of source ts k = first_line (1 + newlines source) (drop k ts)
 
--- the fault of a stop, with the line of its token
+-- Returns the fault of a stop, with the line of its token.
 abbrev pub located : List ℕ → List Lexeme → Stop → SyntaxFault
 located source ts (Unexpected left) = record { kind = Faults.Grammar; line = line_of source ts (length ts - left) }
 located source ts (TooDeep left) = record { kind = Faults.Nesting; line = line_of source ts (length ts - left) }
@@ -38,19 +38,19 @@ abbrev pub parsed_tokens : List ℕ → Result (List Lexeme) SyntaxFault → Res
 parsed_tokens source (Ok ts) = in_source source ts (all_of (file_at most_levels) ts)
 parsed_tokens source (Err e) = Err e
 
--- the file that a source spells, or its fault
+-- Returns the file that a source spells, or its fault.
 unfoldable pub parsed : List ℕ → Result FileTree SyntaxFault
 parsed source = parsed_tokens source (lexed source)
 
 -- ---- as relations
 
--- the tokens of the source spell the file, with at most so many levels
+-- The tokens of the source spell the file, with at most this many levels.
 pub record Spells (levels : ℕ) (source : List ℕ) (f : FileTree) : Type 0 where
   pub tokens : List Lexeme
   pub are_tokens : AreTokens source tokens
   pub spelled : (file levels).spells f tokens []
 
--- of the tokens of the source this holds at the one on this line
+-- The predicate holds of the tokens of the source, at a token on this line.
 pub record HoldsOn (holds : List Lexeme → ℕ → Type 0) (source : List ℕ) (line : ℕ) : Type 0 where
   pub tokens : List Lexeme
   pub are_tokens : AreTokens source tokens
@@ -58,17 +58,18 @@ pub record HoldsOn (holds : List Lexeme → ℕ → Type 0) (source : List ℕ) 
   pub here : line ≡ line_of source tokens index
   pub holding : holds tokens index
 
--- no token begins on this line; or the tokens begin no file from the one on it on; or that is the first that opens a level too many
+-- Holds for E2 if no token begins on this line, and for E3 if the tokens begin no file from the one on this line on. It holds for E4 if the
+-- token on this line is the first that opens a level too many.
 abbrev pub FaultsBy : FaultKind → List ℕ → ℕ → Type 0
 FaultsBy Faults.Token source line = IsUnreadable source line
 FaultsBy Faults.Grammar source line = HoldsOn (IsUnexpected file most_levels) source line
 FaultsBy Faults.Nesting source line = HoldsOn (IsTooDeep file most_levels) source line
 
--- the source has this fault
+-- Holds if the source has this fault.
 abbrev pub HasFault : List ℕ → SyntaxFault → Type 0
 HasFault source f = FaultsBy f.kind source f.line
 
--- where the first k tokens begin a file, so do fewer: what no front reaches, no longer one does
+-- If the first k tokens begin a file, so do fewer: no longer beginning exists where a shorter one fails.
 abbrev pub FrontsAreShorter : List ℕ → Type 0
 FrontsAreShorter source = (n : ℕ) (ts : List Lexeme) (j k : ℕ) → AreTokens source ts → j ≤ k → BeginsBy (file n) ts k
     → BeginsBy (file n) ts j

@@ -1,4 +1,4 @@
--- Reading tokens by the grammar, as functions: a value and the tokens after it, or where reading stops.
+-- Defines how tokens are read by the grammar, as functions: a reader returns a value and the tokens after it, or where reading stops.
 use Rattle.std.specs.Prelude.{◌≡◌, ℕ, zero, suc, ◌+◌, List, [], ◌∷◌, length, Result, Ok, Err, Bool, true, false, not, if◌then◌else◌, ◌&&◌}
 use Rattle.std.specs.Prelude.{Option, Some, None}
 use Rattle.syntax.specs.lexer.Lexeme.{Lexeme}
@@ -10,6 +10,7 @@ use Rattle.syntax.specs.declared.stop.Stop.TheVariants.{Unexpected, TooDeep}
 use Rattle.syntax.specs.declared.stop.ReadError.{ReadError}
 use Rattle.syntax.specs.declared.stop.ReadError.TheVariants as errors
 
+-- Returns a value and the tokens after it, or where reading stops.
 abbrev pub Reader : Type 0 → Type 0
 Reader A = List Lexeme → Result (A × List Lexeme) Stop
 
@@ -18,101 +19,110 @@ abbrev pub ◌>>=◌ : {A B : Type 0} → Result A Stop → (A → Result B Stop
 (Ok x) >>= f = f x
 (Err e) >>= f = Err e
 
--- What a function returned, seen by view, and the tokens that it left are what reading gives, unless memory ran out.
+-- Relates a function's result, seen by `view`, and the tokens that it left to the result of reading, unless memory ran out.
 abbrev pub Fails : {Y : Type 0} → ReadError → Result Y Stop → Type 0
 Fails errors.Memory read = Unit {0}
 Fails (errors.Stop f) read = read ≡ Err f
 
+-- Relates the result of a function, with the tokens that it left, to the result of reading, unless memory ran out.
 abbrev pub Gives : {X Y : Type 0} → (X → Y) → Result X ReadError → List Lexeme → Result (Y × List Lexeme) Stop → Type 0
 Gives view (Ok x) rest read = read ≡ Ok (view x, rest)
 Gives view (Err e) rest read = Fails e read
 
+-- Relates the result of a function that reads all tokens to the result of reading, unless memory ran out.
 abbrev pub GivesAll : {X Y : Type 0} → (X → Y) → Result X ReadError → Result Y Stop → Type 0
 GivesAll view (Ok x) read = read ≡ Ok (view x)
 GivesAll view (Err e) read = Fails e read
 
--- What was made of what was read: nothing where reading failed, and with the same error, and else that, unless memory ran out.
+-- Relates the result of a function that continues after another: the same error if reading failed, and else what was made, unless memory
+-- ran out.
 abbrev pub GoesOn : {X Z : Type 0} → (X → Z → Type 0) → Result X ReadError → Result Z ReadError → Type 0
 GoesOn made (Ok x) (Ok z) = made x z
 GoesOn made (Ok x) (Err e) = e ≡ errors.Memory
 GoesOn made (Err f) (Ok z) = ⊥
 GoesOn made (Err f) (Err e) = e ≡ f
 
--- how many tokens are left where reading stops
+-- Returns how many tokens are left where reading stops.
 abbrev pub tokens_left : Stop → ℕ
 tokens_left (Unexpected n) = n
 tokens_left (TooDeep n) = n
 
--- the first token; there is always one
+-- Returns the first token; there always is one.
 abbrev pub first_of : List Lexeme → Lexeme
 first_of [] = record { kind = Kinds.Newline; text = []; line = 0 }
 first_of (t ∷ ts) = t
 
--- the first token is of this kind
+-- Returns whether the first token is of this kind.
 abbrev pub begins : Kind → List Lexeme → Bool
 begins k [] = false
 begins k (t ∷ ts) = is t.kind k
 
--- there is a first token, and its kind is one of these
+-- Returns whether there is a first token and its kind passes the test.
 abbrev pub head_is : (Kind → Bool) → List Lexeme → Bool
 head_is p [] = false
 head_is p (t ∷ ts) = p t.kind
 
+-- Reads a token of this kind.
 unfoldable pub token_at : Kind → Reader Lexeme
 token_at k [] = Err (Unexpected 0)
 token_at k (t ∷ ts) = if is t.kind k then Ok (t, ts) else Err (Unexpected (length ts + 1))
 
--- what r reads while the next token begins it, at most so many times
+-- Reads with r while the next token begins it, at most k times.
 abbrev pub many_at : {A : Type 0} → (List Lexeme → Bool) → Reader A → ℕ → Reader (List A)
 many_at next r zero ts = Ok ([], ts)
 many_at next r (suc k) ts =
     if next ts then (r ts >>= λ x. many_at next r k x.1 >>= λ y. Ok (x.0 ∷ y.0, y.1)) else Ok ([], ts)
 
+-- Reads with r if the next token begins it, and else with s.
 unfoldable pub or_at : {A : Type 0} → (List Lexeme → Bool) → Reader A → Reader A → Reader A
 or_at first r s ts = if first ts then r ts else s ts
 
+-- Reads with r if the next token begins it, and else nothing.
 unfoldable pub optional_at : {A : Type 0} → (List Lexeme → Bool) → Reader A → Reader (Option A)
 optional_at first r ts = or_at first (λ us. r us >>= λ x. Ok (Some x.0, x.1)) (λ us. Ok (None, us)) ts
 
--- what r reads, and a token of this kind behind it
+-- Reads with r, and then a token of this kind.
 unfoldable pub ended_at : {A : Type 0} → Kind → Reader A → Reader A
 ended_at k r ts = r ts >>= λ x. token_at k x.1 >>= λ c. Ok (x.0, c.1)
 
--- what follows an element of a list, where items reads the rest after a comma
+-- Reads what follows an element of a list: with `items`, after a comma.
 unfoldable pub tail_at : {A : Type 0} → Reader (List A) → Reader (List A)
 tail_at items ts = if begins Kinds.Comma ts then (token_at Kinds.Comma ts >>= λ c. items c.1) else Ok ([], ts)
 
--- the elements of a list up to what stops it, where there are fewer than so many; each leads on from a state to the next
+-- Reads fewer than k elements of a list, up to its end. Each changes the state for the next.
 unfoldable pub items_by : {S A : Type 0} → (List Lexeme → Bool) → (S → Reader A) → (S → A → S) → ℕ → S → Reader (List A)
 items_by stop r step zero s ts = Ok ([], ts)
 items_by stop r step (suc k) s ts =
     if stop ts then Ok ([], ts) else (r s ts >>= λ x. tail_at (items_by stop r step k (step s x.0)) x.1 >>= λ y. Ok (x.0 ∷ y.0, y.1))
 
+-- Reads the elements of a list, up to a token of this kind. Each changes the state for the next.
 unfoldable pub listed_at : {S A : Type 0} → Kind → (S → Reader A) → (S → A → S) → S → Reader (List A)
 listed_at k r step s ts = items_by (begins k) r step (length ts + 1) s ts
 
--- whether a further element of a list comes behind an element, before what closes the list, and the tokens from it on
+-- Returns whether another element follows the comma, before the list is closed, and the tokens from there on.
 abbrev pub behind_comma : Kind → Bool → Lexeme → List Lexeme → Bool × List Lexeme
 behind_comma close true t ts = (not (begins close ts), ts)
 behind_comma close false t ts = (false, t ∷ ts)
 
+-- Returns whether a comma and another element follow, before a token of this kind closes the list, and the tokens from there on.
 unfoldable pub more_at : Kind → List Lexeme → Bool × List Lexeme
 more_at close [] = (false, [])
 more_at close (t ∷ ts) = behind_comma close (is t.kind Kinds.Comma) t ts
 
--- the first two tokens are of these kinds
+-- Returns whether the first two tokens are of these kinds.
 abbrev pub two_begin : Kind → Kind → List Lexeme → Bool
 two_begin k l [] = false
 two_begin k l (t ∷ ts) = is t.kind k && begins l ts
 
--- where no level may be opened
+-- Stops at a token that opens a level when none may be opened.
 unfoldable pub deep_at : {A : Type 0} → Kind → Reader A
 deep_at k ts = if begins k ts then Err (TooDeep (length ts)) else Err (Unexpected (length ts))
 
--- all tokens
+-- Succeeds if all tokens are read.
 abbrev pub ends_at : {A : Type 0} → A × List Lexeme → Result A Stop
 ends_at (a, []) = Ok a
 ends_at (a, t ∷ ts) = Err (Unexpected (length ts + 1))
 
+-- Reads all tokens with r.
 unfoldable pub all_of : {A : Type 0} → Reader A → List Lexeme → Result A Stop
 all_of r ts = r ts >>= λ x. ends_at x

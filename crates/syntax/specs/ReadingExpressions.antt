@@ -1,4 +1,4 @@
--- Reading expressions, as functions.
+-- Defines how expressions are read, as functions.
 use Rattle.std.specs.Prelude.{ℕ, zero, suc, Bool, true, false, cond, ◌||◌, if◌then◌else◌, List, [], ◌∷◌, length, Ok, Option, Some, None}
 use Rattle.std.specs.Option.{option_map, option_to_list}
 use Rattle.syntax.specs.lexer.Lexeme.{Lexeme}
@@ -22,15 +22,18 @@ use Rattle.syntax.specs.Form.{same_state}
 
 -- ---- chains of operators
 
+-- Reads an operator and the value after it.
 unfoldable pub operand_at : (Kind → Option Operator) → Reader ExpressionTree → Reader OperandTree
 operand_at f part ts = do
   o ← token_as_at f ts
   e ← part o.1
   Ok ((o.0.0, e.0), e.1)
 
+-- Reads operators and the values after them, as long as an operator follows.
 unfoldable pub operands_at : (Kind → Option Operator) → Reader ExpressionTree → Reader (List OperandTree)
 operands_at f part ts = many_at (head_is (stands_for f)) (operand_at f part) (length ts) ts
 
+-- Reads a chain: a value, and operators with the values after them.
 unfoldable pub chain_at : (Kind → Option Operator) → Reader ExpressionTree → Reader ExpressionTree
 chain_at f part ts = do
   line ← here_at ts
@@ -52,17 +55,18 @@ plain_comparison_at ts = do
 unfoldable pub comparison_operator_at : Reader Operator
 comparison_operator_at ts = or_at (head_is (stands_for comparative)) plain_comparison_at not_in_at ts
 
+-- Reads a comparison operator and the value after it.
 unfoldable pub compared_at : Reader ExpressionTree → Reader OperandTree
 compared_at part ts = do
   o ← comparison_operator_at ts
   e ← part o.1
   Ok ((o.0, e.0), e.1)
 
--- a comparison as all that a chain has behind its first part
+-- Reads a comparison as the only operand of a chain.
 unfoldable pub one_compared_at : Reader ExpressionTree → Reader (List OperandTree)
 one_compared_at part ts = compared_at part ts >>= λ o. Ok (o.0 ∷ [], o.1)
 
--- a comparison goes on
+-- Returns whether a comparison continues.
 abbrev pub compares : Kind → Bool
 compares Kinds.Not = true
 compares k = stands_for comparative k
@@ -88,10 +92,11 @@ conjunction_at unary ts = chain_at conjunctive (comparison_at unary) ts
 unfoldable pub disjunction_at : Reader ExpressionTree → Reader ExpressionTree
 disjunction_at unary ts = chain_at disjunctive (conjunction_at unary) ts
 
--- a ternary goes on
+-- Returns whether a ternary continues.
 abbrev pub asks : Kind → Bool
 asks k = is k Kinds.Question
 
+-- Reads the two branches of a ternary.
 unfoldable pub branches_at : Reader ExpressionTree → Reader (ExpressionTree × ExpressionTree)
 branches_at part ts = do
   q ← token_at Kinds.Question ts
@@ -100,6 +105,7 @@ branches_at part ts = do
   other ← part c.1
   Ok ((one.0, other.0), other.1)
 
+-- Reads a ternary, or what may be its condition alone. The branches hold no ternary.
 unfoldable pub ternary_at : (Bool → Reader ExpressionTree) → Bool → Reader ExpressionTree
 ternary_at unary false ts = disjunction_at (unary false) ts
 ternary_at unary true ts = do
@@ -120,13 +126,14 @@ literal_at ts = do
   t ← token_as_at literal_of ts
   Ok (LiteralTree t.0.0 t.0.1.text t.0.1.line, t.1)
 
+-- Reads an expression and the parenthesis that closes it.
 unfoldable pub group_at : (Bool → Reader ExpressionTree) → Bool → Lexeme → Reader ExpressionTree
 group_at unary b o ts = do
   e ← ternary_at unary b ts
   c ← token_at Kinds.CloseParenthesis e.1
   Ok (e.0, c.1)
 
--- the elements of a list, up to its bracket
+-- Reads the elements of a list, up to its bracket.
 unfoldable pub elements_at : (Bool → Reader ExpressionTree) → Bool → Reader (List ExpressionTree)
 elements_at unary b ts = listed_at Kinds.CloseBracket (λ s. ternary_at unary b) same_state tt ts
 
@@ -136,6 +143,7 @@ list_at unary b o ts = do
   c ← token_at Kinds.CloseBracket es.1
   Ok (ListTree (expressions es.0) o.line, c.1)
 
+-- Reads a key and its value.
 unfoldable pub entry_at : Reader ExpressionTree → Reader EntryTree
 entry_at expr ts = do
   k ← expr ts
@@ -143,7 +151,7 @@ entry_at expr ts = do
   v ← expr c.1
   Ok ((k.0, v.0), v.1)
 
--- the entries of a dictionary, up to its brace
+-- Reads the entries of a dictionary, up to its brace.
 unfoldable pub entries_at : (Bool → Reader ExpressionTree) → Bool → Reader (List EntryTree)
 entries_at unary b ts = listed_at Kinds.CloseBrace (λ s. entry_at (ternary_at unary b)) same_state tt ts
 
@@ -153,6 +161,7 @@ dictionary_at unary b o ts = do
   c ← token_at Kinds.CloseBrace es.1
   Ok (DictionaryTree (entries es.0) o.line, c.1)
 
+-- Reads a name, an expression in brackets, a list, a dictionary or a literal.
 unfoldable pub atom_at : Option (Bool → Reader ExpressionTree) → Bool → Reader ExpressionTree
 atom_at u b ts =
     or_at (begins Kinds.Name) name_at
@@ -163,7 +172,7 @@ atom_at u b ts =
 
 -- ---- one token
 
--- what a token is by itself: a name or a literal
+-- Returns the expression of a single token: a name or a literal.
 abbrev pub single_of : Lexeme → Option ExpressionTree
 single_of t =
     if is t.kind Kinds.Name then Some (NameTree t.text t.line)
@@ -172,13 +181,14 @@ single_of t =
 unfoldable pub single_at : Reader ExpressionTree
 single_at ts = or_at (begins Kinds.Name) name_at literal_at ts
 
--- kinds that go on with no expression: an element, an argument, an entry or a statement ends before them
+-- Returns whether tokens of this kind never continue an expression: an element, an argument, an entry or a statement ends before them.
 abbrev pub ends_expression : Kind → Bool
 ends_expression k = is k Kinds.Comma || (is k Kinds.Colon || (is k Kinds.Newline || (is k Kinds.CloseParenthesis
     || (is k Kinds.CloseBracket || is k Kinds.CloseBrace))))
 
 -- ---- arguments
 
+-- Reads an argument with a name.
 unfoldable pub named_at : Reader ExpressionTree → Reader ArgumentTree
 named_at expr ts = do
   t ← token_at Kinds.Name ts
@@ -186,30 +196,34 @@ named_at expr ts = do
   e ← expr c.1
   Ok ((Some t.0.text, e.0), e.1)
 
+-- Reads an argument without a name.
 unfoldable pub positional_at : Reader ExpressionTree → Reader ArgumentTree
 positional_at expr ts = do
   e ← expr ts
   Ok ((None, e.0), e.1)
 
+-- Reads an argument. After a named one, it must have a name too.
 unfoldable pub argument_at : Reader ExpressionTree → Bool → Reader ArgumentTree
 argument_at expr true ts = named_at expr ts
 argument_at expr false ts = or_at (two_begin Kinds.Name Kinds.Colon) (named_at expr) (positional_at expr) ts
 
--- the name and the colon alone, which stand before each argument behind one that has them
+-- Reads only the name and the colon of an argument. Each argument after a named one has them.
 unfoldable pub name_colon_at : Reader (List ℕ)
 name_colon_at ts = do
   t ← token_at Kinds.Name ts
   c ← token_at Kinds.Colon t.1
   Ok (t.0.text, c.1)
 
+-- Reads the name and the colon of an argument, if there are any. After a named argument there must be.
 unfoldable pub label_at : Bool → Reader (Option (List ℕ))
 label_at true ts = name_colon_at ts >>= λ x. Ok (Some x.0, x.1)
 label_at false ts = optional_at (two_begin Kinds.Name Kinds.Colon) name_colon_at ts
 
--- the arguments of a call, up to its parenthesis
+-- Reads the arguments of a call, up to its parenthesis.
 unfoldable pub given_at : (Bool → Reader ExpressionTree) → Bool → Reader (List ArgumentTree)
 given_at unary b ts = listed_at Kinds.CloseParenthesis (argument_at (ternary_at unary b)) is_named false ts
 
+-- Reads the arguments of a call and the parenthesis that closes them.
 unfoldable pub items_at : (Bool → Reader ExpressionTree) → Bool → Lexeme → Reader (List ArgumentTree)
 items_at unary b o ts = do
   xs ← listed_at Kinds.CloseParenthesis (argument_at (ternary_at unary b)) is_named false ts
@@ -225,7 +239,7 @@ call_at args ts = do
   xs ← args t.1
   Ok (FunctionTree t.0.text (arguments xs.0) t.0.line, xs.1)
 
--- ---- what is asked of a value
+-- ---- methods and indexes
 
 unfoldable pub method_at : Reader (List ArgumentTree) → Reader LinkTree
 method_at args ts = do
@@ -240,19 +254,22 @@ index_at unary b o ts = do
   c ← token_at Kinds.CloseBracket e.1
   Ok (IndexTree e.0, c.1)
 
+-- Reads a method call or an index.
 unfoldable pub link_at : Option (Bool → Reader ExpressionTree) → Bool → Reader LinkTree
 link_at u b ts = or_at (begins Kinds.Dot) (method_at (in_parentheses_at u b)) (opened_at Kinds.OpenBracket u (λ e. index_at e b)) ts
 
--- something more is asked of a value
+-- Returns whether a method or an index begins with a token of this kind.
 abbrev pub links_on : Kind → Bool
 links_on k = cond (is k Kinds.Dot) true (is k Kinds.OpenBracket)
 
 unfoldable pub links_at : Option (Bool → Reader ExpressionTree) → Bool → Reader (List LinkTree)
 links_at u b ts = many_at (head_is links_on) (link_at u b) (length ts) ts
 
+-- Reads a call or an atom.
 unfoldable pub base_at : Option (Bool → Reader ExpressionTree) → Bool → Reader ExpressionTree
 base_at u b ts = or_at (two_begin Kinds.Name Kinds.OpenParenthesis) (call_at (in_parentheses_at u b)) (atom_at u b) ts
 
+-- Reads a call or an atom, and the methods and indices that follow it.
 unfoldable pub postfix_at : Option (Bool → Reader ExpressionTree) → Bool → Reader ExpressionTree
 postfix_at u b ts = do
   line ← here_at ts
@@ -262,53 +279,61 @@ postfix_at u b ts = do
 
 -- ---- prefix operators
 
+-- Reads the value after a prefix operator.
 unfoldable pub prefixed_at : Prefix → (Bool → Reader ExpressionTree) → Bool → Lexeme → Reader ExpressionTree
 prefixed_at p unary b o ts = do
   e ← unary b ts
   Ok (PrefixTree p e.0 o.line, e.1)
 
--- the prefix operator that comes, and the token that it is
+-- Returns the prefix operator that is next, and the token of each.
 abbrev pub prefix_of : List Lexeme → Option Prefix
 prefix_of ts = if begins Kinds.Not ts then Some prefixes.Not else (if begins Kinds.Minus ts then Some prefixes.Negative else None)
 
+-- Returns the token of a prefix operator.
 abbrev pub word_of : Prefix → Kind
 word_of prefixes.Not = Kinds.Not
 word_of prefixes.Negative = Kinds.Minus
 
+-- Reads a prefix operator and its value, or an expression without one. It may open levels if `u` says how they are read.
 unfoldable pub unary_in_at : Option (Bool → Reader ExpressionTree) → Bool → Reader ExpressionTree
 unary_in_at u b ts =
     or_at (begins Kinds.Not) (opened_at Kinds.Not u (λ e. prefixed_at prefixes.Not e b))
     (or_at (begins Kinds.Minus) (opened_at Kinds.Minus u (λ e. prefixed_at prefixes.Negative e b))
     (postfix_at u b)) ts
 
+-- Reads the values between operators, when n levels may be opened.
 unfoldable pub unary_at : ℕ → Bool → Reader ExpressionTree
 unary_at zero b ts = unary_in_at None b ts
 unary_at (suc n) b ts = unary_in_at (Some (unary_at n)) b ts
 
--- what stands inside where so many levels may be opened
+-- Returns the reader inside a level, if one more may be opened.
 abbrev pub inner_at : ℕ → Option (Bool → Reader ExpressionTree)
 inner_at zero = None
 inner_at (suc n) = Some (unary_at n)
 
+-- Reads an expression, when n levels may be opened.
 unfoldable pub expr_at : ℕ → Reader ExpressionTree
 expr_at n ts = ternary_at (unary_at n) true ts
 
--- a token of this kind, and what follows it where one level less may be opened
+-- Reads a token of this kind, and returns how many levels may be opened inside.
 unfoldable pub enter_at : Kind → ℕ → Reader (Lexeme × ℕ)
 enter_at k zero ts = deep_at k ts
 enter_at k (suc n) ts = token_at k ts >>= λ t. Ok ((t.0, n), t.1)
 
+-- Reads a token of this kind, followed by what is inside, if one of n levels may be opened.
 unfoldable pub entered_at : {A : Type 0} → Kind → ℕ → ((Bool → Reader ExpressionTree) → Lexeme → Reader A) → Reader A
 entered_at k n f ts = enter_at k n ts >>= λ t. f (unary_at t.0.1) t.0.0 t.1
 
 -- ---- the operators of a rank, and the parts between them
 
+-- Returns the operators of a rank.
 abbrev pub operator_of : Rank → Kind → Option Operator
 operator_of ranks.Or = disjunctive
 operator_of ranks.And = conjunctive
 operator_of ranks.Sum = additive
 operator_of ranks.Product = multiplicative
 
+-- Reads the values between the operators of a rank.
 abbrev pub part_at : Rank → Reader ExpressionTree → Reader ExpressionTree
 part_at ranks.Or unary = conjunction_at unary
 part_at ranks.And unary = comparison_at unary

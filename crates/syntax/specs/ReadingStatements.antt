@@ -1,4 +1,4 @@
--- Reading statements by their grammar, as functions: a value and the tokens after it, or where reading stops.
+-- Defines how statements are read by their grammar, as functions: a reader returns a value and the tokens after it, or where reading stops.
 use Rattle.std.specs.Prelude.{◌≡◌, ℕ, zero, suc, Bool, true, false, not, ◌||◌, List, [], ◌∷◌, ◌++◌, length, Result, Ok, Err, Option}
 use Rattle.std.specs.Prelude.{unwrap_or}
 use Rattle.syntax.specs.lexer.Lexeme.{Lexeme}
@@ -18,16 +18,17 @@ use Rattle.syntax.specs.ReadingExpressions.{expr_at}
 
 -- ---- statements of one line
 
--- the sign that adds to what a name has, or that gives it a value, and the statement
+-- Returns the sign of `+=` or `=`, and the statement.
 abbrev pub sign_of : Bool → Kind
 sign_of true = Kinds.PlusAssign
 sign_of false = Kinds.Assign
 
+-- Returns the statement that sets a name, or adds to its value.
 abbrev pub set_tree : Bool → List ℕ → ℕ → ExpressionTree → StatementTree
 set_tree true = AppendTree
 set_tree false = AssignTree
 
--- what gives a name a value, with the token of this kind after the name
+-- Reads a statement that sets a name, with the token of this kind after the name.
 unfoldable pub set_at : Kind → (List ℕ → ℕ → ExpressionTree → StatementTree) → Reader ExpressionTree → Reader StatementTree
 set_at k tree r ts = do
   t ← token_at Kinds.Name ts
@@ -35,25 +36,29 @@ set_at k tree r ts = do
   e ← r q.1
   Ok (tree t.0.text t.0.line e.0, e.1)
 
+-- Reads an expression alone.
 unfoldable pub plain_at : Reader ExpressionTree → Reader StatementTree
 plain_at r ts = do
   line ← here_at ts
   e ← r line.1
   Ok (ValueTree e.0 line.0, e.1)
 
--- the word that leaves a loop or that leaves its round, and the statement
+-- Returns the word of `break` or `continue`, and the statement.
 abbrev pub leave_word : Bool → Kind
 leave_word true = Kinds.Break
 leave_word false = Kinds.Continue
 
+-- Returns `break` or `continue`.
 abbrev pub leave_tree : Bool → ℕ → StatementTree
 leave_tree true = BreakTree
 leave_tree false = ContinueTree
 
+-- Reads the word of `break` or `continue`, which is allowed only inside a loop.
 unfoldable pub leave_at : Kind → (ℕ → StatementTree) → Bool → Reader StatementTree
 leave_at k tree true ts = token_at k ts >>= λ t. Ok (tree t.0.line, t.1)
 leave_at k tree false ts = Err (Unexpected (length ts))
 
+-- Reads a statement of one line.
 unfoldable pub simple_at : Bool → ℕ → Reader StatementTree
 simple_at inside n ts =
     or_at (begins Kinds.Break) (leave_at Kinds.Break BreakTree inside)
@@ -64,15 +69,16 @@ simple_at inside n ts =
 
 -- ---- blocks
 
--- no statement is left on this line
+-- Returns whether no statement is left on this line.
 abbrev pub ends_line : List Lexeme → Bool
 ends_line [] = true
 ends_line (t ∷ ts) = is t.kind Kinds.Newline
 
+-- Returns whether a statement is left on this line.
 abbrev pub in_line : List Lexeme → Bool
 in_line ts = not (ends_line ts)
 
--- the word of a further part of a block, or its last word
+-- Returns whether a token of this kind begins another branch of a block or ends the block.
 abbrev pub ends_body : Kind → Bool
 ends_body k = is k Kinds.EndForeach || (is k Kinds.EndIf || (is k Kinds.Elif || is k Kinds.Else))
 
@@ -84,8 +90,8 @@ in_body (t ∷ ts) = not (ends_body t.kind)
 abbrev pub maybe_at : Reader StatementTree → Reader (Option StatementTree)
 maybe_at r = optional_at in_line r
 
--- What a function that puts a line's statement behind the others returned, with the statements before and after it, and
--- the tokens that it left are what reading gives, unless memory ran out.
+-- Relates the result of a function that appends a line's statement, with the statements before and after it, to the result of reading,
+-- unless memory ran out.
 abbrev pub GivesLine : {X : Type 0} → List StatementTree → List StatementTree → Result X ReadError → List Lexeme
     → Result (Option StatementTree × List Lexeme) Stop → Type 0
 GivesLine before after (Ok x) rest read = (o : Option StatementTree) × (read ≡ Ok (o, rest)) × (after ≡ before ++ given (o ∷ []))
@@ -155,7 +161,7 @@ otherwise_at stmt ts = do
   last ← optional_at (begins Kinds.Else) (last_part_at stmt) ts
   Ok (unwrap_or last.0 [], last.1)
 
--- the parts of an `if` that have a condition, and what stands behind `else`, up to the end
+-- Reads the branches of an `if` that have a condition, and the statements after `else`, up to the end.
 unfoldable pub alternatives_at : Reader ExpressionTree → Reader StatementTree → Reader (List BranchTree × List StatementTree)
 alternatives_at expr stmt ts = do
   bs ← parts_at expr stmt ts
@@ -171,7 +177,7 @@ conditional_at expr stmt ts = do
   end ← token_at Kinds.EndIf ss.1
   Ok (IfTree w.0.line (branches bs.0) (statements ss.0), end.1)
 
--- the word of a block
+-- Returns whether a token of this kind opens a block.
 abbrev pub opens_block : Kind → Bool
 opens_block k = is k Kinds.Foreach || is k Kinds.If
 

@@ -1,5 +1,5 @@
--- The grammar of statements, a form for each line. `inside` says whether a `foreach` of the same file is open, and the
--- number is that of the levels that may still be opened.
+-- Defines the grammar of statements, with a form for each line. `inside` says whether a `foreach` of the same file is open. The number is
+-- that of the levels that may still be opened.
 use Rattle.std.specs.Prelude.{ℕ, zero, suc, Bool, true, false, List, [], ◌∷◌, Option, Some, None, unwrap_or}
 use Rattle.syntax.specs.declared.lexer.token.Kind.{Kind}
 use Rattle.syntax.specs.declared.lexer.token.Kind.TheVariants.{Name, Assign, PlusAssign, Newline, Comma, Colon, Break, Continue, If}
@@ -29,7 +29,7 @@ plain expr = do
   e ← expr
   give (ValueTree e line)
 
--- a word that stands inside a `foreach` alone
+-- A word that is allowed only inside a `foreach`.
 abbrev pub leave : Kind → (ℕ → StatementTree) → Bool → Form StatementTree
 leave k tree true = do
   t ← token k
@@ -51,7 +51,7 @@ line stmt = do
   t ← token Newline
   give s
 
--- what the lines give, without the empty ones
+-- Returns the statements of the lines, without the empty ones.
 abbrev pub given : List (Option StatementTree) → FileTree
 given [] = []
 given (None ∷ os) = given os
@@ -131,7 +131,7 @@ conditional expr stmt = do
   end ← token EndIf
   give (IfTree w.line (branches bs) (statements ss))
 
--- What opens a level, at its word; the condition of an `if` and the list of a `foreach` stand inside.
+-- Spells a block, which opens a level at its word. The condition of an `if` and the list of a `foreach` are inside.
 unfoldable pub block : Bool → ℕ → Form StatementTree
 block inside zero = never
 block inside (suc n) = foreach (expr n) (block true n or simple true n) or conditional (expr n) (block inside n or simple inside n)

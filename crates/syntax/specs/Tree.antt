@@ -1,4 +1,4 @@
--- The tree of a file without where it lies in memory.
+-- Defines the tree of a file, without its place in memory.
 use Rattle.std.specs.Prelude.{ℕ, List, [], ◌∷◌, map, Option}
 use Rattle.std.specs.Option.{option_map}
 use Rattle.syntax.specs.ExpressionTree.{ExpressionTree, expression_of}
@@ -10,26 +10,26 @@ use Rattle.syntax.specs.declared.tree.Branch.{Branch}
 use Rattle.syntax.specs.declared.tree.File.{File}
 
 mutual
-  -- A statement. Each has the line of its first token, and so have a condition and the list of a `foreach`.
+  -- A statement has the line of its first token, and so have a condition and the list of a `foreach`.
   pub data StatementTree : Type 0 where
-    -- a name, the line, and the value that it is given
+    -- A name, the line, and the new value.
     AssignTree : List ℕ → ℕ → ExpressionTree → StatementTree
-    -- a name, the line, and the value that is added to what it has
+    -- A name, the line, and the value that is added.
     AppendTree : List ℕ → ℕ → ExpressionTree → StatementTree
-    -- an expression, and the line of its first token
+    -- An expression, and the line of its first token.
     ValueTree : ExpressionTree → ℕ → StatementTree
     BreakTree : ℕ → StatementTree
     ContinueTree : ℕ → StatementTree
-    -- the line, the parts with a condition, and what stands behind `else`
+    -- The line, the branches with a condition, and the statements after `else`.
     IfTree : ℕ → Branches → Statements → StatementTree
-    -- the line, the first name, the second, the list and its line, and the statements of a round
+    -- The line, the first name, the second, the list and its line, and the statements of the loop.
     ForeachTree : ℕ → List ℕ → Option (List ℕ) → ExpressionTree → ℕ → Statements → StatementTree
 
   pub data Statements : Type 0 where
     NoStatement : Statements
     MoreStatements : StatementTree → Statements → Statements
 
-  -- parts of an `if`: a condition, its line, and the statements behind it
+  -- The branches of an `if`: a condition, its line, and the statements after it.
   pub data Branches : Type 0 where
     NoBranch : Branches
     MoreBranches : ExpressionTree → ℕ → Statements → Branches → Branches

@@ -1,8 +1,9 @@
-//! What holds of every text.
+//! States what holds of every text, as a function that does nothing and whose contract holds.
 ghost use Rattle.syntax.specs.Laws.{TextsAreParsed};
 
-/// A text, of whatever bytes, spells one file, or has one fault, which is its first, and not both. That is what the definition `parsed`
-/// gives of it, by which contracts speak of what a text spells.
+/// Proves that every text, of any bytes, either spells exactly one file or has exactly one fault, its first.
+///
+/// The definition `parsed` returns that file or fault. Contracts use it to describe what a text spells.
 pub fn texts_are_parsed()
     ensures { TextsAreParsed }
 {}

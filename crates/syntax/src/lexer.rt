@@ -1,22 +1,21 @@
-//! The tokens of Meson definition files.
+//! Cuts Meson definition files into tokens.
 //!
-//! [`tokens`] cuts a source into its tokens, or refuses it with a [`fault::SyntaxFault`], which names what is wrong and the
-//! line. [`text_of`] gives what a token stands for: a string's text after its escapes; [`magnitude`] gives the number of a number
-//! token. The language is that of the Meson manual's page "Syntax".
+//! [`tokens`] returns the tokens of a source, or a [`fault::SyntaxFault`] with the line and what is wrong. [`text_of`] returns the text of
+//! a token, and [`magnitude`] the number of a number token. The language is that of the Meson manual's page "Syntax".
 //!
 //! # Decisions
 //!
-//! **Where a gap between two tokens ends.** A gap is blanks, comments and continuations, and it ends where none of these begins: that is
-//! said by the relation alone. The code looks ahead once behind a backslash: only where blanks, a comment or none and a newline follow
-//! does it continue the line. At the end of a file it continues nothing, so it is E2.
+//! **Where a gap between two tokens ends.** A gap consists of blanks, comments and continuations. It ends where none of these begins: that
+//! is all that the relation says. The code looks ahead once after a backslash. The backslash continues the line only if blanks, an optional
+//! comment and a newline follow. At the end of a file it continues nothing, which is E2.
 //!
-//! **A string with an escape of no character is no token.** `\ud800` and `\U00110000` name no character. The string that holds one is
-//! refused as a token, at its first byte, since nothing later should have to say what it stands for. An unknown escape, or one with too
-//! few digits, stays with its backslash.
+//! **A string with an escape of no character is no token.** `\ud800` and `\U00110000` name no character. The lexer refuses a string with
+//! such an escape at its first byte, so that nothing later has to give it a text. An unknown escape, or one with too few digits, keeps its
+//! backslash.
 //!
-//! **A slice that no source has.** [`text_of_slice`] refuses nothing but for memory: there too an escape of no character stays with its
-//! backslash, and a string without its quotes is taken as it stands. For tokens of a source it is proved to be what the token stands for,
-//! by a relation that does not know how the text is read.
+//! **A slice that no source has.** [`text_of_slice`] fails only if memory runs out. It accepts such a slice too: an escape of no character
+//! keeps its backslash, and a string without its quotes is taken whole. For tokens of a source, the result is proved to be the text of the
+//! token, by a relation that does not know how the text is read.
 
 mod bytes;
 mod cut;

@@ -1,39 +1,37 @@
-//! The grammar and the trees of Meson definition files.
+//! Parses Meson definition files.
 //!
-//! [`parse`] reads the file that the tokens of a source spell, or refuses the source with a [`fault::SyntaxFault`], which names what is
-//! wrong and the line. The language is that of the Meson manual's page
-//! "Syntax"; nothing here knows what a name or a call means.
+//! [`parse`] returns the tree of the file that a source spells, or a [`fault::SyntaxFault`] with the line and what is wrong. The language
+//! is that of the Meson manual's page "Syntax". Nothing in this crate knows what a name or a call means.
 //!
 //! # Decisions
 //!
-//! **The grammar of expressions recurses on levels alone.** Every bracket and prefix operator opens a level, and so does every bracket of
-//! a call or an index. So `unary`, the form of what stands between operators, is given for a number of levels that may still be opened, by
-//! what it is for one fewer; the lines above it (`product` to `ternary`) are plain functions of it. Where no level is left, the form that
-//! opens one is `never`, and so the grammar at 64 levels and the one at 65 say which token opens a level too many, with nothing that
-//! counts. Whether a ternary may stand in an expression is an argument of these lines, as what its branches hold may hold none, at any
-//! depth. That arguments with a name stand behind the others is a state that the list with commas carries from one element to the next
-//! (`listed_by` of `specs/Form.antt`).
+//! **The grammar of expressions recurses on levels only.** Every bracket and prefix operator opens a level, and so does every bracket of a
+//! call or an index. So `unary`, the form of the values between operators, is defined for a number of levels that may still be opened, from
+//! its definition for one level less. The lines above it (`product` to `ternary`) are plain functions of it.
 //!
-//! **Chains are read by one function.** The four lines of the grammar that are chains are read by one function, told which by `Rank`; the
-//! readers that contracts cite take the operators and the part as arguments, and each line of the grammar still stands by itself in
-//! `specs/Expressions.antt`. The proofs say by a number how tightly a token binds what stands before it (`proofs/Binding.antt`), and so
-//! what may stand behind each line.
+//! If no level is left, a form that opens one is `never`. So comparing the grammars for 64 and for 65 levels shows which token opens a
+//! level too many, without any counter. An argument of these lines says whether an expression may hold a ternary, because the branches of a
+//! ternary may hold none, at any depth. The list with commas carries a state from one element to the next (`listed_by` of
+//! `specs/Form.antt`), so that arguments with a name follow the others.
 //!
-//! **An expression of one token is read at once.** Most expressions are a name or a literal with `,` `)` `]` `}` `:` or the end of a line
-//! behind it. `ternary` takes such a one before it goes down the lines of the grammar (`alone`), each of which would hand it on as it is
+//! **One function reads chains.** The four lines of the grammar that are chains have one reader, which `Rank` selects. The readers that
+//! contracts cite take the operators and the part as arguments, and `specs/Expressions.antt` still has each line of the grammar. The proofs
+//! use a number for how tightly a token binds the value before it (`proofs/Binding.antt`), and so know what may follow each line.
+//!
+//! **An expression of one token is read at once.** Most expressions are a name or a literal, followed by `,` `)` `]` `}` `:` or the end of
+//! a line. `ternary` takes such an expression (`alone`) before it goes down the lines of the grammar, which would all pass it on unchanged
 //! (`proofs/Alone.antt`).
 //!
-//! **An `else` without statements is like none.** The tree of an `if` has the statements behind `else` as a list. It is empty where there
-//! is no `else`, and where nothing stands behind it; no rule of evaluation tells the two apart.
+//! **An `else` without statements equals no `else`.** The tree of an `if` holds the statements after `else` as a list, which is empty if
+//! there is no `else` or if nothing follows it. No rule of evaluation distinguishes both.
 //!
-//! **The parser goes down statements by levels.** A block opens a level at its word, and its condition or list stands inside. So the
-//! functions that read statements call each other by levels, as those of expressions do, and no source can make the parser's stack deep:
-//! 64 levels are all. A body is read up to a word at which any body ends, `elif`, `else`, `endif` or `endforeach`, and the block then asks
-//! for the word that is its own.
+//! **The parser goes down statements by levels.** A block opens a level at its word, and its condition or list is inside. So the functions
+//! that read statements call each other by levels, as those of expressions do. No source can make the parser's stack deeper than 64 levels.
+//! A body ends at a word at which any body ends: `elif`, `else`, `endif` or `endforeach`. The block then requires its own word.
 //!
-//! **Memory of a parse.** All tokens of a file are cut before the tree is read: a token takes 32 bytes, and beside it stand the statement
-//! and the values of its line. They go once the tree stands, and each list of the tree is cut to its length when it is whole, since most
-//! are short. `bench/README.md` has what files of some shapes take. Time is linear.
+//! **Memory of a parse.** All tokens of a file are cut before the tree is read. A token takes 32 bytes, plus the statement and the values
+//! of its line. The tokens are freed once the tree is complete. Each list of the tree is shrunk to its length when it is complete, because
+//! most lists are short. `bench/README.md` has measurements of files of different shapes. Time is linear.
 #![tactic(auto)]
 
 mod law;

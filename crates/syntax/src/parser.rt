@@ -1,4 +1,4 @@
-//! Reads the file that tokens spell, with one token in hand.
+//! Reads the file that tokens spell, one token at a time.
 
 ghost use Rattle.std.specs.Prelude.{◌≡◌, ℕ, ◌+◌, ◌++◌, ◌-◌, ◌<◌, ◌≤◌, length, map, OnOk, [], ◌∷◌, IfOk, MatchResult, ◌⊎◌};
 ghost use Rattle.syntax.specs.lexer.Lexeme.{lexeme_of, lexemes};
@@ -20,20 +20,20 @@ use crate::stop::{ReadError, Stop};
 use crate::tree::{File, Statement};
 use std::alloc::Global;
 
-/// How many levels may be open: brackets, blocks and prefix operators, one inside another.
+/// The number of levels that may be open at once: brackets, blocks and prefix operators, one inside another.
 pub const LEVELS: u32 = 64;
 
-// What was read, or why reading stops.
+// Holds what was read, or why reading stopped.
 type Read<T> = Result<T, ReadError>;
 
-// The tokens that are still to be read, and where what they spell is put.
+// Holds the tokens that are still to be read, and the allocator of the tree.
 #[derive(Drop)]
 struct Parser<'t, 'a> {
     alloc: Global,
     rest: &'t [Token<'a>],
 }
 
-// Puts what was read behind the others.
+// Appends what was read.
 fn put<T: Drop>(items: &mut Vec<T>, read: Read<T>) -> Read<()>
     ensures { GoesOn (λ item _. items.new.items ≡ items.old.items ++ item ∷ []) read result }
 {
@@ -42,7 +42,7 @@ fn put<T: Drop>(items: &mut Vec<T>, read: Read<T>) -> Read<()>
     Ok(())
 }
 
-// What was read, on the heap.
+// Moves what was read to the heap.
 fn allocate<T: Drop>(alloc: Global, read: Read<T>) -> Read<Box<T>>
     ensures { GoesOn (λ value b. b.value ≡ value) read result }
 {
@@ -50,7 +50,7 @@ fn allocate<T: Drop>(alloc: Global, read: Read<T>) -> Read<Box<T>>
     Ok(Box::new(alloc, value)?)
 }
 
-// The items, in no more memory than they need: a tree stands for long, and most of its lists are short.
+// Shrinks the list to its length. A tree lives long, and most of its lists are short.
 fn fit<T>(items: Vec<T>) -> Vec<T>
     ensures { result.items ≡ items.items }
 {
@@ -60,7 +60,7 @@ fn fit<T>(items: Vec<T>) -> Vec<T>
 }
 
 impl<'t, 'a> Parser<'t, 'a> {
-    // Takes the first token, where it is of this kind.
+    // Takes the first token, which must be of this kind.
     #[tactic(auto, using(crate::proofs::Tails::token_cases))]
     fn take(&mut self, kind: Kind) -> Read<Token<'a>>
         ensures read { Gives lexeme_of result (lexemes self.new.rest.now) (token_at kind (lexemes self.old.rest.now)) }
@@ -75,7 +75,7 @@ impl<'t, 'a> Parser<'t, 'a> {
         }
     }
 
-    // What was read, once a token of this kind has closed it.
+    // Returns the value after taking the token of this kind that closes it.
     #[tactic(auto, using(crate::proofs::Tails::first_taken))]
     fn close<T: Drop>(&mut self, kind: Kind, value: T) -> Read<T>
         ensures read { Gives (λ v. first_of (lexemes self.old.rest.now)) result (lexemes self.new.rest.now)
@@ -87,7 +87,7 @@ impl<'t, 'a> Parser<'t, 'a> {
         Ok(value)
     }
 
-    // Whether the first token is of this kind.
+    // Returns whether the first token is of this kind.
     fn begins(&self, kind: Kind) -> bool
         ensures { result ≡ begins kind (lexemes self.now.rest.now) }
     {
@@ -97,14 +97,14 @@ impl<'t, 'a> Parser<'t, 'a> {
         }
     }
 
-    // The first token does not go on with any file.
+    // Returns the error of a first token that continues no file.
     fn unexpected(&self) -> ReadError
         ensures { result ≡ ReadError.Stop (Stop.Unexpected (length self.now.rest.now)) }
     {
         ReadError::Stop(Stop::Unexpected(self.rest.len()))
     }
 
-    // The statements of the lines.
+    // Reads the statements of all lines.
     fn lines(&mut self, levels: u32) -> Read<Vec<Statement<'a>>>
         ensures read { Gives (λ v. map statement_of v.items) result (lexemes self.new.rest.now)
             (file_at levels (lexemes self.old.rest.now)) }
@@ -118,7 +118,7 @@ impl<'t, 'a> Parser<'t, 'a> {
         Ok(fit(statements))
     }
 
-    // The file that all tokens spell.
+    // Reads the file that all tokens spell.
     #[tactic(auto, using(crate::proofs::Tails::all_cases))]
     fn file(&mut self, levels: u32) -> Read<File<'a>>
         ensures { GivesAll file_of result (all_of (file_at levels) (lexemes self.old.rest.now)) }
@@ -131,7 +131,7 @@ impl<'t, 'a> Parser<'t, 'a> {
     }
 }
 
-// The line of the token from which on so many are left, or of the source's end.
+// Returns the line of the token after which `left` tokens remain, itself counted, or the line of the source's end.
 fn line_of(source: &str, tokens: &[Token<'_>], left: usize) -> usize
     requires { left ≤ length tokens.now }
     ensures { result ≡ line_of source.now (lexemes tokens.now) (length tokens.now - left) }
@@ -143,7 +143,7 @@ fn line_of(source: &str, tokens: &[Token<'_>], left: usize) -> usize
     }
 }
 
-// The fault of a source whose tokens cannot be read on.
+// Returns the fault of a source, with its line.
 fn locate(source: &str, tokens: &[Token<'_>], stop: Stop) -> SyntaxFault
     requires { tokens_left stop ≤ length tokens.now }
     ensures { result ≡ located source.now (lexemes tokens.now) stop }
@@ -160,23 +160,26 @@ fn locate(source: &str, tokens: &[Token<'_>], stop: Stop) -> SyntaxFault
     }
 }
 
-/// The file that a source spells.
+/// Returns the file that a source spells.
 ///
-/// A file is lines with a statement each, or none, of the forms of the Meson manual's page "Syntax": `name = expression`,
-/// `name += expression`, an expression alone, `break` and `continue` inside a `foreach`, `if` with its `elif` and `else`
-/// parts up to `endif`, and `foreach` up to `endforeach`. Expressions are names, literals, lists, dictionaries, calls,
-/// methods, indexes, operators and ternaries. Two comparisons do not follow one another, no ternary stands inside the
-/// branches of another, and arguments with a name stand behind the others.
+/// A file is a sequence of lines, each with at most one statement, in the forms of the Meson manual's page "Syntax". The statements are
+/// `name = expression`, `name += expression`, an expression, `break` and `continue` inside a `foreach`, `if` with its `elif` and `else`
+/// parts up to `endif`, and `foreach` up to `endforeach`. Expressions are names, literals, lists, dictionaries, calls, methods, indexes,
+/// operators and ternaries. Comparisons don't chain, the branches of a ternary hold no other ternary, and arguments with a name follow the
+/// others.
 ///
-/// What is no file has a fault at the line of a token, where the end counts as one: E2 where the source has no tokens; E3
-/// at the first token up to which the tokens begin no file; E4 at the first that opens level 65, where that comes before.
-/// A bracket and a prefix operator open a level, and so does a block at its first word, with its condition or list
-/// inside; `elif` and `else` open none.
+/// Fails at the line of a token, where the end of the source counts as one:
+/// - E2 if the source has no tokens;
+/// - E3 at the first token that no file continues with;
+/// - E4 at the first token that opens level 65, if it comes earlier.
+///
+/// A bracket and a prefix operator open a level. So does the first word of a block, with its condition or list inside. `elif` and `else`
+/// open none.
 pub fn parse(alloc: Global, source: &str) -> Result<File<'_>, SyntaxError>
-    // Unless memory runs out, it is this function of the source.
+    // Unless memory runs out, the result is this function of the source.
     ensures reads { Answers file_of result (parsed source.now) }
 
-    // The file is spelled by the tokens of the source, and no other is, however many levels may be open.
+    // The tokens of the source spell this file and no other, however many levels may be open.
     ensures spelled { IfOk result (λ f. Spells LEVELS source.now (file_of f)) }
     ensures complete { (f : FileTree) → Spells LEVELS source.now f
         → MatchResult result (λ x. file_of x ≡ f) (λ e. e ≡ SyntaxError.Memory) }

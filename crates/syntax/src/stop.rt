@@ -1,18 +1,18 @@
-//! Why reading tokens stops.
+//! Says why reading tokens stops.
 
 ghost use Rattle.std.specs.Prelude.{◌≡◌};
 ghost use Rattle.syntax.specs.declared.stop.ReadError.TheVariants.{Memory};
 
 use std::alloc::{AllocError, AllocFailed};
 
-/// Where no file goes on, with the number of tokens from there on.
+/// Says why no file continues, with the number of tokens that are left.
 #[derive(Clone, Copy)]
 pub enum Stop {
     Unexpected(usize),
     TooDeep(usize),
 }
 
-/// A stop, or want of memory.
+/// Reports a stop, or that memory ran out.
 #[derive(Clone, Copy)]
 pub enum ReadError {
     Memory,

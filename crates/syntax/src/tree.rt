@@ -1,9 +1,9 @@
-//! The tree of a definition file. Each node has the line of its first token, where a chain of
-//! operators begins with the bracket that its first value stands in; brackets leave no node of their own.
+//! Defines the tree of a definition file. Each node has the line of its first token; a chain of operators begins with the bracket around
+//! its first value. Brackets have no node of their own.
 
 ghost use Rattle.std.specs.Prelude.{◌≡◌, is_some};
 
-/// A definition file.
+/// Holds a definition file.
 pub struct File<'a> {
     pub statements: Vec<Statement<'a>>,
 }
@@ -14,8 +14,8 @@ impl Drop for File<'_> {
     }
 }
 
-/// A statement, of the manual's page "Syntax". Its line is that of its first token. It is no greater than an expression with a line, since
-/// a file of many short lines has as many statements.
+/// Holds a statement, in the terms of the manual's page "Syntax". Its line is that of its first token. It is no larger than an expression
+/// with a line, because a file of many short lines has as many statements.
 #[cycle(statement)]
 pub enum Statement<'a> {
     /// `name = value`
@@ -30,7 +30,7 @@ pub enum Statement<'a> {
         line: usize,
         value: Box<Expression<'a>>,
     },
-    /// An expression alone, as a call.
+    /// An expression alone, such as a call.
     Expression {
         value: Expression<'a>,
         line: usize,
@@ -46,9 +46,9 @@ pub enum Statement<'a> {
     /// `if`, with a part for each `elif`, up to `endif`.
     If {
         line: usize,
-        /// The first part stands behind `if`, each other behind an `elif`.
+        /// The first branch follows `if`, each other one an `elif`.
         branches: Vec<Branch<'a>>,
-        /// What stands behind `else`: nothing where there is no `else`.
+        /// The statements after `else`, or none if there is no `else`.
         otherwise: Vec<Statement<'a>>,
     },
     /// `foreach first : list`, or `foreach first, second : list`, up to `endforeach`.
@@ -56,12 +56,12 @@ pub enum Statement<'a> {
         line: usize,
         first: &'a str,
         second: Option<&'a str>,
-        /// The list, in place of a condition, and the statements of a round.
+        /// The list, in place of a condition, and the statements of the loop.
         round: Box<Branch<'a>>,
     },
 }
 
-/// A part of an `if`: a condition, and the statements that are run where it holds. A `foreach` has its list in the condition's place.
+/// Holds a branch of an `if`: a condition, and the statements that run if it holds. A `foreach` has its list in the condition's place.
 #[cycle(statement)]
 #[derive(Drop)]
 pub struct Branch<'a> {
@@ -71,7 +71,7 @@ pub struct Branch<'a> {
     pub body: Vec<Statement<'a>>,
 }
 
-/// An expression.
+/// Holds an expression.
 #[cycle(tree)]
 pub enum Expression<'a> {
     /// A name.
@@ -79,7 +79,7 @@ pub enum Expression<'a> {
         name: &'a str,
         line: usize,
     },
-    /// A literal, as it stands in the source: a string has its quotes.
+    /// A literal, as written in the source: a string keeps its quotes.
     Literal {
         literal: Literal,
         text: &'a str,
@@ -101,7 +101,7 @@ pub enum Expression<'a> {
         name: &'a str,
         arguments: Vec<Argument<'a>>,
     },
-    /// `first.name(argument)[index]`: a value, and what is asked of it in turn.
+    /// `first.name(argument)[index]`: a value, and the methods and indexes that follow it.
     Postfix {
         first: Box<Expression<'a>>,
         links: Vec<Link<'a>>,
@@ -113,7 +113,7 @@ pub enum Expression<'a> {
         value: Box<Expression<'a>>,
         line: usize,
     },
-    /// `first + second - third`: values with operators between them, all of one line of the grammar.
+    /// `first + second - third`: values with operators of one precedence between them.
     Chain {
         first: Box<Expression<'a>>,
         others: Vec<Operand<'a>>,
@@ -131,14 +131,14 @@ pub enum Expression<'a> {
 impl<'a> Argument<'a> {
     ghost use Rattle.syntax.specs.ExpressionTree.{argument_of, expression_of};
 
-    /// What is given.
+    /// Returns the value of the argument.
     pub fn value(&self) -> &Expression<'a>
         ensures { expression_of result.now ≡ (argument_of self.now).1 }
     {
         &self.value
     }
 
-    /// Whether it is given by a name.
+    /// Returns whether the argument has a name.
     pub fn is_named(&self) -> bool
         ensures { result ≡ is_some (argument_of self.now).0 }
     {
@@ -146,7 +146,7 @@ impl<'a> Argument<'a> {
     }
 }
 
-/// What a literal is.
+/// Lists the kinds of literals.
 #[derive(Clone, Copy)]
 pub enum Literal {
     True,
@@ -163,7 +163,7 @@ pub enum Literal {
     RawFormatString,
 }
 
-/// What stands between two values.
+/// Lists the operators between two values.
 #[derive(Clone, Copy)]
 pub enum Operator {
     Or,
@@ -186,7 +186,7 @@ pub enum Operator {
     Remainder,
 }
 
-/// An operator and the value behind it.
+/// Holds an operator and the value after it.
 #[cycle(tree)]
 #[derive(Drop)]
 pub struct Operand<'a> {
@@ -194,7 +194,7 @@ pub struct Operand<'a> {
     pub value: Expression<'a>,
 }
 
-/// What stands before a value.
+/// Lists the operators before a value.
 #[derive(Clone, Copy)]
 pub enum Prefix {
     Not,
@@ -202,7 +202,7 @@ pub enum Prefix {
     Negative,
 }
 
-/// `key : value`
+/// Holds an entry of a dictionary: `key : value`.
 #[cycle(tree)]
 #[derive(Drop)]
 pub struct Entry<'a> {
@@ -210,7 +210,7 @@ pub struct Entry<'a> {
     pub value: Expression<'a>,
 }
 
-/// An argument, with its name where it is given by one. Those with a name stand behind the others.
+/// Holds an argument, and its name if it has one. Arguments with a name follow the others.
 #[cycle(tree)]
 #[derive(Drop)]
 pub struct Argument<'a> {
@@ -218,7 +218,7 @@ pub struct Argument<'a> {
     pub value: Expression<'a>,
 }
 
-/// What is asked of a value.
+/// Holds a method or an index that follows a value.
 #[cycle(tree)]
 pub enum Link<'a> {
     /// `.name(argument)`
@@ -232,9 +232,9 @@ pub enum Link<'a> {
     },
 }
 
-// ---- letting go
+// ---- dropping
 //
-// Written out where there are variants, so that a caller lets go of a node by one call, and not variant by variant.
+// `drop` is written out for types with variants, so that a caller drops a node by one call and not variant by variant.
 
 impl Drop for Statement<'_> {
     #[cycle(statement)]

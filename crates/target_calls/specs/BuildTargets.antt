@@ -1,4 +1,4 @@
--- An executable or a library as the arguments of a call say it.
+-- Defines an executable or a library, from the arguments of a call: `executable` and its like on the page "Reference manual".
 use Rattle.std.specs.Prelude.{Bool, true, false, List, [], ◌++◌, codes, flat_map, Option, Some, None, Ok, option_and_then}
 use Rattle.std.specs.Fmt.{signed_decimal}
 use Rattle.arguments.specs.Arguments.{ArgumentsData}
@@ -20,31 +20,32 @@ use Rattle.target_calls.specs.Sources.{file_in, sources_in}
 
 -- ---- the keywords of a shared library
 
--- one to three numbers with dots, where it is given
+-- Holds if `version` is absent, or is one to three numbers separated by dots.
 abbrev pub version_fits : Option Text → Bool
 version_fits None = true
 version_fits (Some version) = is_library_version version
 
--- a text, or an integer by its decimal digits
+-- Returns a text, or the decimal digits of an integer.
 abbrev pub number_in : Data → Option Text
 number_in (text t) = Some t
 number_in (integer z) = Some (signed_decimal z)
 number_in _ = None
 
+-- Returns the keyword `soversion`, if it is given.
 abbrev pub soversion_given : ArgumentsData → Option Text
 soversion_given a = option_and_then number_in (keyword (codes "soversion") a)
 
 -- ---- lists
 
--- what the call says of sources: behind the name of the target, then by keyword
+-- Returns the sources that a call gives: those after the target's name, then those of the keyword.
 abbrev pub source_values : ArgumentsData → List Data
 source_values a = leaves_from 1 a ++ leaves_named (codes "sources") a
 
--- the sources that the call names, each in the tree
+-- Returns the sources that a call names. Each path must be below the source root.
 abbrev pub named_sources : HereData → ArgumentsData → Said (List NamedData)
 named_sources here a = sources_of here.source_root here.folder (source_values a)
 
--- what the target lists of its own, where each folder stays in the tree
+-- Returns the lists that the target has itself, without those of dependencies. Each include directory must be below the source root.
 abbrev pub own_lists : HereData → ArgumentsData → List SourceData → Said ListsData
 own_lists here a sources = do
   folders ← folders_of here.source_root here.folder (leaves_named (codes "include_directories") a)
@@ -59,7 +60,7 @@ own_lists here a sources = do
 
 -- ---- the target
 
--- it is built by default, and not installed, unless the call says otherwise
+-- Returns the target. It is built by default and not installed, unless the call says otherwise.
 abbrev pub build_target : HereData → Kind → ArgumentsData → (own : ListsData) (dependencies : List ListsData) → BuildData
 build_target here kind a own dependencies = record {
   kind = kind;
@@ -73,12 +74,12 @@ build_target here kind a own dependencies = record {
   is_installed = flag (codes "install") false a;
 }
 
--- a target, and the files of the tree that the call asks for
+-- A target, and the source files that the call requires.
 pub record NamedTargetData : Type 0 where
   pub target : TargetData
   pub files : List Path
 
--- no source of a call, nor of a dependency, is an output that no target has
+-- Returns what a call with these sources declares. No source of the call or of a dependency may be an output that no target has.
 abbrev pub declared_from : HereData → Kind → ArgumentsData → List NamedData → Said NamedTargetData
 declared_from here kind a named = do
   sources ← found (sources_in here.earlier named) rules.NamesFile []
@@ -86,7 +87,7 @@ declared_from here kind a named = do
   dependencies ← found (dependencies_of here.earlier (leaves_named (codes "dependencies") a)) rules.NamesFile []
   Ok (record { target = Build (build_target here kind a own dependencies); files = flat_map file_in named })
 
--- what the call declares: the version is one, and paths stay in the tree, of sources and then of folders
+-- Returns what a call declares, or its refusal. Checked are `version`, then the paths of sources, and then those of directories.
 unfoldable pub declared : HereData → Kind → ArgumentsData → Said NamedTargetData
 declared here kind a = do
   _ ← kept (version_fits (text_given (codes "version") a)) rules.IsLibraryVersion (text_of (codes "version") a)

@@ -1,4 +1,4 @@
--- `custom_target`.
+-- Defines `custom_target`.
 use Rattle.std.specs.Prelude.{Option, Some, codes}
 use Rattle.arguments.specs.Arguments.{ArgumentsData}
 use Rattle.values.specs.Data.{Data, object}
@@ -12,13 +12,14 @@ use Rattle.target_calls.specs.Files.{all_required}
 use Rattle.world.specs.Here.{here_of}
 use Rattle.target_calls.specs.Targets.{required_fit}
 
--- what the arguments say: E9 of those that break a rule
+-- Returns what the arguments declare, and refuses those that break a rule with E9.
 unfoldable pub said_custom : ArgumentsData → Deed NamedTargetData
 said_custom a = do
   facts ← read
   passed (declared_custom (here_of facts) a)
 
--- `custom_target(name)`: E9; E14 of the first missing file in the order in which the keywords are written; E21, E11, E22
+-- Defines `custom_target(name)`. Refuses with E9; with E14 for the first missing file, in the order in which the keywords are written; and
+-- with E21, E11 and E22.
 unfoldable pub custom_target : ArgumentsData → Deed (Option Data)
 custom_target a = do
   d ← said_custom a

@@ -1,4 +1,4 @@
--- The names of the files that a custom target makes, and what its placeholders are seen from.
+-- Defines the names of the files that a custom target makes, and the values of its placeholders.
 use Rattle.std.specs.Prelude.{List, map, Option, Some, option_map, codes}
 use Rattle.arguments.specs.Arguments.{ArgumentsData}
 use Rattle.arguments.specs.Each.{each_or_none}
@@ -12,7 +12,7 @@ use Rattle.named_sources.specs.declared.holes.Scope.TheVariants.{FileName}
 use Rattle.support.specs.paths.Paths.{path_in}
 use Rattle.world.specs.Here.{HereData}
 
--- what the placeholders of the call are seen from
+-- Returns the values that the placeholders of a call refer to.
 abbrev pub place_with : HereData → (inputs outputs : List Path) → (depfile : Option Path) → PlaceData
 place_with here inputs outputs depfile = record {
   inputs = inputs;
@@ -23,22 +23,23 @@ place_with here inputs outputs depfile = record {
   source_root = source_root here.depth;
 }
 
--- names of files, their placeholders replaced
+-- Returns names of files with their placeholders replaced.
 abbrev pub names_in : PlaceData → List Text → Option (List Text)
 names_in place ts = each_or_none (filled FileName place) ts
 
--- names of files of the folder
+-- Names of files in the folder of the call.
 pub record NamesData : Type 0 where
   pub outputs : List Text
   pub depfile : Option Text
 
--- the outputs and the depfile, which see the inputs alone
+-- Returns the names of the outputs and the depfile. Their placeholders refer to the inputs alone.
 abbrev pub names_of : PlaceData → ArgumentsData → Option NamesData
 names_of place a = do
   outputs ← names_in place (texts (codes "output") a)
   depfile ← names_in place (texts (codes "depfile") a)
   Some (record { outputs = outputs; depfile = first_of depfile })
 
+-- Returns the values that placeholders refer to, given the inputs and the names of the files that the target makes.
 abbrev pub place_of : HereData → (inputs : List Path) → NamesData → PlaceData
 place_of here inputs names =
     place_with here inputs (map (path_in here.folder) names.outputs) (option_map (path_in here.folder) names.depfile)

@@ -1,4 +1,4 @@
--- A custom target as the arguments of a call say it.
+-- Defines a custom target, from the arguments of a call: `custom_target` of the page "Reference manual".
 use Rattle.std.specs.Prelude.{◌≡◌, ℕ, max, Bool, false, not, ◌||◌, ◌==◌, List, [], ◌++◌, length, flat_map, codes}
 use Rattle.std.specs.Prelude.{bytes_eq, Option, Some, None, Ok, is_some, if◌then◌else◌}
 use Rattle.arguments.specs.Arguments.{ArgumentsData}
@@ -20,27 +20,27 @@ use Rattle.target_calls.specs.CustomNames.{NamesData, names_of, place_of, place_
 use Rattle.world.specs.Here.{HereData}
 use Rattle.target_calls.specs.Sources.{file_in, sources_in}
 
--- ---- what may be given
+-- ---- checks of the arguments
 
--- how many items a keyword gives, its lists opened
+-- Returns how many items a keyword has, with nested lists flattened.
 abbrev pub count_named : Text → ArgumentsData → ℕ
 count_named name a = length (leaves_named name a)
 
--- the longest of the lists that the call gives
+-- Returns the length of the longest list of the call.
 abbrev pub longest : ArgumentsData → ℕ
 longest a =
     max (count_named (codes "output") a) (max (count_named (codes "command") a) (max (count_named (codes "input") a)
     (max (count_named (codes "depend_files") a) (count_named (codes "depends") a))))
 
--- what is printed goes to one output
+-- Holds if the call does not capture the command's standard output, or has exactly one output for it.
 abbrev pub captures_one : ArgumentsData → Bool
 captures_one a = not (flag (codes "capture") false a) || count_named (codes "output") a == 1
 
--- what is installed goes to a folder
+-- Holds if the call installs nothing, or gives an `install_dir`.
 abbrev pub has_place : ArgumentsData → Bool
 has_place a = not (flag (codes "install") false a) || is_some (text_given (codes "install_dir") a)
 
--- what breaks a rule: a list that is empty, the outputs of what is printed, or the folder of what is installed
+-- Returns the first rule that is broken: an empty list, captured output without exactly one output file, or an install without a directory.
 abbrev pub rule_broken : ArgumentsData → Option (Rule × Text)
 rule_broken a =
     if count_named (codes "output") a == 0 then Some (rules.HasItems, codes "output")
@@ -50,25 +50,27 @@ rule_broken a =
 
 -- ---- sources
 
+-- Holds if a keyword gives sources.
 abbrev pub is_source_keyword : Text → Bool
 is_source_keyword name = bytes_eq name (codes "input") || bytes_eq name (codes "depend_files")
 
+-- Returns the sources that a keyword gives.
 abbrev pub written_in : Text × Data → List Data
 written_in n = if is_source_keyword n.0 then opened n.1 else []
 
--- what the call says of sources, in the order in which its keywords are written
+-- Returns the sources that a call gives, in the order in which its keywords are written.
 abbrev pub written : ArgumentsData → List Data
 written a = flat_map written_in a.named
 
--- `input` says all of it
+-- States that `input` alone gives all sources.
 abbrev pub IsAllInput : ArgumentsData → Type 0
 IsAllInput a = written a ≡ leaves_named (codes "input") a
 
--- the sources that the call names, each in the tree
+-- Returns the sources that a call names. Each path must be below the source root.
 abbrev pub written_sources : HereData → ArgumentsData → Said (List NamedData)
 written_sources here a = sources_of here.source_root here.folder (written a)
 
--- the sources that a keyword names; none is an output that no target has
+-- Returns the sources that a keyword names. None may be an output that no target has.
 abbrev pub sources_by : HereData → ArgumentsData → Text → Said (List SourceData)
 sources_by here a name = do
   named ← sources_of here.source_root here.folder (leaves_named name a)
@@ -76,7 +78,7 @@ sources_by here a name = do
 
 -- ---- the target
 
--- it is built by default where it is installed, unless the call says otherwise
+-- Returns the target. It is built by default if it is installed, unless the call says otherwise.
 abbrev pub custom_target : HereData → ArgumentsData → NamesData → (inputs : List SourceData) → PartData → CustomData
 custom_target here a names inputs command = record {
   name = text_at 0 a;
@@ -92,14 +94,15 @@ custom_target here a names inputs command = record {
   is_installed = flag (codes "install") false a;
 }
 
+-- Returns the command with further files that it needs.
 abbrev pub with_needs : PartData → (more : List SourceData) → PartData
 with_needs command more = record { words = command.words; needs = command.needs ++ more }
 
--- the part of the command that a keyword says, of which each placeholder stands for something, and each program was found
+-- Returns the part of the command that a keyword gives. Each placeholder must have a value, and each program must have been found.
 abbrev pub part_by : HereData → ArgumentsData → PlaceData → Text → Said PartData
 part_by here a place name = found (command_of here place (leaves_named name a)) rules.HasMeaning name
 
--- the command, and what has to be there: files and targets in it, then `depends`, then `depend_files`
+-- Returns the command, and the files that it needs: files and targets in it, then `depends`, then `depend_files`.
 abbrev pub whole_command : HereData → ArgumentsData → PlaceData → Said PartData
 whole_command here a place = do
   command ← part_by here a place (codes "command")
@@ -107,22 +110,25 @@ whole_command here a place = do
   files ← sources_by here a (codes "depend_files")
   Ok (with_needs command (depends.needs ++ files))
 
--- the names of the files that it makes, of which each placeholder stands for something
+-- Returns the names of the files that the target makes. Each placeholder must have a value.
 abbrev pub names_from : HereData → ArgumentsData → (inputs : List Path) → Said NamesData
 names_from here a inputs = found (names_of (place_with here inputs [] None) a) rules.HasMeaning (codes "output")
 
+-- Returns the custom target of a call with these inputs.
 abbrev pub custom_from : HereData → ArgumentsData → (inputs : List SourceData) → Said CustomData
 custom_from here a inputs = do
   names ← names_from here a (flat_map (source_paths here.depth) inputs)
   command ← whole_command here a (place_of here (flat_map (source_paths here.depth) inputs) names)
   Ok (custom_target here a names inputs command)
 
+-- Returns what a call with these inputs and source files declares.
 abbrev pub declared_files : HereData → ArgumentsData → List SourceData → List Path → Said NamedTargetData
 declared_files here a inputs files = do
   t ← custom_from here a inputs
   Ok (record { target = Custom t; files = files })
 
--- what the call declares: lists are not empty, then the outputs and the folder, then sources, names and the command
+-- Returns what a call declares, or its refusal. Checked are empty lists first, then the outputs and the directory, then sources, names and
+-- the command.
 unfoldable pub declared_custom : HereData → ArgumentsData → Said NamedTargetData
 declared_custom here a = do
   _ ← unbroken (rule_broken a)

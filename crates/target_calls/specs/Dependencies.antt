@@ -1,4 +1,4 @@
--- What dependencies bring to a target.
+-- Defines what dependencies add to a target.
 use Rattle.std.specs.Prelude.{true, false, List, [], ◌∷◌, ◌++◌, map, Option, Some, None, option_and_then, option_map, if◌then◌else◌}
 use Rattle.values.specs.Data.{Data, object}
 use Rattle.values.specs.declared.object.Dependency.{Dependency}
@@ -11,13 +11,14 @@ use Rattle.build.specs.Libraries.{LinkedData}
 use Rattle.named_sources.specs.Sources.{NamedData, tree, built, outputs, output}
 use Rattle.target_calls.specs.Sources.{sources_in}
 
--- a source of a dependency, as a call names it
+-- Returns a source of a dependency in the form in which a call names it.
 abbrev pub named_of : Source → NamedData
 named_of (source.File path true) = built path
 named_of (source.File path false) = tree path
 named_of (source.CustomTarget number count) = outputs number
 named_of (source.CustomOutput target place) = output target place
 
+-- Returns the lists of a dependency, with these sources.
 abbrev pub with_sources : Dependency → List SourceData → ListsData
 with_sources d ss = record {
   sources = ss;
@@ -27,30 +28,31 @@ with_sources d ss = record {
   link_with = d.link_with;
 }
 
--- what one dependency brings
+-- Returns the lists that a dependency adds, and none if it has a source that no target makes.
 abbrev pub lists_of : List LinkedData → Dependency → Option ListsData
 lists_of earlier d = option_map (with_sources d) (sources_in earlier (map named_of d.sources))
 
+-- Returns the dependency of an object if it was found.
 abbrev pub found_in_object : Object → Option Dependency
 found_in_object (objects.Dependency d) = if d.is_found then Some d else None
 found_in_object _ = None
 
--- the dependency that a value is, where it was found
+-- Returns the dependency of a value if it was found.
 abbrev pub found_in : Data → Option Dependency
 found_in (object o) = found_in_object o
 found_in _ = None
 
--- one that was not found brings nothing
+-- Adds the lists of a dependency. One that was not found adds nothing.
 abbrev pub with_found :
     List LinkedData → List ListsData → Option Dependency → (List ListsData → Option (List ListsData)) → Option (List ListsData)
 with_found earlier ls None next = next ls
 with_found earlier ls (Some d) next = option_and_then (λ l. next (ls ++ l ∷ [])) (lists_of earlier d)
 
--- lists, and behind them what the dependencies that values are bring
+-- Returns lists followed by those that the dependencies among values add.
 abbrev pub lists_behind : List LinkedData → List ListsData → List Data → Option (List ListsData)
 lists_behind earlier ls [] = Some ls
 lists_behind earlier ls (v ∷ vs) = with_found earlier ls (found_in v) (λ ms. lists_behind earlier ms vs)
 
--- what the dependencies that values are bring, or none where one of them has a source that no target makes
+-- Returns the lists that the dependencies among values add, and none if one of them has a source that no target makes.
 abbrev pub dependencies_of : List LinkedData → List Data → Option (List ListsData)
 dependencies_of earlier vs = lists_behind earlier [] vs

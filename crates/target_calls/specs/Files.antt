@@ -1,4 +1,4 @@
--- `files` and `include_directories`: paths of the tree as values.
+-- Defines `files` and `include_directories`, which make values of paths in the source directory.
 use Rattle.std.specs.Prelude.{ℕ, List, [], ◌∷◌, Option, Some}
 use Rattle.arguments.specs.Arguments.{ArgumentsData}
 use Rattle.arguments.specs.Each.{each_said}
@@ -15,36 +15,38 @@ use Rattle.named_sources.specs.Values.{directories_at, files_at}
 use Rattle.target_calls.specs.declared.tree.Wanted.{Wanted}
 use Rattle.target_calls.specs.declared.tree.Wanted.TheVariants as wants
 
--- a file, or a folder, of which the root is one, that a text of the present definition file names
+-- Returns the file or the folder that a text of the present build file names. The root is a folder.
 abbrev pub path_named : HereData → Wanted → List ℕ → Option (List ℕ)
 path_named here wants.File t = tree_path here.source_root here.folder t
 path_named here wants.Folder t = folder_path here.source_root here.folder t
 
+-- Returns the rule that a text breaks if it names nothing.
 abbrev pub rule_of : Wanted → Rule
 rule_of wants.File = rules.NamesFile
 rule_of wants.Folder = rules.NamesFolder
 
--- a text that names none breaks a rule
+-- Returns the path that a text names. A text that names none breaks a rule.
 abbrev pub named_by : HereData → Wanted → List ℕ → Said (List ℕ)
 named_by here wanted t = found (path_named here wanted t) (rule_of wanted) t
 
+-- Returns the paths that all texts name. The first text that names none breaks a rule.
 abbrev pub paths_named : HereData → Wanted → List (List ℕ) → Said (List (List ℕ))
 paths_named here wanted ts = each_said (named_by here wanted) [] ts
 
--- the paths of the files or folders that texts name: E9 where one names none
+-- Returns the paths of the files or folders that texts name, and refuses a text that names none with E9.
 unfoldable pub named_paths : Wanted → List (List ℕ) → Deed (List (List ℕ))
 named_paths wanted ts = do
   facts ← read
   passed (paths_named (here_of facts) wanted ts)
 
--- each of these files is there: they are looked at one after another, up to the first missing one (E14)
+-- Refuses the call at the first of these files that is missing (E14).
 unfoldable pub all_required : List (List ℕ) → Deed (Unit {0})
 all_required [] = give tt
 all_required (p ∷ ps) = do
   _ ← required p
   all_required ps
 
--- `files(flat texts..)`: no file is looked at where one text names none
+-- Defines `files(texts..)`. If one text names no file, none is looked at.
 unfoldable pub files : ArgumentsData → Deed (Option Data)
 files a = do
   ps ← named_paths wants.File (flat_all a.positional)
@@ -52,7 +54,7 @@ files a = do
   d ← answered (files_at ps)
   give (Some d)
 
--- `include_directories(flat texts..)`: whether the folders are there is not looked at, and the keyword `is_system` has no effect
+-- Defines `include_directories(texts..)`. It does not check whether the directories exist, and ignores the keyword `is_system`.
 unfoldable pub include_directories : ArgumentsData → Deed (Option Data)
 include_directories a = do
   ps ← named_paths wants.Folder (flat_all a.positional)

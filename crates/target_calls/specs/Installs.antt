@@ -1,4 +1,4 @@
--- Where targets go when they are installed.
+-- Defines where targets are installed.
 use Rattle.std.specs.Prelude.{Option, Some, None, codes, unwrap_or, if◌then◌else◌}
 use Rattle.arguments.specs.Arguments.{ArgumentsData}
 use Rattle.arguments.specs.Given.{text_given}
@@ -14,28 +14,29 @@ use Rattle.world.specs.Deed.{Deed, give}
 use Rattle.world.specs.Options.{option_text}
 use Rattle.world.specs.World.{Facts}
 
--- programs go to `bindir`, libraries to `libdir`
+-- Returns the default directory: `bindir` for programs, `libdir` for libraries.
 abbrev pub usual_folder : Facts → Kind → Path
 usual_folder facts kinds.Executable = option_text facts.options (codes "bindir")
 usual_folder facts _ = option_text facts.options (codes "libdir")
 
--- the folder that the keyword `install_dir` says, else the usual one
+-- Returns the directory of the keyword `install_dir`, and otherwise the default one.
 abbrev pub install_folder : Facts → ArgumentsData → Kind → Path
 install_folder facts a kind = unwrap_or (text_given (codes "install_dir") a) (usual_folder facts kind)
 
--- the target's file goes to the folder below the option `prefix`, or to the folder alone where that is absolute; symbolic links are not
--- listed
+-- Returns where the target's file is installed: to its directory below the option `prefix`, or to that directory itself if it is absolute.
+-- Symbolic links are not listed.
 abbrev pub build_install : Facts → ArgumentsData → BuildData → InstallData
 build_install facts a t = record {
   source = path_below facts.settings.build_root (file_path t);
   destination = path_below (path_below (option_text facts.options (codes "prefix")) (install_folder facts a t.kind)) (file_name t);
 }
 
+-- Returns where a target's file is installed, and none if it is not installed.
 abbrev pub install_of : Facts → ArgumentsData → TargetData → Option InstallData
 install_of facts a (Build t) = if t.is_installed then Some (build_install facts a t) else None
 install_of facts a (Custom t) = None
 
--- the project takes note of it, where there is one
+-- Records an installed file, if there is one.
 unfoldable pub noted : Option InstallData → Deed (Unit {0})
 noted None = give tt
 noted (Some install) = add_install install

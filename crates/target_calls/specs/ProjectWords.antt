@@ -1,4 +1,4 @@
--- `add_project_arguments` and `add_project_link_arguments`: words for all commands of the project.
+-- Defines `add_project_arguments` and `add_project_link_arguments`: arguments for all commands of the project.
 use Rattle.std.specs.Prelude.{Bool, false, List, [], ◌∷◌, Option, None, bytes_eq, codes}
 use Rattle.std.specs.List.{list_all}
 use Rattle.arguments.specs.Arguments.{ArgumentsData}
@@ -11,26 +11,27 @@ use Rattle.world.specs.Declaring.{add_arguments, add_link_arguments}
 use Rattle.world.specs.Deed.{Deed, give, ◌>>=◌}
 use Rattle.world.specs.Ruled.{obeyed}
 
+-- Holds if a language is `c`.
 abbrev pub is_c : Text → Bool
 is_c language = bytes_eq language (codes "c")
 
--- at least one language, and each is `c`
+-- Holds if there is at least one language, and each is `c`.
 abbrev pub are_c : List Text → Bool
 are_c [] = false
 are_c (l ∷ ls) = list_all is_c (l ∷ ls)
 
--- the words are for C (E9)
+-- Refuses arguments that are not for C (E9).
 unfoldable pub required_c : ArgumentsData → Deed (Unit {0})
 required_c a = obeyed (are_c (texts (codes "language") a)) rules.TakesC (codes "language")
 
--- `add_project_arguments(flat texts..)`: E9, E21, E24 in this order
+-- Defines `add_project_arguments(texts..)`. Refuses with E9, E21, E24 in this order.
 unfoldable pub add_project_arguments : ArgumentsData → Deed (Option Data)
 add_project_arguments a = do
   _ ← required_c a
   _ ← add_arguments (flat_all a.positional)
   give None
 
--- `add_project_link_arguments(flat texts..)`: the same, for all link commands
+-- Defines `add_project_link_arguments(texts..)`, which adds to all link commands. Refuses with E9, E21, E24 in this order.
 unfoldable pub add_project_link_arguments : ArgumentsData → Deed (Option Data)
 add_project_link_arguments a = do
   _ ← required_c a

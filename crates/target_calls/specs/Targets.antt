@@ -1,4 +1,4 @@
--- Functions that declare an executable or a library.
+-- Defines the functions that declare an executable or a library.
 use Rattle.std.specs.Prelude.{ℕ, Option, Some, bytes_eq, codes, if◌then◌else◌}
 use Rattle.arguments.specs.Arguments.{ArgumentsData}
 use Rattle.values.specs.Data.{Data, object}
@@ -19,19 +19,19 @@ use Rattle.target_calls.specs.Files.{all_required}
 use Rattle.world.specs.Here.{here_of}
 use Rattle.target_calls.specs.Installs.{install_of, noted}
 
--- what the arguments say: E9 of those that break a rule
+-- Returns what the arguments declare, and refuses those that break a rule with E9.
 unfoldable pub said : Kind → ArgumentsData → Deed NamedTargetData
 said kind a = do
   facts ← read
   passed (declared (here_of facts) kind a)
 
--- the project can have the target, by its names, sources and libraries (E9)
+-- Refuses a target that the project cannot have, for its names, sources or libraries (E9).
 unfoldable pub required_fit : TargetData → Deed (Unit {0})
 required_fit t = do
   facts ← read
   obeyed (is_fit facts.project t) (fit_breach facts.project t).0 (fit_breach facts.project t).1
 
--- the target is declared, and where its file goes is noted
+-- Declares the target, and records where its file is installed.
 unfoldable pub add_installed : ArgumentsData → TargetData → Deed ℕ
 add_installed a t = do
   facts ← read
@@ -39,8 +39,8 @@ add_installed a t = do
   _ ← noted (install_of facts a t)
   give n
 
--- `executable`, `static_library` and `shared_library`, by the kind: E9; E14 of the first missing file in the order of the arguments; E21,
--- E11, E22
+-- Defines `executable`, `static_library` and `shared_library`, by the kind. Refuses with E9; with E14 for the first missing file in the
+-- order of the arguments; and with E21, E11 and E22.
 unfoldable pub declare : Kind → ArgumentsData → Deed (Option Data)
 declare kind a = do
   d ← said kind a
@@ -49,12 +49,12 @@ declare kind a = do
   n ← add_installed a d.target
   give (Some (object (objects.BuildTarget n)))
 
--- what `library` makes where the option `default_library` has this value
+-- Returns what `library` makes for this value of the option `default_library`.
 abbrev pub library_kind : Option option.Value → Kind
 library_kind (Some (option.Combo choice)) = if bytes_eq choice (codes "static") then kinds.StaticLibrary else kinds.SharedLibrary
 library_kind _ = kinds.SharedLibrary
 
--- `library`
+-- Defines `library`.
 unfoldable pub library : ArgumentsData → Deed (Option Data)
 library a = do
   facts ← read

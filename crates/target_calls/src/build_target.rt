@@ -1,4 +1,4 @@
-//! An executable or a library as the arguments of a call say it.
+//! Reads an executable or a library from the arguments of a call.
 ghost use Rattle.std.specs.Prelude.{◌≡◌, IfOk, codes, map, option_map, string_bytes};
 ghost use Rattle.arguments.specs.Given.{text_given};
 ghost use Rattle.arguments.specs.Refused.{said_data};
@@ -24,7 +24,7 @@ use world::Here;
 #[derive(Drop)]
 pub struct NamedTarget {
     pub target: Target,
-    /// The files of the tree that the call asks for, in the order of the arguments.
+    /// The source files that the call requires, in the order of the arguments.
     pub files: Vec<String>,
 }
 
@@ -39,7 +39,7 @@ fn version_of(alloc: Global, arguments: &Arguments) -> Result<Option<String>, Al
     }
 }
 
-// One to three numbers with dots, where it is given.
+// Returns whether `version` is absent, or is one to three numbers separated by dots.
 fn version_fits(alloc: Global, arguments: &Arguments) -> Result<bool, AllocError>
     ensures { IfOk result (λ fits. fits ≡ version_fits (text_given (codes "version") (arguments_data arguments.now))) }
 {
@@ -49,7 +49,7 @@ fn version_fits(alloc: Global, arguments: &Arguments) -> Result<bool, AllocError
     }
 }
 
-// A text, or an integer by its decimal digits.
+// Returns a text, or the decimal digits of an integer, and `None` for any other value.
 fn number_in(alloc: Global, value: &Value) -> Result<Option<String>, AllocError>
     ensures { IfOk result (λ n. option_map string_bytes n ≡ number_in (data_of value.now)) }
 {
@@ -74,7 +74,7 @@ fn soversion_of(alloc: Global, arguments: &Arguments) -> Result<Option<String>, 
 
 // ---- lists
 
-// What the sources are said to be: behind the name of the target, then by keyword.
+// Returns the sources that a call gives: those after the target's name, then those of the keyword.
 fn source_values<'v>(alloc: Global, arguments: &'v Arguments) -> Result<Vec<&'v Value>, AllocError>
     ensures { IfOk result (λ vs. map (λ v. data_of v.now) vs.items ≡ source_values (arguments_data arguments.now)) }
 {
@@ -84,7 +84,7 @@ fn source_values<'v>(alloc: Global, arguments: &'v Arguments) -> Result<Vec<&'v 
     Ok(values)
 }
 
-// The sources that the call names.
+// Returns the sources that a call names, or the refusal of a path that is not below the source root.
 fn named_sources(
     here: &Here<'_>,
     arguments: &Arguments,
@@ -95,7 +95,7 @@ fn named_sources(
     sources_of(here.alloc, here.source_root, here.folder, &values)
 }
 
-// What the target lists of its own, beside these sources.
+// Returns the lists that the target has itself, with these sources, or the refusal of a bad directory or library.
 fn own_lists(
     here: &Here<'_>,
     arguments: &Arguments,
@@ -152,7 +152,7 @@ fn build_target(
     })
 }
 
-// What a call declares that names these sources.
+// Returns what a call with these sources declares, or its refusal.
 fn declare_from(
     here: &Here<'_>,
     kind: Kind,
@@ -180,7 +180,7 @@ fn declare_from(
     }))
 }
 
-/// What a call declares. A `version` that is none breaks a rule, and a path that leads out of the tree.
+/// Returns what a call declares, or its refusal. Refused are a bad `version` and a path that leads out of the source directory.
 #[tactic(auto, unfolding(crate::specs::BuildTargets::declared))]
 pub fn declare_target(
     here: &Here<'_>,

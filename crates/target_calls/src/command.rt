@@ -1,4 +1,4 @@
-//! The command of a custom target.
+//! Makes the command of a custom target.
 ghost use Rattle.std.specs.Prelude.{◌≡◌, ◌∷◌, [], IfOk, None, Some, map, option_map, string_bytes, if◌then◌else◌};
 ghost use Rattle.build.specs.edge.Paths.{source_path as path_from};
 ghost use Rattle.build.specs.edge.Texts.{texts};
@@ -19,14 +19,14 @@ use support::paths::has_slash;
 use values::{Object, Program, Text, Value};
 use world::Here;
 
-/// The words of a part of the command, and what has to be there for it.
+/// A part of the command: its arguments, and the files that must be built or present before the command runs.
 #[derive(Drop)]
 pub struct Part {
     pub words: Vec<String>,
     pub needs: Vec<Source>,
 }
 
-// Appends a path, and what has to be there for it.
+// Appends a path, and what it needs.
 fn push_path(whole: &mut Part, path: String, need: Source) -> Result<(), AllocError>
     ensures { IfOk result (λ _. part_view whole.new ≡ joined (part_view whole.old) (one_path (string_bytes path) (source_view need))) }
 {
@@ -35,7 +35,7 @@ fn push_path(whole: &mut Part, path: String, need: Source) -> Result<(), AllocEr
     Ok(())
 }
 
-// Appends words for which nothing has to be there.
+// Appends arguments that need nothing.
 fn push_alone(whole: &mut Part, alloc: Global, words: &[Text]) -> Result<(), AllocError>
     ensures { IfOk result (λ _. part_view whole.new ≡ joined (part_view whole.old) (words_alone words.now)) }
 {
@@ -43,7 +43,7 @@ fn push_alone(whole: &mut Part, alloc: Global, words: &[Text]) -> Result<(), All
     whole.words.append(&mut own)
 }
 
-// Appends the path of a file of the tree, which is there.
+// Appends the path of a source file, which needs nothing.
 fn push_path_alone(
     whole: &mut Part,
     alloc: Global,
@@ -57,7 +57,7 @@ fn push_path_alone(
     Ok(())
 }
 
-// Appends a program. One that was not found can't stand in a command.
+// Appends a program, or returns false for one that was not found.
 fn push_program(
     whole: &mut Part,
     alloc: Global,
@@ -76,7 +76,7 @@ fn push_program(
     Ok(true)
 }
 
-// A program of the build folder itself is called as `./prog`.
+// Returns how a target is called. A program directly in the build directory is called as `./prog`.
 fn run_word(alloc: Global, target: &BuildTarget) -> Result<String, AllocError>
     ensures { IfOk result (λ s. string_bytes s ≡ called (build_view target.now)) }
 {
@@ -157,7 +157,7 @@ fn push_thing(
     Ok(true)
 }
 
-// Appends what an object is in a command, or answers that it can't stand there.
+// Appends an object, or returns false if it cannot be in a command.
 fn push_object(whole: &mut Part, here: &Here<'_>, object: &Object) -> Result<bool, AllocError>
     ensures { IfOk result (λ done. (if done then Some (part_view whole.new) else None)
         ≡ option_map (joined (part_view whole.old)) (of_object (here_view here.now) object.now)) }
@@ -180,7 +180,7 @@ fn push_text(
     push_words(&mut whole.words, alloc, place, text)
 }
 
-// Appends a part of the command: a text with placeholders, or an object.
+// Appends a part of the command: a text with placeholders, or an object. Returns false if the part cannot be in a command.
 fn push_part(
     whole: &mut Part,
     here: &Here<'_>,
@@ -197,8 +197,8 @@ fn push_part(
     }
 }
 
-/// The command that values say, their lists opened; or none where a placeholder stands for nothing, or something can't stand in a
-/// command.
+/// Returns the command of these values, whose lists are already flattened. Returns `None` if a placeholder has no value, or if a value
+/// cannot be in a command.
 pub fn command_of(
     here: &Here<'_>,
     place: &Place<'_>,

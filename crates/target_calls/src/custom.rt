@@ -1,4 +1,4 @@
-//! A custom target as the arguments of a call say it.
+//! Reads a custom target from the arguments of a call.
 ghost use Rattle.std.specs.Prelude.{◌≡◌, ◌++◌, ◌∷◌, [], IfOk, IfSome, Ok, codes, count_by, map, option_map, string_bytes, unwrap_or};
 ghost use Rattle.std.specs.Bool.{OnTrue};
 ghost use Rattle.arguments.specs.Arguments.{named_data};
@@ -35,16 +35,16 @@ use support::paths::path_in;
 use values::{Value, flat, open_up, opened_count};
 use world::Here;
 
-/// Names of files of the folder.
+/// Names of files in the folder of the call.
 #[derive(Drop)]
 pub struct Names {
     pub outputs: Vec<String>,
     pub depfile: Option<String>,
 }
 
-// ---- what may be given
+// ---- checks of the arguments
 
-/// How many items a keyword gives, its lists opened.
+/// Returns how many items a keyword has, with nested lists flattened.
 pub fn count_named(arguments: &Arguments, name: &str) -> usize
     ensures { result ≡ count_named name.now (arguments_data arguments.now) }
 {
@@ -54,7 +54,7 @@ pub fn count_named(arguments: &Arguments, name: &str) -> usize
     }
 }
 
-// The longest of the lists that the call gives.
+// Returns the length of the longest list of the call.
 fn longest(arguments: &Arguments) -> usize
     ensures { result ≡ longest (arguments_data arguments.now) }
 {
@@ -66,21 +66,22 @@ fn longest(arguments: &Arguments) -> usize
     outputs.max(words.max(inputs.max(files.max(targets))))
 }
 
-// What is printed goes to one output.
+// Returns whether the call does not capture the command's standard output, or has exactly one output for it.
 fn captures_one(arguments: &Arguments) -> bool
     ensures { result ≡ captures_one (arguments_data arguments.now) }
 {
     !arguments.flag("capture", false) || count_named(arguments, "output") == 1
 }
 
-// What is installed goes to a folder.
+// Returns whether the call installs nothing, or gives an `install_dir`.
 fn has_place(arguments: &Arguments) -> bool
     ensures { result ≡ has_place (arguments_data arguments.now) }
 {
     !arguments.flag("install", false) || arguments.text_given("install_dir").is_some()
 }
 
-// What breaks a rule: a list that is empty, the outputs of what is printed, or the folder of what is installed.
+// Returns the first rule that is broken and its keyword: an empty list, captured output without exactly one output file, or an install
+// without a directory.
 fn rule_broken(arguments: &Arguments) -> Option<(Rule, &'static str)>
     ensures { option_map (λ b. (b.0, b.1.now)) result ≡ rule_broken (arguments_data arguments.now) }
 {
@@ -132,7 +133,7 @@ fn push_written<'v>(
     Ok(())
 }
 
-// What the call says of sources, in the order in which its keywords are written.
+// Returns the sources that a call gives, in the order in which its keywords are written.
 fn list_written(alloc: Global, arguments: &Arguments) -> Result<Vec<&Value>, AllocError>
     ensures { IfOk result (λ vs. map (λ v. data_of v.now) vs.items ≡ written (arguments_data arguments.now)) }
 {
@@ -143,7 +144,7 @@ fn list_written(alloc: Global, arguments: &Arguments) -> Result<Vec<&Value>, All
     Ok(values)
 }
 
-// How many keywords say sources.
+// Returns how many keywords give sources.
 fn count_sources(named: &[Named]) -> usize
     ensures { result ≡ count_by (λ n. is_source_keyword n.name) named.now }
 {
@@ -156,14 +157,14 @@ fn count_sources(named: &[Named]) -> usize
     count
 }
 
-// Whether `input` alone says sources, and once.
+// Returns whether `input` alone gives sources, and occurs once.
 fn says_input_alone(arguments: &Arguments) -> bool
     ensures { OnTrue result (IsAllInput (arguments_data arguments.now)) }
 {
     count_sources(&arguments.named) == 1 && arguments.keyword("input").is_some()
 }
 
-// The value that says all sources, where one alone does and is no list.
+// Returns the only value that gives sources, if there is one and it is no list.
 fn only_written(arguments: &Arguments, input_alone: bool) -> Option<&Value>
     requires { OnTrue input_alone (IsAllInput (arguments_data arguments.now)) }
     ensures { IfSome result (λ v. written (arguments_data arguments.now) ≡ data_of v.now ∷ []) }
@@ -177,7 +178,7 @@ fn only_written(arguments: &Arguments, input_alone: bool) -> Option<&Value>
     }
 }
 
-// What the call names of sources. Most often one value says it, of which no list is made.
+// Returns the sources that a call names. Most often one value gives them all, and no list is made.
 fn written_sources(
     here: &Here<'_>,
     arguments: &Arguments,
@@ -195,7 +196,7 @@ fn written_sources(
     }
 }
 
-// The sources that these are, which a keyword names.
+// Returns these sources, which a keyword names, or the refusal of an output that no target has.
 fn sources_said(
     here: &Here<'_>,
     named: Vec<NamedSource>,
@@ -210,7 +211,7 @@ fn sources_said(
     }
 }
 
-// The sources that a keyword names.
+// Returns the sources that a keyword names, or the refusal of a bad path or output.
 fn sources_by(
     here: &Here<'_>,
     arguments: &Arguments,
@@ -225,7 +226,7 @@ fn sources_by(
     }
 }
 
-// The sources that `input` names, of all that the call names: most often it is these, and they are not named again.
+// Returns the sources that `input` names, given all that the call names. Most often these are the same, and they are not looked up again.
 fn inputs_among(
     here: &Here<'_>,
     arguments: &Arguments,
@@ -246,7 +247,7 @@ fn inputs_among(
 
 // ---- names
 
-// What the placeholders of a call are seen from that stands in this folder.
+// Returns the values that the placeholders of a call in this folder refer to.
 fn place_with<'p>(
     folder: &'p str,
     depth: usize,
@@ -272,7 +273,7 @@ fn place_with<'p>(
     }
 }
 
-// Names of files, their placeholders replaced.
+// Returns names of files with their placeholders replaced, and `None` if a placeholder has no value.
 fn names_in(
     alloc: Global,
     place: &Place<'_>,
@@ -297,7 +298,7 @@ fn first_of(names: Vec<String>) -> Option<String>
     names.into_iter().next()
 }
 
-// The names that a keyword gives. Most often it is one text, of which no list is made.
+// Returns the names that a keyword gives. Most often it is one text, and no list is made.
 fn names_given(
     alloc: Global,
     place: &Place<'_>,
@@ -317,7 +318,7 @@ fn names_given(
     }
 }
 
-// The outputs and the depfile, which see the inputs alone.
+// Returns the names of the outputs and the depfile, whose placeholders refer to the inputs alone.
 fn names_of(
     alloc: Global,
     place: &Place<'_>,
@@ -345,7 +346,7 @@ fn path_of(alloc: Global, folder: &str, name: &Option<String>) -> Result<Option<
     }
 }
 
-// The files of these names by their paths, or none in the root, where the names are the paths.
+// Returns the paths of the files with these names. Returns `None` in the root, where the names are the paths.
 fn files_below(here: &Here<'_>, names: &Names) -> Result<Option<Names>, AllocError>
     ensures { let folder = here.now.folder.now in
         IfOk result (λ files. unwrap_or (option_map names_view files) (names_view names.now) ≡ record {
@@ -398,7 +399,7 @@ fn custom_target(
     })
 }
 
-// The part of the command that a keyword says.
+// Returns the part of the command that a keyword gives, or its refusal.
 fn part_by(
     here: &Here<'_>,
     arguments: &Arguments,
@@ -415,7 +416,7 @@ fn part_by(
     }
 }
 
-// The command, and what has to be there: files and targets in it, then `depends`, then `depend_files`.
+// Returns the command, and the files that it needs: files and targets in it, then `depends`, then `depend_files`.
 fn whole_command(
     here: &Here<'_>,
     arguments: &Arguments,
@@ -441,7 +442,8 @@ fn whole_command(
     Ok(Ok(command))
 }
 
-// The names of the files that the target makes. The folder is the call's.
+// Returns the names of the files that the target makes, or the refusal of a placeholder without a value. `folder` is the folder of the
+// call.
 fn names_from<'p>(
     here: &Here<'_>,
     arguments: &Arguments,
@@ -459,7 +461,7 @@ fn names_from<'p>(
     }
 }
 
-// The command, which sees the files of these names too. The folder is the call's.
+// Returns the command, whose placeholders refer to the files with these names too. `folder` is the folder of the call.
 fn command_from<'p>(
     here: &Here<'_>,
     arguments: &Arguments,
@@ -518,8 +520,10 @@ fn declare_files(
     }
 }
 
-/// What a call of `custom_target` declares. A list that is empty breaks a rule, several outputs of what is printed, no folder for what is
-/// installed, a path that leads out of the tree, a placeholder that stands for nothing, and a program that was not found.
+/// Returns what a call of `custom_target` declares, or its refusal.
+///
+/// Refused are an empty list, captured output without exactly one output file, and an install without a directory. Further refusals are a
+/// path that leads out of the source directory, a placeholder without a value, and a program that was not found.
 #[tactic(auto, unfolding(crate::specs::CustomTargets::declared_custom))]
 pub fn declare_custom(
     here: &Here<'_>,

@@ -1,4 +1,4 @@
-//! `custom_target`.
+//! Implements `custom_target`.
 ghost use Rattle.std.specs.Prelude.{option_map};
 ghost use Rattle.world.specs.Prelude.{Does, MayFail, arguments_data, data_of};
 ghost use Rattle.target_calls.specs.CustomCalls.{custom_target};
@@ -12,7 +12,7 @@ use ports::{Outputs, Tree};
 use values::{Object, Value};
 use world::{Caller, Stop};
 
-/// `custom_target(name)`: E9, E14, E21, E11, E22 in this order.
+/// Runs `custom_target(name)`. Refuses with E9, E14, E21, E11, E22 in this order.
 pub fn custom_target<T: Tree, O: Outputs>(
     caller: &mut Caller<'_, T, O>,
     arguments: &Arguments,

@@ -1,4 +1,4 @@
-//! Where the outputs of a custom target go when it is installed.
+//! Records where the outputs of a custom target are installed.
 ghost use Rattle.std.specs.Prelude.{◌≡◌, IfOk};
 ghost use Rattle.build.specs.edge.Texts.{texts};
 ghost use Rattle.build.specs.project.View.{install_view};
@@ -16,14 +16,14 @@ use std::alloc::{AllocError, Global};
 use support::paths::{path_below, path_in};
 use world::{Caller, Stop, Store};
 
-/// Which way outputs go.
+/// Where outputs come from, and where they are installed.
 #[derive(Drop)]
 pub struct Way {
     /// An absolute path.
     pub build_root: String,
-    /// The folder of the definition file, `""` for the root.
+    /// The folder of the build file, `""` for the root.
     pub folder: String,
-    /// The folder that they go to.
+    /// The directory where they are installed.
     pub destination: String,
 }
 
@@ -59,7 +59,7 @@ fn custom_names(alloc: Global, target: &CustomTarget) -> Result<Vec<String>, All
     }
 }
 
-// The outputs that are installed.
+// Returns the outputs that are installed.
 fn installed_names(alloc: Global, target: &Target) -> Result<Vec<String>, AllocError>
     ensures { IfOk result (λ v. texts v.items ≡ installed_names (target_view target.now)) }
 {
@@ -69,7 +69,7 @@ fn installed_names(alloc: Global, target: &Target) -> Result<Vec<String>, AllocE
     }
 }
 
-// Notes where each output goes.
+// Records where each output is installed.
 fn note_all<T: Tree, O: Outputs>(
     caller: &mut Caller<'_, T, O>,
     way: &Way,
@@ -84,7 +84,7 @@ fn note_all<T: Tree, O: Outputs>(
     Ok(())
 }
 
-/// Declares a custom target, and notes where its outputs go.
+/// Declares a custom target, records where its outputs are installed, and returns its number.
 pub fn add_custom<T: Tree, O: Outputs>(
     caller: &mut Caller<'_, T, O>,
     arguments: &Arguments,

@@ -1,4 +1,4 @@
-//! Functions that declare an executable or a library.
+//! Implements the functions that declare an executable or a library.
 ghost use Rattle.std.specs.Prelude.{◌≡◌, option_map};
 ghost use Rattle.machine.specs.option_values.View.{value_in};
 ghost use Rattle.build.specs.View.{target_view};
@@ -16,7 +16,7 @@ use ports::{Outputs, Tree};
 use values::{Object, Value};
 use world::{Caller, Stop};
 
-/// Refuses a target that the project can't have.
+/// Refuses a target that the project cannot have (E9).
 pub fn require_fit<T: Tree, O: Outputs>(
     caller: &Caller<'_, T, O>,
     target: &Target,
@@ -33,7 +33,7 @@ pub fn require_fit<T: Tree, O: Outputs>(
     }
 }
 
-// Declares a target, and notes where its file goes.
+// Declares a target, records where its file is installed, and returns its number.
 fn add_installed<T: Tree, O: Outputs>(
     caller: &mut Caller<'_, T, O>,
     arguments: &Arguments,
@@ -47,7 +47,7 @@ fn add_installed<T: Tree, O: Outputs>(
     Ok(number)
 }
 
-/// `executable`, `static_library` or `shared_library`, by the kind that it declares: E9, E14, E21, E11, E22 in this order.
+/// Runs `executable`, `static_library` or `shared_library`, by the kind. Refuses with E9, E14, E21, E11, E22 in this order.
 pub fn declare<T: Tree, O: Outputs>(
     caller: &mut Caller<'_, T, O>,
     kind: Kind,
@@ -65,7 +65,7 @@ pub fn declare<T: Tree, O: Outputs>(
     Ok(Some(value))
 }
 
-// What `library` makes where the option `default_library` has this value.
+// Returns what `library` makes for this value of the option `default_library`.
 fn library_kind(value: Option<&OptionValue>) -> Kind
     ensures { result ≡ library_kind (option_map (λ v. value_in v.now) value.entry) }
 {
@@ -81,7 +81,7 @@ fn library_kind(value: Option<&OptionValue>) -> Kind
     }
 }
 
-/// `library(name, sources..)`, whose kind the option `default_library` says: E9, E14, E21, E11, E22 in this order.
+/// Runs `library(name, sources..)`, whose kind the option `default_library` decides. Refuses with E9, E14, E21, E11, E22 in this order.
 pub fn library<T: Tree, O: Outputs>(
     caller: &mut Caller<'_, T, O>,
     arguments: &Arguments,

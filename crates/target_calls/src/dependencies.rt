@@ -1,4 +1,4 @@
-//! What dependencies bring to a target.
+//! Reads what dependencies add to a target.
 ghost use Rattle.std.specs.Prelude.{◌≡◌, IfOk, codes, map, option_map};
 ghost use Rattle.arguments.specs.Leaves.{leaves_named};
 ghost use Rattle.build.specs.LinkedViews.{linked_views};
@@ -45,7 +45,7 @@ fn all_named(alloc: Global, sources: &[values::Source]) -> Result<Vec<NamedSourc
     Ok(named)
 }
 
-// What one dependency brings.
+// Returns the lists that a dependency adds, and `None` if it has a source that no target makes.
 fn lists_of(
     alloc: Global,
     earlier: &[Linked],
@@ -83,7 +83,7 @@ fn find_in_object(object: &Object) -> Option<&Dependency>
     }
 }
 
-// The dependency that a value is, where it was found.
+// Returns the dependency of a value if it was found.
 fn find_in(value: &Value) -> Option<&Dependency>
     ensures { option_map (λ d. d.now) result ≡ found_in (data_of value.now) }
 {
@@ -93,7 +93,8 @@ fn find_in(value: &Value) -> Option<&Dependency>
     }
 }
 
-// What the dependencies that values are bring; one that was not found brings nothing. None where one has a source that no target makes.
+// Returns the lists that the dependencies among values add; one that was not found adds nothing. Returns `None` if one has a source that no
+// target makes.
 fn dependencies_of(
     alloc: Global,
     earlier: &[Linked],
@@ -114,7 +115,7 @@ fn dependencies_of(
     Ok(Some(all))
 }
 
-/// What the dependencies bring that the keyword `dependencies` names. None where one has a source that no target makes.
+/// Returns the lists that the dependencies of the keyword `dependencies` add, and `None` if one has a source that no target makes.
 pub fn dependencies_given(
     here: &Here<'_>,
     arguments: &Arguments,

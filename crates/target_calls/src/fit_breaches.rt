@@ -1,4 +1,4 @@
-//! Which rule is broken by a target that the project can't have: it is looked for only where a call is refused.
+//! Finds the rule that a refused target breaks. It runs only when a call is refused.
 ghost use Rattle.std.specs.Prelude.{◌≡◌, ◌++◌, ◌∷◌, IfOk, map, option_map, string_bytes};
 ghost use Rattle.std.specs.Option.{option_to_list};
 ghost use Rattle.build.specs.edge.Texts.{texts};
@@ -28,7 +28,7 @@ fn is_target_name(name: &str) -> bool
     !(name == "" || has_slash(name) || matches!(name.as_bytes(), [b'-', ..]))
 }
 
-// The first of names that no file may have.
+// Returns the first name that no file may have.
 fn bad_name(names: &[String]) -> Option<&str>
     ensures { option_map (λ n. n.now) result ≡ bad_name (texts names.now) }
 {
@@ -49,7 +49,7 @@ fn is_header(path: &str) -> bool
     path.ends_with(".h")
 }
 
-// The path of a file that is neither a C source nor a header.
+// Returns the path of a file that is neither a C source nor a header.
 fn foreign_path(source: &Source) -> Option<&str>
     ensures { option_map (λ p. p.now) result ≡ foreign_path (source_view source.now) }
 {
@@ -89,7 +89,7 @@ fn foreign_among(lists: &[Rc<Lists>]) -> Option<&str>
     None
 }
 
-// The first among the sources of the target, and then of its dependencies.
+// Returns the first such file among the sources of the target, and then of its dependencies.
 fn foreign_of(target: &BuildTarget) -> Option<&str>
     ensures { option_map (λ p. p.now) result ≡ foreign_of (build_view target.now) }
 {
@@ -117,7 +117,7 @@ fn source_breach<'t>(earlier: &[Linked], target: &'t BuildTarget) -> (Rule, &'t 
     }
 }
 
-// Of a target whose file may have its name.
+// Returns the rule that a target breaks whose file may have its name, and what breaks it.
 fn link_breach(
     alloc: Global,
     earlier: &[Linked],
@@ -165,7 +165,7 @@ fn build_fit(
     }
 }
 
-// The name of the depfile, where no file may have it.
+// Returns the name of the depfile if no file may have that name.
 fn bad_depfile(target: &CustomTarget) -> Option<&str>
     ensures { option_map (λ n. n.now) result ≡ bad_name (option_to_list (custom_view target.now).depfile) }
 {
@@ -175,7 +175,7 @@ fn bad_depfile(target: &CustomTarget) -> Option<&str>
     }
 }
 
-// The first of the names of the target's files that no file may have.
+// Returns the first name of the target's files that no file may have.
 #[tactic(auto, using(crate::proofs::Names::bad_behind))]
 fn bad_name_of(target: &CustomTarget) -> Option<&str>
     ensures { option_map (λ n. n.now) result
@@ -194,7 +194,7 @@ fn custom_fit(alloc: Global, target: &CustomTarget) -> Result<(Rule, String), Al
     Ok((Rule::IsFileName, String::from_str(alloc, name)?))
 }
 
-/// Of a target that the project can't have: the rule, and the text or the keyword that breaks it.
+/// Returns the rule that a refused target breaks, and the text or the keyword that breaks it.
 pub fn fit_breach(
     alloc: Global,
     project: &Project,

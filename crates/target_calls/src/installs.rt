@@ -1,4 +1,4 @@
-//! Where targets go when they are installed.
+//! Decides where targets are installed.
 ghost use Rattle.std.specs.Prelude.{◌≡◌, IfOk, option_map};
 ghost use Rattle.build.specs.project.View.{install_view};
 ghost use Rattle.build.specs.View.{build_view, target_view};
@@ -13,7 +13,7 @@ use std::alloc::{AllocError, Global};
 use support::paths::path_below;
 use world::{Caller, Stop, Store};
 
-// Programs go to `bindir`, libraries to `libdir`.
+// Returns the default directory: `bindir` for programs, `libdir` for libraries.
 fn usual_folder(store: &Store, kind: Kind) -> &str
     ensures { result.now ≡ usual_folder (world_of store.now).facts kind }
 {
@@ -23,7 +23,7 @@ fn usual_folder(store: &Store, kind: Kind) -> &str
     }
 }
 
-// The folder that the keyword `install_dir` says, else the usual one.
+// Returns the directory of the keyword `install_dir`, and otherwise the default one.
 fn install_folder<'s>(store: &'s Store, arguments: &'s Arguments, kind: Kind) -> &'s str
     ensures { result.now ≡ install_folder (world_of store.now).facts (arguments_data arguments.now) kind }
 {
@@ -53,7 +53,7 @@ fn build_install(
     })
 }
 
-/// Where the target's file goes, if it is installed.
+/// Returns where the target's file is installed, and `None` if it is not installed.
 pub fn install_of(
     alloc: Global,
     store: &Store,
@@ -75,7 +75,7 @@ pub fn install_of(
     }
 }
 
-/// Notes where a file goes, if it is installed.
+/// Records an installed file, if there is one.
 pub fn note<T: Tree, O: Outputs>(
     caller: &mut Caller<'_, T, O>,
     install: Option<Install>,

@@ -1,4 +1,4 @@
-//! The functions of the page "Reference manual" that declare targets, and those that name what targets are made of.
+//! Implements the functions of the page "Reference manual" that declare targets, and those that name what targets are made of.
 #![tactic(auto)]
 
 mod build_target;

@@ -1,4 +1,4 @@
-//! `add_project_arguments` and `add_project_link_arguments`.
+//! Implements `add_project_arguments` and `add_project_link_arguments`.
 ghost use Rattle.std.specs.Prelude.{◌≡◌, IfOk, map, option_map};
 ghost use Rattle.std.specs.List.{list_all};
 ghost use Rattle.values.specs.Flat.{flat_all};
@@ -24,7 +24,7 @@ fn all_c(languages: &[String]) -> bool
     true
 }
 
-// At least one language, and each is `c`.
+// Returns whether there is at least one language, and each is `c`.
 fn are_c(languages: &[String]) -> bool
     ensures { result ≡ are_c (texts languages.now) }
 {
@@ -34,7 +34,7 @@ fn are_c(languages: &[String]) -> bool
     }
 }
 
-// The words that the call gives.
+// Returns the compiler or linker arguments that the call gives.
 fn words(alloc: Global, arguments: &Arguments) -> Result<Vec<String>, AllocError>
     ensures { IfOk result (λ v. texts v.items ≡ flat_all (map data_of arguments.now.positional.items)) }
 {
@@ -42,7 +42,7 @@ fn words(alloc: Global, arguments: &Arguments) -> Result<Vec<String>, AllocError
     strings(alloc, &found)
 }
 
-// Refuses words that are not for C.
+// Refuses arguments that are not for C (E9).
 fn require_c<T: Tree, O: Outputs>(
     caller: &Caller<'_, T, O>,
     arguments: &Arguments,
@@ -54,7 +54,7 @@ fn require_c<T: Tree, O: Outputs>(
     caller.obey(is_so, Rule::TakesC, "language")
 }
 
-/// `add_project_arguments(texts..)`: E9, E21, E24 in this order.
+/// Runs `add_project_arguments(texts..)`. Refuses with E9, E21, E24 in this order.
 pub fn add_project_arguments<T: Tree, O: Outputs>(
     caller: &mut Caller<'_, T, O>,
     arguments: &Arguments,
@@ -67,7 +67,7 @@ pub fn add_project_arguments<T: Tree, O: Outputs>(
     Ok(None)
 }
 
-/// `add_project_link_arguments(texts..)`: E9, E21, E24 in this order.
+/// Runs `add_project_link_arguments(texts..)`. Refuses with E9, E21, E24 in this order.
 pub fn add_project_link_arguments<T: Tree, O: Outputs>(
     caller: &mut Caller<'_, T, O>,
     arguments: &Arguments,

@@ -1,4 +1,4 @@
-//! The rows of the functions: what each takes.
+//! Defines the rows of the functions: the arguments that each takes.
 ghost use Rattle.std.specs.Prelude.{◌≡◌};
 ghost use Rattle.arguments.specs.RowView.{row_data};
 ghost use Rattle.target_calls.specs.Rows.{custom_target_row, files_row, include_directories_row, project_words_row};
@@ -10,7 +10,7 @@ const IS_SYSTEM: &[Keyword] = &[Keyword::Optional("is_system", Kind::Any)];
 
 const LANGUAGE: &[Keyword] = &[Keyword::Needed("language", Kind::Texts)];
 
-// What all build targets take.
+// The keywords of all build targets.
 const TARGET: &[Keyword] = &[
     Keyword::Optional("sources", Kind::Flat(Piece::Source)),
     Keyword::Optional("include_directories", Kind::Flat(Piece::Folder)),
@@ -23,7 +23,7 @@ const TARGET: &[Keyword] = &[
     Keyword::Optional("build_by_default", Kind::Boolean),
 ];
 
-// What a shared library takes besides.
+// The further keywords of a shared library.
 const VERSION: &[Keyword] = &[
     Keyword::Optional("version", Kind::Text),
     Keyword::Optional("soversion", Kind::IntegerOrText),
@@ -42,42 +42,42 @@ const CUSTOM_TARGET: &[Keyword] = &[
     Keyword::Optional("install_dir", Kind::Text),
 ];
 
-/// What `files` takes.
+/// Returns the row of `files`.
 pub fn files_row() -> Row
     ensures { row_data result ≡ files_row }
 {
     Row::of(&[], 0, &[]).with_others(Kind::Texts)
 }
 
-/// What `include_directories` takes.
+/// Returns the row of `include_directories`.
 pub fn include_directories_row() -> Row
     ensures { row_data result ≡ include_directories_row }
 {
     Row::of(&[], 0, &[IS_SYSTEM]).with_others(Kind::Texts)
 }
 
-/// What `add_project_arguments` and `add_project_link_arguments` take.
+/// Returns the row of `add_project_arguments` and `add_project_link_arguments`.
 pub fn project_words_row() -> Row
     ensures { row_data result ≡ project_words_row }
 {
     Row::of(&[], 0, &[LANGUAGE]).with_others(Kind::Texts)
 }
 
-/// What `custom_target` takes.
+/// Returns the row of `custom_target`.
 pub fn custom_target_row() -> Row
     ensures { row_data result ≡ custom_target_row }
 {
     Row::of(&[Kind::Text], 1, &[CUSTOM_TARGET])
 }
 
-/// What `executable` and `static_library` take.
+/// Returns the row of `executable` and `static_library`.
 pub fn target_row() -> Row
     ensures { row_data result ≡ target_row }
 {
     Row::of(&[Kind::Text], 1, &[TARGET]).with_others(Kind::Flat(Piece::Source))
 }
 
-/// What `shared_library` and `library` take.
+/// Returns the row of `shared_library` and `library`.
 pub fn shared_library_row() -> Row
     ensures { row_data result ≡ shared_library_row }
 {

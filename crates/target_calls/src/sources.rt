@@ -1,4 +1,4 @@
-//! The sources of a target.
+//! Looks up the sources of a target.
 ghost use Rattle.std.specs.Prelude.{◌≡◌, ◌++◌, IfOk, flat_map, map, option_map, string_bytes};
 ghost use Rattle.build.specs.edge.Texts.{texts};
 ghost use Rattle.build.specs.Data.{Made};
@@ -14,7 +14,7 @@ use named_sources::{NamedSource, output_at, outputs_at};
 use std::alloc::{AllocError, Global};
 use std::rc::Rc;
 
-/// Outputs of one target.
+/// Returns a source made of these outputs of one target.
 pub fn make_of(alloc: Global, paths: &[String]) -> Result<Source, AllocError>
     ensures { IfOk result (λ s. source_view s ≡ Made (texts paths.now)) }
 {
@@ -23,7 +23,7 @@ pub fn make_of(alloc: Global, paths: &[String]) -> Result<Source, AllocError>
     Ok(Source::Made(Rc::new(alloc, own)?))
 }
 
-/// One output of a target.
+/// Returns a source made of one output of a target.
 pub fn one_made_of(alloc: Global, path: String) -> Result<Source, AllocError>
     ensures { IfOk result (λ s. source_view s ≡ one_made (string_bytes path)) }
 {
@@ -76,7 +76,7 @@ fn source_in(
     }
 }
 
-/// The sources that are named, or none where one is an output that no target has.
+/// Returns the sources that are named, and `None` if one is an output that no target has.
 pub fn sources_in(
     alloc: Global,
     earlier: &[Linked],
@@ -107,7 +107,7 @@ fn push_file(files: &mut Vec<String>, named: &NamedSource) -> Result<(), AllocEr
     }
 }
 
-/// The files of the tree among sources.
+/// Returns the paths of sources that are files in the source directory.
 pub fn files_among(alloc: Global, named: &[NamedSource]) -> Result<Vec<String>, AllocError>
     ensures { IfOk result (λ v. texts v.items ≡ flat_map file_in (map named_view named.now)) }
 {

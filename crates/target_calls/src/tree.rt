@@ -1,4 +1,4 @@
-//! `files` and `include_directories`.
+//! Implements `files` and `include_directories`.
 ghost use Rattle.std.specs.Prelude.{◌≡◌, IfOk, map, option_map, string_bytes};
 ghost use Rattle.arguments.specs.Refused.{said_data};
 ghost use Rattle.values.specs.Flat.{flat_all};
@@ -18,12 +18,12 @@ use world::{Caller, Here, Stop};
 #[derive(Clone, Copy)]
 enum Wanted {
     File,
-    /// A folder, of which the root is one.
+    /// A folder; the root is one.
     Folder,
 }
 
 impl Wanted {
-    // The rule that a text breaks which names none.
+    // Returns the rule that a text breaks if it names nothing.
     fn rule(self) -> Rule
         ensures { result ≡ rule_of self }
     {
@@ -33,7 +33,7 @@ impl Wanted {
         }
     }
 
-    // The path of what the text names in the present definition file.
+    // Returns the path that a text of the present build file names, and `None` if it names none.
     fn path(self, here: &Here<'_>, text: &str) -> Result<Option<String>, AllocError>
         ensures { IfOk result (λ path. option_map string_bytes path ≡ path_named (here_view here.now) self text.now) }
     {
@@ -44,7 +44,7 @@ impl Wanted {
     }
 }
 
-// The paths of the files or folders that texts name.
+// Returns the paths of the files or folders that texts name, or the refusal of a text that names none.
 fn paths_named(
     here: &Here<'_>,
     wanted: Wanted,
@@ -62,7 +62,7 @@ fn paths_named(
     Ok(Ok(paths))
 }
 
-// The paths that the texts of a call name, where a text that names none refuses it.
+// Returns the paths that the texts of a call name, and refuses a text that names none (E9).
 fn named_paths<T: Tree, O: Outputs>(
     caller: &Caller<'_, T, O>,
     wanted: Wanted,
@@ -76,7 +76,7 @@ fn named_paths<T: Tree, O: Outputs>(
     caller.pass(paths)
 }
 
-// Refuses the call unless each of the files is there.
+/// Refuses the call unless each of the files is present (E14).
 pub(crate) fn require_all<T: Tree, O: Outputs>(
     caller: &mut Caller<'_, T, O>,
     paths: Vec<String>,
@@ -90,7 +90,7 @@ pub(crate) fn require_all<T: Tree, O: Outputs>(
     Ok(())
 }
 
-/// `files(texts..)`
+/// Runs `files(texts..)`. Refuses a text that names no file with E9, and a missing file with E14.
 pub fn files<T: Tree, O: Outputs>(
     caller: &mut Caller<'_, T, O>,
     arguments: &Arguments,
@@ -105,7 +105,7 @@ pub fn files<T: Tree, O: Outputs>(
     Ok(Some(list))
 }
 
-/// `include_directories(texts..)`
+/// Runs `include_directories(texts..)`. Refuses a text that names no directory with E9; the directories need not exist.
 pub fn include_directories<T: Tree, O: Outputs>(
     caller: &Caller<'_, T, O>,
     arguments: &Arguments,

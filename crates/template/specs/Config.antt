@@ -1,4 +1,4 @@
--- Configuration data as plain data.
+-- Defines configuration data as plain data.
 use Rattle.std.specs.Prelude.{ℕ, ℤ, Bool, true, false, List, [], ◌∷◌, ◌++◌, map, ◌==◌, Option, codes, if◌then◌else◌}
 use Rattle.std.specs.Fmt.{signed_decimal}
 use Rattle.std.specs.Str.{bytes_eq}
@@ -7,51 +7,51 @@ use Rattle.std.specs.Ordering.{nat_cmp}
 use Rattle.std.specs.BTreeMap.{insert_entry}
 use Rattle.std.specs.Map.{lookup}
 
--- what a name stands for: a boolean, an integer or a text
+-- The value of a name: a boolean, an integer or a text.
 pub data Content : Type 0 where
   Flag : (boolean : Bool) → Content
   Number : (number : ℤ) → Content
   Bytes : (text : List ℕ) → Content
 
--- names and what they stand for, in the order of the names' bytes
+-- Names and their values, in the order of the names' bytes.
 abbrev pub Entries : Type 0
 Entries = List (List ℕ × Content)
 
--- configuration data: its entries, and whether a change of them is refused
+-- Configuration data: its entries, and whether changes of them are refused.
 pub record Configuration : Type 0 where
   pub entries : Entries
   pub frozen : Bool
 
--- entries that may be changed
+-- Returns configuration data with these entries, which may be changed.
 abbrev pub unfrozen : Entries → Configuration
 unfrozen entries = record { entries = entries; frozen = false }
 
 abbrev pub names : Entries → List (List ℕ)
 names entries = map (λ entry. entry.0) entries
 
--- what this name stands for, if it stands for anything
+-- Returns the value of this name, if it has one.
 unfoldable pub value_of : Entries → List ℕ → Option Content
 value_of entries name = lookup (λ key. bytes_eq name key) entries
 
--- the entries with this content at this name, in the place of what stood there
+-- Returns the entries with this value of this name, in place of an earlier one.
 unfoldable pub with_value : Entries → List ℕ → Content → Entries
 with_value entries name content = insert_entry (slice_cmp nat_cmp) entries name content
 
--- the entries with each of these others set in turn
+-- Returns the entries with each of these others set in turn.
 unfoldable pub merged : Entries → Entries → Entries
 merged entries [] = entries
 merged entries (other ∷ others) = merged (with_value entries other.0 other.1) others
 
--- a text with a backslash before each quote
+-- Returns a text with a backslash before each quote.
 unfoldable pub escaped : List ℕ → List ℕ
 escaped [] = []
 escaped (b ∷ text) = if b == 34 then 92 ∷ 34 ∷ escaped text else b ∷ escaped text
 
--- a text in quotes, the quotes inside escaped
+-- Returns a text in quotes, the quotes inside escaped.
 unfoldable pub quoted : List ℕ → List ℕ
 quoted text = 34 ∷ escaped text ++ 34 ∷ []
 
--- a value as it is printed
+-- Returns a value in printed form.
 unfoldable pub printed : Content → List ℕ
 printed (Flag true) = codes "true"
 printed (Flag false) = codes "false"

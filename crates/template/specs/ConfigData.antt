@@ -1,4 +1,4 @@
--- What configuration data is seen as.
+-- Defines how contracts see configuration data.
 use Rattle.std.specs.Prelude.{List, map, String, string_bytes}
 use Rattle.std.specs.declared.alloc.Global.{Global}
 use Rattle.template.specs.declared.config.ConfigValue.{ConfigValue}

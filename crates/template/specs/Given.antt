@@ -1,4 +1,4 @@
--- What passing a template comes to for any tree, steady or not, by the bytes that the tree gave.
+-- Defines the result of passing a template for any tree, steady or not, by the bytes that the tree gave.
 use Rattle.std.specs.Prelude.{ℕ, ◌+◌, ◌<◌, ◌≤◌, true, List, [], length, Option, Result, Ok, Err, OnOk, unwrap_or}
 use Rattle.ports.specs.Outputs.{OutputState, Sends}
 use Rattle.ports.specs.Reading.{Given, GivenWhole}
@@ -7,8 +7,9 @@ use Rattle.template.specs.declared.stop.PassStop.{PassStop}
 use Rattle.template.specs.declared.stop.PassStop.TheVariants.{Template, Limit, Device}
 use Rattle.template.specs.Template.{Agrees, template_fault, template_steps}
 
--- The tree told a size, none where the template is absent, and then gave these bytes: none behind the size, which is 0 where none was told,
--- and all of the file, unless a line was refused before. What was written and answered is that of a template with just these bytes.
+-- The tree returned a size, or none if the template is absent, and then gave these bytes. None of them is after the size, which counts as 0
+-- if there is none. They are the whole file, unless a line was refused earlier. The output and the result are those of a template with
+-- exactly these bytes.
 pub record Passed {T : Type 0} (tells : T → List ℕ → Option ℕ → T → Type 0) (gives : T → List ℕ → ℕ → ℕ → List ℕ → T → Type 0)
     (entries : Entries)
     (path : List ℕ) (tree_old tree_new : T) (out_old out_new : OutputState) (result : Result (Unit {0}) PassStop) : Type 0 where
@@ -21,7 +22,7 @@ pub record Passed {T : Type 0} (tells : T → List ℕ → Option ℕ → T → 
   pub events : Sends out_old out_new (template_steps entries path bytes) true
   pub fault : Agrees result (template_fault bytes)
 
--- this, where no device failed
+-- Holds if A holds, or if a device failed.
 abbrev pub UnlessFailed : Result (Unit {0}) PassStop → Type 0 → Type 0
 UnlessFailed (Ok x) A = A
 UnlessFailed (Err (Template line)) A = A
@@ -30,7 +31,7 @@ UnlessFailed (Err Device) A = Unit {0}
 
 -- ---- for the contracts of private functions
 
--- one call gave these bytes of a file from a place on, none of them behind the size; or the place is the size, and there was no call
+-- One call gave these bytes of a file from a position on, none of them after the size, or the position is the size, and there was no call.
 pub data Gave {T : Type 0} (gives : T → List ℕ → ℕ → ℕ → List ℕ → T → Type 0) (path : List ℕ) (size at : ℕ) (old : T)
     : List ℕ → T → Type 0 where
   called : (piece : List ℕ) (room : ℕ) (new : T) → 0 < room → at + room ≤ size → gives old path at room piece new → length piece ≤ room

@@ -1,4 +1,4 @@
--- What one line of a template writes.
+-- Defines what one line of a template writes.
 use Rattle.std.specs.Prelude.{ℕ, zero, suc, ◌+◌, ◌-◌, ◌/◌, ◌%◌, Bool, true, false, ◌||◌, ◌&&◌, ◌==◌, nat_eq, nat_lt, nat_le, List, [], ◌∷◌}
 use Rattle.std.specs.Prelude.{◌++◌, length, take, drop, replicate, slice_index, Option, Some, None, codes, decimal, if◌then◌else◌}
 use Rattle.std.specs.List.{starts_with, prefix_len, list_all}
@@ -7,40 +7,41 @@ use Rattle.support.specs.Limits.{line_bytes}
 use Rattle.ports.specs.Outputs.{Step, puts, logs}
 use Rattle.template.specs.Config.{Content, Flag, Number, Bytes, Entries, value_of, printed}
 
--- a byte of a name: a letter, a digit, '-' or '_'
+-- Returns whether the byte is valid in a name: a letter, a digit, '-' or '_'.
 abbrev pub is_name_byte : ℕ → Bool
 is_name_byte b = (nat_le 97 b && nat_le b 122) || (nat_le 65 b && nat_le b 90) || (nat_le 48 b && nat_le b 57) || b == 45 || b == 95
 
--- a name has at least one byte, and only bytes of a name
+-- Returns whether the name has at least one byte, and only valid ones.
 unfoldable pub is_name : List ℕ → Bool
 is_name name = nat_lt 0 (length name) && list_all is_name_byte name
 
--- names in a line of text
+-- ---- names in a line of text
 
--- how long the name is that begins here and ends with an '@', 0 where none does
+-- Returns the length of the name that begins here and ends before an '@', or 0 if there is none.
 unfoldable pub name_length : List ℕ → ℕ
 name_length bytes = let n = prefix_len is_name_byte bytes in if slice_index bytes n == 64 then n else 0
 
--- the end of the log's line for a name that stands for nothing
+-- Returns the end of the log's line for a name without a value.
 unfoldable pub no_value : List ℕ → List Step
 no_value name = logs (codes ": no value for ") ++ (logs name ++ logs (codes "\n"))
 
--- the log's line for a name that stands for nothing
+-- Returns the log's line for a name without a value.
 unfoldable pub warning : List ℕ → ℕ → List ℕ → List Step
 warning path number name =
     logs (codes "WARNING: ") ++ (logs path ++ (logs (codes ":") ++ (logs (decimal number) ++ no_value name)))
 
+-- Returns the steps of a value, or those of a warning if there is none.
 unfoldable pub value_or_warning : Option Content → List Step → List Step
 value_or_warning (Some content) warning = puts (printed content)
 value_or_warning None warning = warning
 
--- what stands in the place of a name between two '@': its value, or nothing and a warning in the log
+-- Returns what replaces a name between two '@': its value, or nothing and a warning in the log.
 unfoldable pub in_place : Entries → List ℕ → ℕ → List ℕ → List Step
 in_place entries path number name = value_or_warning (value_of entries name) (warning path number name)
 
--- A line with its names replaced. The first `skip` bytes are those of a name that has been replaced, and before the others
--- stand this many backslashes. Directly before an '@' two backslashes are one; where one is left over it goes, and
--- the '@' begins no name. Elsewhere each backslash stands for itself.
+-- Returns a line with its names replaced. The first `skip` bytes are those of a name that has been replaced, and this many backslashes
+-- precede the others. Directly before an '@', two backslashes are one. If one is left over, it is dropped, and the '@' begins no name.
+-- Elsewhere each backslash is itself.
 unfoldable pub replaced : Entries → List ℕ → ℕ → ℕ → ℕ → List ℕ → List Step
 replaced entries path number skip slashes [] = puts (replicate slashes 92)
 replaced entries path number (suc skip) slashes (b ∷ bytes) = replaced entries path number skip slashes bytes
@@ -52,82 +53,84 @@ replaced entries path number zero slashes (b ∷ bytes) =
     else puts (64 ∷ []) ++ replaced entries path number 0 0 bytes)
     else puts (replicate slashes 92 ++ b ∷ []) ++ replaced entries path number 0 0 bytes)
 
--- a line by its words
+-- ---- a line by its words
 
--- a space, a tab or a carriage return
+-- Returns whether the byte is a space, a tab or a carriage return.
 abbrev pub is_blank : ℕ → Bool
 is_blank b = b == 32 || b == 9 || b == 13
 
--- a word that ends here, if it has any bytes, before the words behind it
+-- Puts a word that ends here before the words after it, if it has any bytes.
 unfoldable pub ended : List ℕ → List (List ℕ) → List (List ℕ)
 ended [] words = words
 ended (b ∷ word) words = (b ∷ word) ∷ words
 
--- the words of some bytes, where these bytes of the first stand before them
+-- Returns the words of some bytes, given the bytes so far of the first word.
 unfoldable pub words_after : List ℕ → List ℕ → List (List ℕ)
 words_after word [] = ended word []
 words_after word (b ∷ bytes) = if is_blank b then ended word (words_after [] bytes) else words_after (word ++ b ∷ []) bytes
 
--- the words of some bytes, which blanks divide
+-- Returns the words of some bytes, which blanks separate.
 abbrev pub words : List ℕ → List (List ℕ)
 words bytes = words_after [] bytes
 
--- how many bytes stand before a line's end: a newline, with one carriage return before it
+-- Returns how many bytes precede a line's end: a newline, with one optional carriage return before it.
 unfoldable pub body_length : List ℕ → ℕ
 body_length bytes =
     let n = length bytes in
     if nat_lt 0 n && (slice_index bytes (n - 1) == 10) then
     (if nat_lt 1 n && (slice_index bytes (n - 2) == 13) then n - 2 else n - 1) else n
 
--- whether a line defines a name, and which
+-- Whether a line defines a name, and which.
 pub data Reading : Type 0 where
   Plain : Reading
   Defines : (name : List ℕ) → Reading
   Malformed : Reading
   TooLong : Reading
 
--- the word itself and one name
+-- Returns the name that follows the word, if the word is `#mesondefine` and exactly one name follows it.
 unfoldable pub defined_in : List ℕ → List (List ℕ) → Reading
 defined_in word [] = Malformed
 defined_in word (name ∷ []) = if bytes_eq word (codes "#mesondefine") && is_name name then Defines name else Malformed
 defined_in word (name ∷ next ∷ others) = Malformed
 
--- a line of these words defines where the first begins with `#mesondefine`
+-- Returns the reading of a line of these words. It defines a name if the first word begins with `#mesondefine`.
 unfoldable pub reading_of : List (List ℕ) → Reading
 reading_of [] = Plain
 reading_of (word ∷ others) = if starts_with nat_eq word (codes "#mesondefine") then defined_in word others else Plain
 
--- how a line is read, its end counted for its length
+-- Returns how a line is read. Its end counts for its length.
 unfoldable pub reading : List ℕ → Reading
 reading bytes = if nat_lt line_bytes (length bytes) then TooLong else reading_of (words (take (body_length bytes) bytes))
 
--- a line that defines a name with a content, without its end
+-- Returns the line that defines a name with a value, without its end.
 unfoldable pub definition : List ℕ → Content → List Step
 definition name (Flag true) = puts (codes "#define ") ++ puts name
 definition name (Flag false) = puts (codes "#undef ") ++ puts name
 definition name (Number z) = puts (codes "#define ") ++ (puts name ++ (puts (codes " ") ++ puts (printed (Number z))))
 definition name (Bytes text) = puts (codes "#define ") ++ (puts name ++ (puts (codes " ") ++ puts (printed (Bytes text))))
 
--- the same for a name that may stand for nothing
+-- Returns the same for a name that may have no value.
 unfoldable pub definition_or_comment : List ℕ → Option Content → List Step
 definition_or_comment name None = puts (codes "/* undef ") ++ (puts name ++ puts (codes " */"))
 definition_or_comment name (Some content) = definition name content
 
--- why a line is refused: E19 or E22
+-- Why a line is refused: E19 or E22.
 pub data Refusal : Type 0 where
   BadDefine : Refusal
   LongLine : Refusal
 
+-- Returns why a line with this reading is refused, if it is.
 unfoldable pub refusal : Reading → Option Refusal
 refusal Plain = None
 refusal (Defines name) = None
 refusal Malformed = Some BadDefine
 refusal TooLong = Some LongLine
 
+-- Returns why a line is refused, if it is.
 unfoldable pub line_fault : List ℕ → Option Refusal
 line_fault bytes = refusal (reading bytes)
 
--- what a line writes that is read so: nothing where it is refused
+-- Returns what a line with this reading writes: nothing if it is refused.
 unfoldable pub steps_of : Entries → List ℕ → ℕ → List ℕ → Reading → List Step
 steps_of entries path number bytes Plain = replaced entries path number 0 0 bytes
 steps_of entries path number bytes (Defines name) =
@@ -135,6 +138,6 @@ steps_of entries path number bytes (Defines name) =
 steps_of entries path number bytes Malformed = []
 steps_of entries path number bytes TooLong = []
 
--- what a line writes
+-- Returns what a line writes.
 unfoldable pub line_steps : Entries → List ℕ → ℕ → List ℕ → List Step
 line_steps entries path number bytes = steps_of entries path number bytes (reading bytes)

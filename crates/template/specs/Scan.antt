@@ -1,4 +1,4 @@
--- What the code looks for in a line, for the contracts of private functions.
+-- Defines what the code searches in a line, for the contracts of private functions.
 use Rattle.std.specs.Prelude.{◌≡◌, ℕ, ◌+◌, ◌<◌, ◌≤◌, Bool, not, ◌==◌, nat_lt, List, [], ◌∷◌, ◌++◌, length, take, drop, if◌then◌else◌}
 use Rattle.std.specs.List.{AllPass}
 use Rattle.ports.specs.Outputs.{Step, puts}
@@ -8,24 +8,24 @@ use Rattle.template.specs.Line.{ended, in_place, is_blank, is_name_byte, replace
 abbrev pub is_word_byte : ℕ → Bool
 is_word_byte b = not (is_blank b)
 
--- some bytes begin with this word behind blanks, with this behind it; the word is empty where they have none
+-- The bytes begin with this word after blanks, followed by `rest`. The word is empty if they have none.
 pub record IsFirstWord (bytes word rest : List ℕ) : Type 0 where
   pub cut : words bytes ≡ ended word (words rest)
   pub none : length word ≡ 0 → words bytes ≡ []
 
--- how many backslashes stand at the end of this many and then these bytes
+-- Returns the number of backslashes at the end of this many and these bytes.
 unfoldable pub slashes_at : ℕ → List ℕ → ℕ
 slashes_at slashes [] = slashes
 slashes_at slashes (b ∷ bytes) = if b == 92 then slashes_at (slashes + 1) bytes else slashes_at 0 bytes
 
--- what an '@' writes with the bytes behind it, where a name of this length stands between it and the next '@', or none
+-- Returns what an '@' and the bytes after it write, given the length of the name between it and the next '@', or 0.
 unfoldable pub sign_steps : Entries → List ℕ → ℕ → ℕ → List ℕ → List Step
 sign_steps entries path number name bytes =
     if nat_lt 0 name
     then in_place entries path number (take name bytes) ++ replaced entries path number 0 0 (drop (name + 1) bytes)
     else puts (64 ∷ []) ++ replaced entries path number 0 0 bytes
 
--- the first '@' of some bytes: what is written before it, where it stands, and how long the name behind it is
+-- The first '@' of some bytes: what is written before it, its position, and the length of the name after it.
 pub record IsSign (rest : List ℕ) (text at name : ℕ) : Type 0 where
   pub text_in_range : text ≤ at
   pub at_in_range : at < length rest
@@ -34,6 +34,6 @@ pub record IsSign (rest : List ℕ) (text at name : ℕ) : Type 0 where
   pub steps : (entries : Entries) (path : List ℕ) (number : ℕ) →
       replaced entries path number 0 0 rest ≡ puts (take text rest) ++ sign_steps entries path number name (drop (at + 1) rest)
 
--- bytes without '@' are written as they stand
+-- Bytes without an '@' are written unchanged.
 pub record IsPlain (rest : List ℕ) : Type 0 where
   pub steps : (entries : Entries) (path : List ℕ) (number : ℕ) → replaced entries path number 0 0 rest ≡ puts rest

@@ -1,4 +1,4 @@
--- What is kept so that changes can be taken back, for the contracts of private functions.
+-- Defines what is kept to revert changes, for the contracts of private functions.
 use Rattle.std.specs.Prelude.{◌≡◌, ℕ, List, [], ◌∷◌, map, Option, option_map, String, string_bytes}
 use Rattle.std.specs.declared.alloc.Global.{Global}
 use Rattle.std.specs.List.Sorted.{IsStrictlySortedBy}
@@ -8,14 +8,14 @@ use Rattle.template.specs.Config.{Content, Entries, names, value_of, with_value}
 use Rattle.template.specs.ConfigData.{content_of}
 use Rattle.template.specs.declared.config.ConfigValue.{ConfigValue}
 
--- this name was given a content, and stood for this before
+-- This name was set, and this was its earlier value.
 pub record IsSet (name : List ℕ) (before : Option Content) (old new : Entries) : Type 0 where
   pub content : Content
   pub is : new ≡ with_value old name content
   pub was : value_of old name ≡ before
   pub ascending : IsStrictlySortedBy (slice_cmp nat_cmp) (names old)
 
--- these names were set in turn
+-- Holds if these names were set in turn.
 abbrev pub AreSet : List (List ℕ × Option Content) → Entries → Entries → Type 0
 AreSet [] old new = new ≡ old
 AreSet (change ∷ changes) old new = (mid : Entries) × (IsSet change.0 change.1 old mid × AreSet changes mid new)

@@ -16,7 +16,7 @@ use std::collections::BTreeMap;
 use std::marker::Model;
 use thiserror::Error;
 
-/// What a name of configuration data stands for.
+/// Holds the value of a name in configuration data.
 #[derive(Drop)]
 pub enum ConfigValue {
     Boolean(bool),
@@ -39,10 +39,10 @@ impl Clone for ConfigValue {
     }
 }
 
-/// Why configuration data was not changed.
+/// Says why configuration data was not changed.
 #[derive(Clone, Copy, Debug, Error)]
 pub enum SetStop {
-    /// E20: the data is frozen, since an output was made with it.
+    /// E20: the data is frozen, because an output was made with it.
     #[error("frozen configuration data")]
     Frozen,
     #[error("out of memory")]
@@ -71,8 +71,8 @@ impl From<AllocError> for SetStop {
     }
 }
 
-/// Values by their names, in the order of the names' bytes: the object that `configuration_data()` of the Meson
-/// Reference manual gives. Its calls take memory from the allocator that it was made with.
+/// Maps names to values, in the order of the names' bytes. It is the object that `configuration_data()` returns (Meson reference manual).
+/// Its calls allocate from the allocator with which it was made.
 #[derive(Drop)]
 pub struct ConfigData {
     alloc: Global,
@@ -91,7 +91,7 @@ impl Model for ConfigData {
 }
 
 impl ConfigData {
-    /// No values.
+    /// Returns configuration data without values.
     pub fn new(alloc: Global) -> ConfigData
         ensures { result ≡ unfrozen [] }
     {
@@ -102,7 +102,7 @@ impl ConfigData {
         }
     }
 
-    /// The same values, not frozen.
+    /// Returns a copy that is not frozen.
     pub fn copy(&self) -> Result<ConfigData, AllocError>
         ensures { IfOk result (λ copy. copy ≡ unfrozen self.now.entries) }
     {
@@ -113,14 +113,14 @@ impl ConfigData {
         })
     }
 
-    /// What this name stands for.
+    /// Returns the value of this name, if it has one.
     pub fn get(&self, name: &str) -> Option<&ConfigValue>
         ensures { option_map (λ value. content_of value.now) result ≡ value_of self.now.entries name.now }
     {
         self.entries.get(name)
     }
 
-    /// The same for a name of which each byte may stand in a name, and which therefore is text.
+    /// Returns the value of a name whose bytes are all valid in a name, so that the name is text.
     pub(crate) fn value_at(&self, name: &[u8]) -> Option<&ConfigValue>
         requires { AllPass is_name_byte name.now }
         ensures { option_map (λ value. content_of value.now) result ≡ value_of self.now.entries name.now }
@@ -131,14 +131,14 @@ impl ConfigData {
         }
     }
 
-    /// Whether this name stands for anything.
+    /// Returns whether this name has a value.
     pub fn has(&self, name: &str) -> bool
         ensures { result ≡ is_some (value_of self.now.entries name.now) }
     {
         self.entries.contains_key(name)
     }
 
-    /// The names, by the order of their bytes.
+    /// Returns the names, in the order of their bytes.
     pub fn keys(&self) -> Result<Vec<&str>, AllocError>
         ensures names { IfOk result (λ keys. map (λ key. key.now) keys.items ≡ names self.now.entries) }
         ensures ascending { IsStrictlySortedBy (slice_cmp nat_cmp) (names self.now.entries) }
@@ -150,14 +150,14 @@ impl ConfigData {
         Ok(keys)
     }
 
-    /// Lets no call change the values from now on.
+    /// Freezes the data: later calls can't change the values.
     pub fn freeze(&mut self)
         ensures { self.new ≡ record self.old { frozen = true } }
     {
         self.frozen = true;
     }
 
-    /// Gives this name a value.
+    /// Sets the value of this name. Fails with [`SetStop::Frozen`] if the data is frozen, and changes nothing then.
     pub fn set(&mut self, name: &str, value: ConfigValue) -> Result<(), SetStop>
         ensures ok { OnOk result (self.new ≡ record self.old { entries = with_value self.old.entries name.now (content_of value) }) }
         ensures found { OnOk result ((q : List ℕ) → value_of self.new.entries q
@@ -173,7 +173,7 @@ impl ConfigData {
         Ok(())
     }
 
-    /// Gives this name the value 1 for true and 0 for false.
+    /// Sets the value of this name to 1 for true and 0 for false.
     pub fn set10(&mut self, name: &str, boolean: bool) -> Result<(), SetStop>
         ensures ok { let content = Number (pos (if boolean then 1 else 0)) in
             OnOk result (self.new ≡ record self.old { entries = with_value self.old.entries name.now content }) }
@@ -183,7 +183,7 @@ impl ConfigData {
         self.set(name, ConfigValue::Integer(if boolean { 1 } else { 0 }))
     }
 
-    /// Gives this name the text in quotes, with a backslash before each quote inside.
+    /// Sets the value of this name to the text in quotes, with a backslash before each quote inside.
     pub fn set_quoted(&mut self, name: &str, text: &str) -> Result<(), SetStop>
         ensures ok { let content = Bytes (quoted text.now) in
             OnOk result (self.new ≡ record self.old { entries = with_value self.old.entries name.now content }) }
@@ -197,8 +197,8 @@ impl ConfigData {
         self.set(name, ConfigValue::Text(value))
     }
 
-    /// Gives each name of the other data the value that it has there. Takes time and memory for what the other data has, and changes
-    /// nothing where memory runs out.
+    /// Sets each name of the other data to its value there. Takes time and memory for the other data, and changes nothing if memory runs
+    /// out.
     pub fn merge_from(&mut self, other: &ConfigData) -> Result<(), SetStop>
         ensures ok { OnOk result (self.new ≡ record self.old { entries = merged self.old.entries other.now.entries }) }
         ensures found { OnOk result ((q : List ℕ) → value_of self.new.entries q
@@ -218,7 +218,7 @@ impl ConfigData {
     }
 }
 
-// Sets a value, and gives what stood in its place.
+// Sets a value, and returns the earlier one.
 fn put(
     entries: &mut BTreeMap<String, ConfigValue>,
     key: String,
@@ -234,7 +234,7 @@ fn put(
     Ok(entries.insert(key, value)?)
 }
 
-// The text in quotes, with a backslash before each quote inside.
+// Returns the text in quotes, with a backslash before each quote inside.
 #[tactic(auto, unfolding(crate::specs::Config::quoted, crate::specs::Config::escaped))]
 fn make_quoted(alloc: Global, text: &str) -> Result<String, AllocError>
     ensures { IfOk result (λ made. string_bytes made ≡ quoted text.now) }
@@ -251,7 +251,7 @@ fn make_quoted(alloc: Global, text: &str) -> Result<String, AllocError>
     Ok(made)
 }
 
-// Sets each of the others in turn, and notes what each name stood for before.
+// Sets each of the other values in turn, and notes the earlier value of each name.
 #[tactic(auto, unfolding(crate::specs::Config::merged))]
 fn merge(
     entries: &mut BTreeMap<String, ConfigValue>,
@@ -275,7 +275,7 @@ fn merge(
     Ok(())
 }
 
-// Gives the name what it stood for before. It takes no memory, since the name is there.
+// Sets the earlier value of the name again. It does not allocate, because the name is there.
 fn restore(entries: &mut BTreeMap<String, ConfigValue>, name: String, before: Option<ConfigValue>)
     ensures { (old : Entries) → IsSet (string_bytes name) (option_map content_of before) old (entries_of entries.old.entries)
         → entries_of entries.new.entries ≡ old }
@@ -290,7 +290,7 @@ fn restore(entries: &mut BTreeMap<String, ConfigValue>, name: String, before: Op
     }
 }
 
-// Takes the changes back, the last one first.
+// Reverts the changes, the last one first.
 fn undo(
     entries: &mut BTreeMap<String, ConfigValue>,
     mut changes: Vec<(String, Option<ConfigValue>)>,

@@ -19,8 +19,10 @@ fn put_line<O: Outputs>(name: &str, value: &ConfigValue, out: &mut O) -> Result<
     put_all(out, b"\n")
 }
 
-/// Writes the header that `configure_file` of the Meson Reference manual makes without a template: a head, and a line
-/// `#define` or `#undef` for each name, by the order of their bytes. Takes no memory. Fails where a device does.
+/// Writes the header that `configure_file` makes without a template (Meson reference manual).
+///
+/// It has a head, and a line `#define` or `#undef` for each name, in the order of the names' bytes. It does not allocate, and fails only if
+/// a device does.
 pub fn header<O: Outputs>(config: &ConfigData, out: &mut O) -> Result<(), DeviceFault>
     requires { IsOpen (O.seen out.old) }
     ensures { Writes (O.seen out.old) (header_steps config.now.entries) (ended result) (O.seen out.new) }

@@ -1,14 +1,14 @@
-//! Configuration data, and templates that are written with its values: what `configuration_data` and `configure_file` of
-//! the Meson Reference manual are made of.
+//! Holds configuration data, and writes templates with its values: the parts of `configuration_data` and `configure_file` of the Meson
+//! reference manual.
 //!
 //! # Decisions
 //!
-//! **A merge is taken back where memory runs out.** `merge_from` sets the other data's values one by one, which costs what the other data
-//! has, and notes for each name what it stood for. An ordered map can't take its memory beforehand, so where memory runs out in the middle
-//! the changes are taken back, the last one first; that takes no memory. That they bring back the very entries is proved of `undo`.
+//! **A merge is reverted if memory runs out.** `merge_from` sets the other data's values one by one, which takes time for the other data
+//! only, and notes the earlier value of each name. An ordered map can't allocate its memory beforehand. If memory runs out in the middle,
+//! the changes are reverted, the last one first, which does not allocate. `undo` is proved to restore the same entries.
 //!
-//! **A line is searched again after each read.** [`pass`] looks for the line's end in all that the line holds after each read. With reads
-//! that fill the buffer that is linear; a device that gives one byte a call makes it the square of a line's length, which is bounded.
+//! **A line is searched again after each read.** After each read, [`pass`] searches the whole line for its end. If reads fill the buffer,
+//! that is linear. For a device that gives one byte a call, it takes the square of the length of a line, which is bounded.
 #![tactic(auto)]
 
 mod config;

@@ -14,14 +14,14 @@ use itoa::Buffer;
 use memchr::memchr;
 use ports::{DeviceFault, Outputs, log_all, put_all};
 
-/// Whether a byte can stand in a name.
+/// Returns whether a byte is valid in a name.
 fn is_name_byte(b: u8) -> bool
     ensures { result ≡ is_name_byte b }
 {
     b.is_ascii_alphanumeric() || b == b'-' || b == b'_'
 }
 
-/// How many bytes from the front on can stand in a name.
+/// Returns how many bytes from the front on are valid in a name.
 fn name_prefix(bytes: &[u8]) -> usize
     ensures same { result ≡ prefix_len is_name_byte bytes.now }
     ensures within { result ≤ length bytes.now }
@@ -34,7 +34,7 @@ fn name_prefix(bytes: &[u8]) -> usize
     bytes.len()
 }
 
-/// How long the name is that begins here and ends with an `@`, 0 where none does.
+/// Returns the length of the name that begins here and ends before an `@`, or 0 if there is none.
 #[tactic(auto, unfolding(crate::specs::Line::name_length))]
 fn name_length(bytes: &[u8]) -> usize
     ensures { result ≡ name_length bytes.now }
@@ -47,7 +47,7 @@ fn name_length(bytes: &[u8]) -> usize
     }
 }
 
-/// How many backslashes stand at the end.
+/// Returns the number of backslashes at the end.
 fn count_slashes(bytes: &[u8]) -> usize
     ensures { result ≡ slashes_at 0 bytes.now }
 {
@@ -62,13 +62,13 @@ fn count_slashes(bytes: &[u8]) -> usize
     slashes
 }
 
-/// Where the first `@` of some bytes stands.
+/// Locates the first `@` of some bytes.
 #[derive(Clone, Copy)]
 struct Sign {
     /// How many bytes before it are written.
     text: usize,
     at: usize,
-    /// How long the name is that it begins, 0 where it begins none.
+    /// The length of the name that it begins, or 0 if it begins none.
     name: usize,
 }
 
@@ -89,7 +89,7 @@ fn find_sign(rest: &[u8]) -> Option<Sign>
     Some(Sign { text, at, name })
 }
 
-/// Puts the line with its names replaced.
+/// Writes the line with its names replaced.
 fn put_replaced<O: Outputs>(
     config: &ConfigData,
     path: &str,
@@ -114,7 +114,7 @@ fn put_replaced<O: Outputs>(
     put_all(out, &line[from..])
 }
 
-/// Puts the value of a name, or logs that it has none.
+/// Writes the value of a name, or logs that it has none.
 #[tactic(auto, unfolding(crate::specs::Line::in_place, crate::specs::Line::value_or_warning))]
 fn put_in_place<O: Outputs>(
     config: &ConfigData,
@@ -133,7 +133,7 @@ fn put_in_place<O: Outputs>(
     }
 }
 
-/// Puts a value as it is printed.
+/// Writes a value in printed form.
 #[tactic(auto, using(ports::proofs::Sending::sending), unfolding(crate::specs::Config::printed))]
 fn put_value<O: Outputs>(value: &ConfigValue, out: &mut O) -> Result<(), DeviceFault>
     requires { IsOpen (O.seen out.old) }
@@ -147,7 +147,7 @@ fn put_value<O: Outputs>(value: &ConfigValue, out: &mut O) -> Result<(), DeviceF
     }
 }
 
-// Logs the end of the line that says so.
+// Logs the end of the line that says that a name has no value.
 #[tactic(auto, using(ports::proofs::Sending::sending), unfolding(crate::specs::Line::no_value))]
 fn log_no_value<O: Outputs>(name: &[u8], out: &mut O) -> Result<(), DeviceFault>
     requires { HasRoom (O.seen out.old).failures }
@@ -186,7 +186,7 @@ fn log_warning<O: Outputs>(
     log_numbered(number, name, out)
 }
 
-/// How many bytes stand before a line's end.
+/// Returns how many bytes precede a line's end.
 #[tactic(auto, unfolding(crate::specs::Line::body_length))]
 fn body_length(line: &[u8]) -> usize
     ensures same { result ≡ body_length line.now }
@@ -204,7 +204,7 @@ fn body_length(line: &[u8]) -> usize
     }
 }
 
-/// How many blanks stand in front.
+/// Returns how many blanks are at the front.
 fn blank_prefix(bytes: &[u8]) -> usize
     ensures same { result ≡ prefix_len is_blank bytes.now }
     ensures within { result ≤ length bytes.now }
@@ -217,7 +217,7 @@ fn blank_prefix(bytes: &[u8]) -> usize
     bytes.len()
 }
 
-/// How many bytes from the front on are no blanks.
+/// Returns how many bytes from the front on are no blanks.
 fn word_prefix(bytes: &[u8]) -> usize
     ensures same { result ≡ prefix_len is_word_byte bytes.now }
     ensures within { result ≤ length bytes.now }
@@ -230,14 +230,14 @@ fn word_prefix(bytes: &[u8]) -> usize
     bytes.len()
 }
 
-/// The first word of some bytes, empty where there is none, and what stands behind it.
+/// Holds the first word of some bytes, which is empty if there is none, and the bytes after it.
 #[derive(Clone, Copy)]
 struct FirstWord<'a> {
     word: &'a [u8],
     rest: &'a [u8],
 }
 
-/// Cuts the first word off.
+/// Cuts off the first word.
 fn first_word(bytes: &[u8]) -> FirstWord<'_>
     ensures { IsFirstWord bytes.now result.word.now result.rest.now }
 {
@@ -249,14 +249,14 @@ fn first_word(bytes: &[u8]) -> FirstWord<'_>
     }
 }
 
-/// Whether each of these bytes can stand in a name.
+/// Returns whether each of these bytes is valid in a name.
 fn are_name_bytes(bytes: &[u8]) -> bool
     ensures { result ≡ list_all is_name_byte bytes.now }
 {
     bytes.iter().all(|b| is_name_byte(*b))
 }
 
-/// Whether these bytes are a name.
+/// Returns whether these bytes are a name.
 #[tactic(auto, unfolding(crate::specs::Line::is_name))]
 fn is_name(bytes: &[u8]) -> bool
     ensures { result ≡ is_name bytes.now }
@@ -264,7 +264,7 @@ fn is_name(bytes: &[u8]) -> bool
     !bytes.is_empty() && are_name_bytes(bytes)
 }
 
-/// The one name behind the word `#mesondefine`, where nothing else stands in the line.
+/// Returns the name after the word `#mesondefine`, or `None` if the line has anything else.
 fn defined_name<'a>(word: &[u8], rest: &'a [u8]) -> Option<&'a [u8]>
     ensures read { let read = defined_in word.now (words rest.now) in
         MatchOption result (read ≡ Malformed) (λ name. read ≡ Defines name.now) }
@@ -279,7 +279,7 @@ fn defined_name<'a>(word: &[u8], rest: &'a [u8]) -> Option<&'a [u8]>
     }
 }
 
-/// Puts a word, and a name behind it.
+/// Writes a word, and a name after it.
 #[tactic(auto, using(ports::proofs::Sending::sending))]
 fn put_behind<O: Outputs>(word: &[u8], name: &[u8], out: &mut O) -> Result<(), DeviceFault>
     requires { IsOpen (O.seen out.old) }
@@ -289,7 +289,7 @@ fn put_behind<O: Outputs>(word: &[u8], name: &[u8], out: &mut O) -> Result<(), D
     put_all(out, name)
 }
 
-/// Puts the line of a key, without its end.
+/// Writes the line that defines a name, without its end.
 #[tactic(auto, using(ports::proofs::Sending::sending), unfolding(crate::specs::Line::definition_or_comment, crate::specs::Line::definition))]
 fn put_define<O: Outputs>(config: &ConfigData, name: &[u8], out: &mut O) -> Result<(), DeviceFault>
     requires out { IsOpen (O.seen out.old) }
@@ -306,7 +306,7 @@ fn put_define<O: Outputs>(config: &ConfigData, name: &[u8], out: &mut O) -> Resu
     }
 }
 
-/// Puts the line of a key that has a value, without its end.
+/// Writes the line that defines a name with a value, without its end.
 #[tactic(auto, using(ports::proofs::Sending::sending), unfolding(crate::specs::Line::definition))]
 pub(crate) fn put_key<O: Outputs>(
     name: &[u8],

@@ -4,7 +4,7 @@ ghost use Rattle.std.specs.Prelude.{◌≡◌};
 use ports::DeviceFault;
 use thiserror::Error;
 
-/// Why a template was given up.
+/// Says why a template was given up.
 #[derive(Clone, Copy, Debug, PartialEq, Eq, Error)]
 pub enum PassStop {
     /// E19: the line with this number begins with `#mesondefine` and does not define a name.

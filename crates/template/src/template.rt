@@ -12,10 +12,10 @@ use memchr::memchr;
 use ports::{DeviceFault, Outputs, Tree};
 use support::limits::LINE_BYTES;
 
-/// How many bytes a line of a template may have, its end counted.
+/// The maximum number of bytes of a line of a template, with its end.
 pub const LINE_LIMIT: usize = LINE_BYTES;
 
-/// Moves the bytes from `start` to `end` to the front, and gives their number.
+/// Moves the bytes from `start` to `end` to the front, and returns their number.
 fn keep_rest(line: &mut [u8], start: usize, end: usize) -> usize
     requires start { start ≤ end }
     requires end { end ≤ length line.old }
@@ -26,7 +26,7 @@ fn keep_rest(line: &mut [u8], start: usize, end: usize) -> usize
     end - start
 }
 
-/// How many bytes to ask for, where so many are left and there is so much room.
+/// Returns how many bytes to read, given how many are left and how much room there is.
 fn ask_for(left: u64, room: usize) -> usize
     ensures left { result ≤ left }
     ensures room { result ≤ room }
@@ -39,7 +39,7 @@ fn ask_for(left: u64, room: usize) -> usize
     }
 }
 
-/// Reads some bytes of the file behind the first `filled` bytes of the line.
+/// Reads bytes of the file after the first `filled` bytes of the line, and returns how many.
 fn fill<T: Tree>(
     tree: &mut T,
     path: &str,
@@ -70,7 +70,7 @@ fn fill<T: Tree>(
     tree.read_at(path, at, &mut line[filled..filled + want])
 }
 
-/// Whether the file has a byte at this place. Its end may stand before the size that was told.
+/// Returns whether the file has a byte at this position. Its end may come before the size that the tree returned.
 fn has_more<T: Tree>(tree: &mut T, path: &str, at: u64, size: u64) -> Result<bool, DeviceFault>
     requires { HasRoom (T.seen tree.old).failures }
     ensures more { let file = bytes_at (T.seen tree.old).files path.now in IsTrue (T.seen tree.old).steady
@@ -87,14 +87,14 @@ fn has_more<T: Tree>(tree: &mut T, path: &str, at: u64, size: u64) -> Result<boo
     Ok(count > 0)
 }
 
-/// Writes the template at this path to the open output, with its names replaced by the values of `config`, as
-/// `configure_file` of the Meson Reference manual does (page "Configuration"). An absent template is empty.
+/// Writes the template at this path to the open output, with its names replaced by the values of `config`.
 ///
-/// Works in the `line` that it is lent, of [`LINE_LIMIT`] bytes, and takes no memory. A line is written before the next one
-/// is read in full, so on E19 and E22 the lines before it are written. Ends whatever the tree answers.
+/// The rules are those of `configure_file` (Meson manual, page "Configuration"). An absent template is empty. `line` is a buffer of
+/// [`LINE_LIMIT`] bytes, and nothing is allocated. A line is written before the next one is read in full, so the lines before an E19 or E22
+/// are written. The call ends whatever the tree answers.
 ///
-/// Errors: a line that names no name behind `#mesondefine` is [`PassStop::Template`] (E19), a line longer than the limit
-/// [`PassStop::Limit`] (E22), each with its number from 1, and the fault of a device [`PassStop::Device`].
+/// Fails with [`PassStop::Template`] (E19) for a line with no name after `#mesondefine`, and with [`PassStop::Limit`] (E22) for a line
+/// longer than the limit. Both have the number of the line, from 1. Fails with [`PassStop::Device`] if a device fails.
 pub fn pass<T: Tree, O: Outputs>(
     tree: &mut T,
     path: &str,
@@ -110,7 +110,7 @@ pub fn pass<T: Tree, O: Outputs>(
     ensures fault { IsTrue (T.seen tree.old).steady
         → Agrees result (template_fault (bytes_at (T.seen tree.old).files path.now)) }
 
-    // Of any tree, steady or not: the template is the bytes that the tree gave.
+    // For any tree, steady or not: the template is the bytes that the tree gave.
     ensures given { UnlessFailed result (Passed T.tells_size T.gives config.now.entries path.now tree.old tree.new
         (O.seen out.old) (O.seen out.new) result) }
     ensures name { (O.seen out.new).open_name ≡ (O.seen out.old).open_name }
@@ -150,7 +150,7 @@ pub fn pass<T: Tree, O: Outputs>(
     }
 }
 
-/// Writes a line without end, if it has any bytes.
+/// Writes a line without an end, if it has any bytes.
 fn put_last<O: Outputs>(
     config: &ConfigData,
     path: &str,

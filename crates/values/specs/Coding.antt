@@ -1,4 +1,4 @@
--- Plain data written as the steps that build it on a stack, and read back: what makes it a value that a type can be seen as.
+-- Encodes plain data as the steps that build it on a stack, and decodes it again. A type whose view is plain data needs such an encoding.
 use Rattle.std.specs.Prelude.{◌≡◌, ℕ, ℤ, Bool, List, [], ◌∷◌, ◌++◌, refl, ◌⊎◌}
 use Rattle.std.proofs.Common.{append_assoc, ap, ◌∙◌, sym, inl, inr}
 use Rattle.std.proofs.lemmas.List.{append-nil}
@@ -8,6 +8,7 @@ use Rattle.values.specs.declared.object.Object.{Object}
 use Rattle.values.specs.contracts.object.Object.{the_row as object_row}
 use Rattle.values.specs.Data.{Data, boolean, integer, text, list, dictionary, object, Items, no_items, item, Entries, no_entries, entry}
 
+-- A step that builds plain data on a stack.
 pub data Step : Type 0 where
   make_boolean : Bool → Step
   make_integer : ℤ → Step
@@ -18,9 +19,11 @@ pub data Step : Type 0 where
   start_dictionary : Step
   put_entry : List ℕ → Step
 
+-- The type that encodes a step.
 abbrev pub Stored : Type 0
 Stored = ((Bool ⊎ ℤ) ⊎ (List ℕ ⊎ Object)) ⊎ ((Unit {0} ⊎ Unit {0}) ⊎ (Unit {0} ⊎ List ℕ))
 
+-- Encodes a step.
 abbrev pub stored : Step → Stored
 stored (make_boolean b) = inl (inl (inl b))
 stored (make_integer z) = inl (inl (inr z))
@@ -31,6 +34,7 @@ stored put_item = inr (inl (inr tt))
 stored start_dictionary = inr (inr (inl tt))
 stored (put_entry k) = inr (inr (inr k))
 
+-- Decodes a step.
 abbrev pub step_in : Stored → Step
 step_in (inl (inl (inl b))) = make_boolean b
 step_in (inl (inl (inr z))) = make_integer z
@@ -41,6 +45,7 @@ step_in (inr (inl (inr u))) = put_item
 step_in (inr (inr (inl u))) = start_dictionary
 step_in (inr (inr (inr k))) = put_entry k
 
+-- Proves that decoding an encoded step gives the step again.
 pub step_in_stored : (s : Step) → step_in (stored s) ≡ s
 step_in_stored (make_boolean b) = refl
 step_in_stored (make_integer z) = refl
@@ -51,10 +56,12 @@ step_in_stored put_item = refl
 step_in_stored start_dictionary = refl
 step_in_stored (put_entry k) = refl
 
+-- The encoding of steps.
 abbrev pub step_code : Coded Step
 step_code = code_by Stored (coded⊎ (coded⊎ (coded⊎ coded_bool coded_ℤ) (coded⊎ (coded_list coded_ℕ) object_row.coded))
     (coded⊎ (coded⊎ coded_unit coded_unit) (coded⊎ coded_unit (coded_list coded_ℕ)))) stored step_in step_in_stored
 
+-- Returns the steps that build a value, the items of a list, or the entries of a dictionary.
 abbrev mutual
   pub steps : Data → List Step
   steps (boolean b) = make_boolean b ∷ []
@@ -72,6 +79,7 @@ abbrev mutual
   entry_steps no_entries = start_dictionary ∷ []
   entry_steps (entry k d es) = steps d ++ (entry_steps es ++ put_entry k ∷ [])
 
+-- Returns the stack after one step.
 abbrev pub taken : Step → List Data → List Data
 taken (make_boolean b) s = boolean b ∷ s
 taken (make_integer z) s = integer z ∷ s
@@ -84,10 +92,12 @@ taken start_dictionary s = dictionary no_entries ∷ s
 taken (put_entry k) (dictionary es ∷ d ∷ s) = dictionary (entry k d es) ∷ s
 taken (put_entry k) s = s
 
+-- Returns the stack after some steps.
 abbrev pub built : List Step → List Data → List Data
 built [] s = s
 built (t ∷ ts) s = built ts (taken t s)
 
+-- Proves that the steps of a value push that value.
 mutual
   pub built-steps : (d : Data) (ts : List Step) (s : List Data) → built (steps d ++ ts) s ≡ built ts (d ∷ s)
   built-steps (boolean b) ts s = refl
@@ -113,22 +123,28 @@ mutual
       ∙ ap (λ x. built x (d ∷ s)) (append_assoc (entry_steps es) (put_entry k ∷ []) ts)
       ∙ built-entry_steps es (put_entry k ∷ ts) (d ∷ s)
 
+-- Returns the items of the list on top of the stack.
 abbrev pub items_of_top : List Data → Items
 items_of_top (list ds ∷ s) = ds
 items_of_top _ = no_items
 
+-- Returns the entries of the dictionary on top of the stack.
 abbrev pub entries_of_top : List Data → Entries
 entries_of_top (dictionary es ∷ s) = es
 entries_of_top _ = no_entries
 
+-- Proves that the steps of items build these items.
 pub items_back : (ds : Items) → items_of_top (built (item_steps ds) []) ≡ ds
 items_back ds = ap (λ x. items_of_top (built x [])) (sym (append-nil (item_steps ds))) ∙ ap items_of_top (built-item_steps ds [] [])
 
+-- Proves that the steps of entries build these entries.
 pub entries_back : (es : Entries) → entries_of_top (built (entry_steps es) []) ≡ es
 entries_back es = ap (λ x. entries_of_top (built x [])) (sym (append-nil (entry_steps es))) ∙ ap entries_of_top (built-entry_steps es [] [])
 
+-- The encoding of items.
 abbrev pub items_code : Coded Items
 items_code = code_by (List Step) (coded_list step_code) item_steps (λ ts. items_of_top (built ts [])) items_back
 
+-- The encoding of entries.
 abbrev pub entries_code : Coded Entries
 entries_code = code_by (List Step) (coded_list step_code) entry_steps (λ ts. entries_of_top (built ts [])) entries_back

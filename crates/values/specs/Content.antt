@@ -1,10 +1,10 @@
--- What is taken out of a value.
+-- Defines what `into_content` takes out of a value.
 use Rattle.values.specs.declared.value.Value.{Value}
 use Rattle.values.specs.declared.value.Value.TheVariants as value
 use Rattle.values.specs.declared.value.content.Content.{Content}
 use Rattle.values.specs.declared.value.content.Content.TheVariants as content
 
--- the text, the list or the dictionary that a value is
+-- Returns the text, the list or the dictionary of a value, and `Other` for a value of another type.
 abbrev pub content_of : Value → Content
 content_of (value.Boolean b) = content.Other
 content_of (value.Integer z) = content.Other

@@ -1,8 +1,8 @@
--- How many items a value has.
+-- Defines how many items a value has.
 use Rattle.std.specs.Prelude.{ℕ}
 use Rattle.values.specs.Data.{Data, boolean, integer, text, list, dictionary, object, count, entry_count}
 
--- the items of a list, the entries of a dictionary; anything else has none
+-- Returns the number of items of a list or of entries of a dictionary, and 0 for any other value.
 abbrev pub item_count : Data → ℕ
 item_count (boolean b) = 0
 item_count (integer z) = 0

@@ -1,8 +1,8 @@
--- Values in lists of any depth.
+-- Defines how lists of any depth are flattened.
 use Rattle.std.specs.Prelude.{ℕ, Bool, true, false, ◌&&◌, List, [], ◌∷◌, ◌++◌}
 use Rattle.values.specs.Data.{Data, boolean, integer, text, list, dictionary, object, Items, no_items, item}
 
--- a text, or a list of such
+-- Holds if a value is a text, or a list of such values of any depth.
 abbrev mutual
   pub is_texts : Data → Bool
   is_texts (text t) = true
@@ -16,12 +16,12 @@ abbrev mutual
   items_are_texts no_items = true
   items_are_texts (item d ds) = is_texts d && items_are_texts ds
 
--- each of some values is one
+-- Holds if each of some values is a text, or a list of texts of any depth.
 abbrev pub are_texts : List Data → Bool
 are_texts [] = true
 are_texts (d ∷ ds) = is_texts d && are_texts ds
 
--- the texts in a value, in order, with all lists opened
+-- Returns the texts in a value, in order, with all lists flattened; a value that is neither a text nor a list has none.
 abbrev mutual
   pub flat : Data → List (List ℕ)
   flat (text t) = t ∷ []
@@ -35,12 +35,12 @@ abbrev mutual
   flat_items no_items = []
   flat_items (item d ds) = flat d ++ flat_items ds
 
--- those in some values
+-- Returns the texts in some values, in order, with all lists flattened.
 abbrev pub flat_all : List Data → List (List ℕ)
 flat_all [] = []
 flat_all (d ∷ ds) = flat d ++ flat_all ds
 
--- a value that is no list, or those in a list, in order, with all lists opened
+-- Returns the items of a list, in order, with all nested lists flattened. Any other value is returned alone.
 abbrev mutual
   pub opened : Data → List Data
   opened (list ds) = opened_items ds
@@ -54,7 +54,7 @@ abbrev mutual
   opened_items no_items = []
   opened_items (item d ds) = opened d ++ opened_items ds
 
--- those of some values
+-- Returns some values, in order, with all lists flattened.
 abbrev pub opened_all : List Data → List Data
 opened_all [] = []
 opened_all (d ∷ ds) = opened d ++ opened_all ds

@@ -1,4 +1,4 @@
--- The test of equality by structure.
+-- Defines equality by structure.
 use Rattle.std.specs.Prelude.{ℕ, Bool, true, false, ◌&&◌, ◌==◌, List, [], ◌∷◌, bytes_eq, not}
 use Rattle.std.specs.Ordering.{int_eq}
 use Rattle.values.specs.declared.object.Object.{Object}
@@ -12,44 +12,52 @@ use Rattle.values.specs.declared.object.Source.TheVariants as TheSource
 use Rattle.values.specs.declared.object.Dependency.{Dependency}
 use Rattle.values.specs.Data.{Data, boolean, integer, text, list, dictionary, object, Items, no_items, item, Entries, no_entries, entry}
 
+-- Holds if two booleans are equal.
 abbrev pub same_boolean : Bool → Bool → Bool
 same_boolean true b = b
 same_boolean false b = not b
 
+-- Holds if two lists of texts are equal.
 abbrev pub same_texts : List (List ℕ) → List (List ℕ) → Bool
 same_texts [] [] = true
 same_texts (x ∷ xs) (y ∷ ys) = bytes_eq x y && same_texts xs ys
 same_texts _ _ = false
 
+-- Holds if two states of a feature are equal.
 abbrev pub same_feature : Feature → Feature → Bool
 same_feature TheFeature.Enabled TheFeature.Enabled = true
 same_feature TheFeature.Disabled TheFeature.Disabled = true
 same_feature TheFeature.Auto TheFeature.Auto = true
 same_feature _ _ = false
 
+-- Holds if two programs are equal.
 abbrev pub same_program : Program → Program → Bool
 same_program TheProgram.NotFound TheProgram.NotFound = true
 same_program (TheProgram.Words v) (TheProgram.Words w) = same_texts v w
 same_program (TheProgram.File p) (TheProgram.File q) = bytes_eq p q
 same_program _ _ = false
 
+-- Holds if two sources are equal.
 abbrev pub same_source : Source → Source → Bool
 same_source (TheSource.File p b) (TheSource.File q c) = bytes_eq p q && same_boolean b c
 same_source (TheSource.CustomTarget m i) (TheSource.CustomTarget n j) = (m == n) && (i == j)
 same_source (TheSource.CustomOutput m i) (TheSource.CustomOutput n j) = (m == n) && (i == j)
 same_source _ _ = false
 
+-- Holds if two lists of sources are equal.
 abbrev pub same_sources : List Source → List Source → Bool
 same_sources [] [] = true
 same_sources (x ∷ xs) (y ∷ ys) = same_source x y && same_sources xs ys
 same_sources _ _ = false
 
+-- Holds if two dependencies are equal in all fields.
 abbrev pub same_dependency : Dependency → Dependency → Bool
 same_dependency d e =
     same_boolean d.is_found e.is_found && (bytes_eq d.name e.name && (bytes_eq d.version e.version
     && (same_texts d.include_directories e.include_directories && (same_texts d.compile_args e.compile_args
     && (same_texts d.link_args e.link_args && (bytes_eq d.link_with e.link_with && same_sources d.sources e.sources))))))
 
+-- Holds if two objects have the same type and are equal.
 abbrev pub same_object : Object → Object → Bool
 same_object (TheObject.Feature f) (TheObject.Feature g) = same_feature f g
 same_object (TheObject.Dependency d) (TheObject.Dependency e) = same_dependency d e
@@ -66,7 +74,7 @@ same_object (TheObject.ConfigurationData m) (TheObject.ConfigurationData n) = m 
 same_object TheObject.Disabler TheObject.Disabler = true
 same_object _ _ = false
 
--- two values are the same where they are of one type and made of the same parts, entries in the same order
+-- Holds if two values have the same type and equal parts, with entries of dictionaries in the same order.
 abbrev mutual
   pub same : Data → Data → Bool
   same (boolean b) (boolean c) = same_boolean b c

@@ -1,8 +1,9 @@
--- What a value weighs, and how deep its lists and dictionaries stand in one another.
+-- Defines the weight of a value, and the depth of its nested lists and dictionaries.
 use Rattle.std.specs.Prelude.{ℕ, ◌+◌, max, length}
 use Rattle.values.specs.Data.{Data, boolean, integer, text, list, dictionary, object, Items, no_items, item, Entries, no_entries, entry}
 
--- a text weighs its bytes and one, a list or a dictionary one and its items and keys, anything else one
+-- Returns the weight of a value: a text weighs its bytes plus one, a list or a dictionary the sum of its items and keys plus one, anything
+-- else one.
 abbrev mutual
   pub weight : Data → ℕ
   weight (boolean b) = 1
@@ -20,7 +21,7 @@ abbrev mutual
   entries_weight no_entries = 0
   entries_weight (entry k d es) = (length k + 1) + (weight d + entries_weight es)
 
--- the levels of lists and dictionaries
+-- Returns how many levels of lists and dictionaries a value has.
 abbrev mutual
   pub depth : Data → ℕ
   depth (boolean b) = 0

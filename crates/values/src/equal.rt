@@ -1,4 +1,4 @@
-//! Equality by structure.
+//! Compares values by structure.
 
 ghost use Rattle.std.specs.Prelude.{◌≡◌, ◌↔◌, IsTrue};
 ghost use Rattle.values.specs.Same.{same};
@@ -10,7 +10,7 @@ use crate::object::{Dependency, Object, Program, Source};
 use crate::text::Text;
 use crate::value::{Dictionary, Value};
 
-/// Whether two values are equal by structure. Dictionaries are equal where their entries are, in the same order.
+/// Returns whether two values are equal by structure. Dictionaries are equal if their entries are equal and in the same order.
 pub fn is_equal(value: &Value, other: &Value) -> bool
     ensures equal { IsTrue result ↔ (data_of value.now ≡ data_of other.now) }
     ensures test { result ≡ same (data_of value.now) (data_of other.now) }
@@ -68,7 +68,7 @@ fn equal_items(items: &[Value], others: &[Value]) -> bool
     true
 }
 
-/// Whether two objects are of one kind and equal by structure.
+/// Returns whether two objects are of the same kind and equal by structure.
 pub fn equal_objects(object: &Object, other: &Object) -> bool
     ensures { IsTrue result ↔ (object.now ≡ other.now) }
 {
@@ -100,7 +100,7 @@ pub fn equal_objects(object: &Object, other: &Object) -> bool
     }
 }
 
-// Whether an object is the custom target of this number, with so many outputs.
+// Returns whether an object is the custom target with this number and this many outputs.
 fn is_custom_target(object: &Object, other_number: usize, other_outputs: usize) -> bool
     ensures { IsTrue result ↔ (CustomTarget other_number other_outputs ≡ object.now) }
 {
@@ -112,7 +112,7 @@ fn is_custom_target(object: &Object, other_number: usize, other_outputs: usize) 
     }
 }
 
-// Whether an object is this output of the custom target of this number.
+// Returns whether an object is this output of the custom target with this number.
 fn is_custom_output(object: &Object, other_target: usize, other_output: usize) -> bool
     ensures { IsTrue result ↔ (CustomOutput other_target other_output ≡ object.now) }
 {
@@ -124,7 +124,7 @@ fn is_custom_output(object: &Object, other_target: usize, other_output: usize) -
     }
 }
 
-// Whether an object is the file of this path, and built where the other is.
+// Returns whether an object is the file with this path and this `is_built` flag.
 fn is_file(object: &Object, other_path: &Text, other_is_built: bool) -> bool
     ensures { IsTrue result ↔ (File other_path.now other_is_built ≡ object.now) }
 {
@@ -201,7 +201,7 @@ fn is_same_source(source: &Source, other: &Source) -> bool
     }
 }
 
-// The same as of objects.
+// Returns whether a source is the custom target with this number and this many outputs.
 fn is_source_target(source: &Source, other_number: usize, other_outputs: usize) -> bool
     ensures { IsTrue result ↔ (sources.CustomTarget other_number other_outputs ≡ source.now) }
 {
@@ -213,6 +213,7 @@ fn is_source_target(source: &Source, other_number: usize, other_outputs: usize) 
     }
 }
 
+// Returns whether a source is this output of the custom target with this number.
 fn is_source_output(source: &Source, other_target: usize, other_output: usize) -> bool
     ensures { IsTrue result ↔ (sources.CustomOutput other_target other_output ≡ source.now) }
 {
@@ -224,6 +225,7 @@ fn is_source_output(source: &Source, other_target: usize, other_output: usize) -
     }
 }
 
+// Returns whether a source is the file with this path and this `is_built` flag.
 fn is_source_file(source: &Source, other_path: &Text, other_is_built: bool) -> bool
     ensures { IsTrue result ↔ (sources.File other_path.now other_is_built ≡ source.now) }
 {

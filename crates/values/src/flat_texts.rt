@@ -1,4 +1,4 @@
-//! Texts in lists of any depth.
+//! Collects the texts in lists of any depth.
 
 ghost use Rattle.std.specs.Prelude.{◌≡◌, ◌++◌, map, IfOk, OnOk};
 ghost use Rattle.values.specs.View.{data_of, items_of};
@@ -7,7 +7,7 @@ ghost use Rattle.values.specs.Flat.{is_texts, are_texts, items_are_texts, flat, 
 use crate::Value;
 use std::alloc::{AllocError, Global};
 
-/// Whether it is a text or a list of such, of any depth.
+/// Returns whether a value is a text, or a list of such values of any depth.
 #[cycle(texts)]
 pub fn is_texts(value: &Value) -> bool
     ensures { result ≡ is_texts (data_of value.now) }
@@ -31,14 +31,14 @@ fn items_are_texts(items: &[Value]) -> bool
     true
 }
 
-/// Whether each of these values is a text or a list of such, of any depth.
+/// Returns whether each of some values is a text, or a list of texts of any depth.
 pub fn are_texts(values: &[Value]) -> bool
     ensures { result ≡ are_texts (map data_of values.now) }
 {
     items_are_texts(values)
 }
 
-// Puts the texts of a value behind those that were found.
+// Appends the texts of a value to those already found.
 #[cycle(collect)]
 fn collect<'v>(found: &mut Vec<&'v str>, value: &'v Value) -> Result<(), AllocError>
     ensures { OnOk result (map (λ t. t.now) found.new.items ≡ map (λ t. t.now) found.old.items ++ flat (data_of value.now)) }
@@ -63,7 +63,7 @@ fn collect_items<'v>(found: &mut Vec<&'v str>, items: &'v [Value]) -> Result<(),
     Ok(())
 }
 
-/// The texts in a value, in order, with all lists opened. What is no text counts as nothing.
+/// Returns the texts in a value, in order, with all lists flattened. A value that is neither a text nor a list is skipped.
 pub fn flat(alloc: Global, value: &Value) -> Result<Vec<&str>, AllocError>
     ensures { IfOk result (λ found. map (λ t. t.now) found.items ≡ flat (data_of value.now)) }
 {
@@ -72,7 +72,7 @@ pub fn flat(alloc: Global, value: &Value) -> Result<Vec<&str>, AllocError>
     Ok(found)
 }
 
-/// The texts in some values, in order, with all lists opened. What is no text counts as nothing.
+/// Returns the texts in some values, in order, with all lists flattened. A value that is neither a text nor a list is skipped.
 pub fn flat_all(alloc: Global, values: &[Value]) -> Result<Vec<&str>, AllocError>
     ensures { IfOk result (λ found. map (λ t. t.now) found.items ≡ flat_all (map data_of values.now)) }
 {

@@ -1,5 +1,5 @@
-//! The keys of a dictionary. A literal of one entry, as `all += {key: value}` has, lives for one sum: it asks for room for its key, and
-//! neither for a table nor for a hash.
+//! Keeps the keys of a dictionary. A literal with one entry, as in `all += {key: value}`, lives for one sum only. It allocates room for its
+//! key, but neither a hash table nor a hash.
 ghost use Rattle.std.specs.Prelude.{◌≡◌, ◌<◌, [], length, not, bytes_eq, position, option_map, slice_get, OnOk, OnErr, IfOk};
 ghost use Rattle.std.specs.List.{list_any, position_or_len};
 ghost use Rattle.support.specs.Sets.{insert_key, insert_all};
@@ -9,19 +9,19 @@ use std::alloc::{AllocError, Global};
 use std::marker::Model;
 use support::tables::{SipSet, set_with_capacity};
 
-// So many keys are looked through sooner than hashed.
+// Up to this many keys, a linear search is faster than hashing.
 const FEW: usize = 8;
 
-/// Keys of which none is there twice, in order of insertion. A few take no table.
+/// The keys of a dictionary, without duplicates, in order of insertion. Few keys need no hash table.
 pub struct Keys {
     kept: Kept,
 }
 
-// Where the keys lie.
+// Where the keys are stored.
 #[derive(Drop)]
 enum Kept {
     Few(Vec<Text>),
-    // in a place of its own, since dictionaries of a few keys are moved often
+    // Boxed, since dictionaries with few keys are moved often.
     Many(Box<SipSet<Text>>),
 }
 
@@ -43,6 +43,7 @@ impl Model for Keys {
 }
 
 impl Keys {
+    /// Returns no keys.
     pub(crate) fn new(alloc: Global) -> Keys
         ensures { result ≡ [] }
     {
@@ -51,6 +52,7 @@ impl Keys {
         }
     }
 
+    /// Returns the keys, in order of insertion.
     pub(crate) fn as_slice(&self) -> &[Text]
         ensures keys { result.now ≡ self.now }
     {
@@ -60,14 +62,14 @@ impl Keys {
         }
     }
 
-    /// The key at an index.
+    /// Returns the key at an index, and `None` if there are fewer keys.
     pub(crate) fn get_index(&self, index: usize) -> Option<&Text>
         ensures key { option_map (λ k. k.now) result ≡ slice_get self.now index }
     {
         self.as_slice().get(index)
     }
 
-    /// The index of a key.
+    /// Returns the index of a key, and `None` if it is absent.
     pub(crate) fn get_index_of(&self, key: &Text) -> Option<usize>
         ensures index { result ≡ position (bytes_eq key.now) self.now }
     {
@@ -77,7 +79,7 @@ impl Keys {
         }
     }
 
-    /// Puts a key last that isn't there, and gives its index, and whether it is new. After an `Err` the keys are as they were.
+    /// Appends a key unless it is present, and returns its index and whether it is new. After an `Err` the keys are unchanged.
     pub(crate) fn insert_full(&mut self, key: Text) -> Result<(usize, bool), AllocError>
         ensures added { IfOk result (λ r. r.1 ≡ not (list_any (bytes_eq key) self.old)) }
         ensures keys { OnOk result (self.new ≡ insert_key bytes_eq self.old key) }
@@ -92,7 +94,7 @@ impl Keys {
         }
     }
 
-    // Puts the keys in a table, where they are too many to be looked through with one more.
+    // Moves the keys to a hash table if one more would be too many for a linear search.
     fn make_room(&mut self) -> Result<(), AllocError>
         ensures { self.new ≡ self.old }
     {
@@ -106,7 +108,7 @@ impl Keys {
     }
 }
 
-// Puts a key last among a few, unless it is there.
+// Appends a key to a few unless it is present, and returns its index and whether it is new.
 fn insert_among(keys: &mut Vec<Text>, key: Text) -> Result<(usize, bool), AllocError>
     ensures added { IfOk result (λ r. r.1 ≡ not (list_any (bytes_eq key) keys.old.items)) }
     ensures keys { OnOk result (keys.new.items ≡ insert_key bytes_eq keys.old.items key) }
@@ -125,14 +127,14 @@ fn insert_among(keys: &mut Vec<Text>, key: Text) -> Result<(usize, bool), AllocE
     }
 }
 
-// The index of a key among a few.
+// Returns the index of a key among a few, and `None` if it is absent.
 fn position_in(keys: &[Text], key: &Text) -> Option<usize>
     ensures { result ≡ position (bytes_eq key.now) keys.now }
 {
     keys.iter().position(|it| it == key)
 }
 
-// A table of copies of a few keys, with room for as many more.
+// Returns a hash table with copies of a few keys, and room for as many more.
 fn in_table(keys: &Vec<Text>) -> Result<SipSet<Text>, AllocError>
     ensures { IfOk result (λ s. s.keys ≡ insert_all bytes_eq [] keys.now.items) }
 {

@@ -1,9 +1,8 @@
-//! The functions and methods of the page "Reference manual", the names that definition files call them by, and the names that no file may
-//! give.
+//! Lists the functions and methods of the page "Reference manual" with their names, and the names that no build file may assign.
 //!
-//! A call's name is looked up once, when the call is made flat: a [`FunctionName`] and a [`MethodName`] keep what they name beside their
-//! text, and it is a fact of the types that both belong together. So whoever carries a call out compares no names, and its contract still
-//! speaks of the name alone.
+//! A call's name is looked up once, when its file is turned into code. A [`FunctionName`] and a [`MethodName`] keep the functions or
+//! methods that they name next to their text, and the invariants of these types say that both agree. So code that runs a call compares no
+//! names, and its contract is still about the name alone.
 
 mod functions;
 mod method_name;

@@ -1,11 +1,11 @@
-//! What holds of all values: a law is stated by the contract of a function that does nothing.
+//! States laws of all values. A law is the contract of a function that does nothing.
 ghost use Rattle.std.specs.Prelude.{◌≤◌};
 ghost use Rattle.values.specs.Few.{item_count};
 ghost use Rattle.values.specs.View.{data_of};
 
 use crate::value::Value;
 
-/// No list and no dictionary has more than 65,536 items. What is in one is a value too, so this holds at any depth.
+/// Proves that no list and no dictionary has more than 65,536 items. Each item is a value too, so this holds at any depth.
 pub fn values_have_few_items(value: &Value)
     ensures { item_count (data_of value.now) ≤ 65536 }
 {

@@ -1,13 +1,12 @@
-//! Values of the language, shared, and within its limits; the methods of texts, how values are printed, and the names that the language
-//! knows.
+//! Defines the values of the language with their limits, the methods of texts, printing, and the names that the language knows.
 //!
 //! # Decisions
 //!
-//! **Weight and depth are kept with a value.** A list or dictionary keeps its weight, depth and count beside its items, tied to the
-//! definition by its invariant, so the limits of size cost nothing for each operation. Where a key that is there gets another value, the
-//! depth is known by the two values, unless one of the deepest goes for a shallower one: then the builder of a dictionary forgets the
-//! depth, and counts it in one pass when it is finished. The limits of a dictionary are asked once, when it is finished. A builder's
-//! weight has 128 bits, so that no count of entries in memory can overflow it, and no limit is asked too early.
+//! **A value keeps its weight and depth.** A list or dictionary stores its weight, depth and count next to its items, and its invariant
+//! says that they are right. So checking the limits takes constant time for each operation. If a key gets a new value, the new depth
+//! follows from the old and new values, unless one of the deepest is replaced by a shallower one. Then the builder of a dictionary forgets
+//! the depth, and counts it in one pass at the end. The limits of a dictionary are checked once, when it is finished. The weight in a
+//! builder has 128 bits, so that no number of entries that fit in memory overflows it.
 #![tactic(auto)]
 
 mod equal;

@@ -1,4 +1,4 @@
-//! Objects: plain small data, equal by structure. Targets and configuration data are named by their number.
+//! Defines objects: small plain data, equal by structure. Targets and configuration data are referred to by number.
 
 ghost use Rattle.std.specs.Prelude.{◌≡◌, ◌++◌, ◌∷◌, [], List, ℕ, OnOk};
 
@@ -12,17 +12,17 @@ pub enum Object {
     Feature(Feature),
     Dependency(Dependency),
     Program(Program),
-    /// An executable or a library, by its number.
+    /// An executable or a library, by its target number.
     BuildTarget(usize),
-    /// A custom target, by its number, and how many outputs it has.
+    /// A custom target, by its target number, and how many outputs it has.
     CustomTarget { number: usize, outputs: usize },
-    /// An output of a custom target.
+    /// An output of a custom target, by the numbers of both.
     CustomOutput { target: usize, output: usize },
-    /// A file of the source tree, or one that is built, by its path.
+    /// A file in the source directory, or one that is built, by its path.
     File { path: Text, is_built: bool },
-    /// Paths of folders.
+    /// The paths of include directories.
     IncludeDirectories(Texts),
-    /// The build, host or target machine: the three are one.
+    /// The build, host or target machine: all three are the same machine.
     Machine,
     /// The object `meson`.
     Meson,
@@ -70,7 +70,7 @@ pub enum Feature {
     Auto,
 }
 
-/// What `dependency` and `declare_dependency` give.
+/// The result of `dependency` and `declare_dependency`.
 pub struct Dependency {
     pub is_found: bool,
     pub name: Text,
@@ -78,7 +78,7 @@ pub struct Dependency {
     pub include_directories: Texts,
     pub compile_args: Texts,
     pub link_args: Texts,
-    /// The numbers of the libraries to link with.
+    /// The target numbers of the libraries to link with.
     pub link_with: Numbers,
     pub sources: Sources,
 }
@@ -98,12 +98,12 @@ impl Drop for Dependency {
     }
 }
 
-/// What `find_program` gives.
+/// The result of `find_program`.
 pub enum Program {
     NotFound,
-    /// The words of the machine file.
+    /// A command of the machine file, word by word.
     Words(Texts),
-    /// A file of the source tree, by its path.
+    /// A file in the source directory, by its path.
     File(Text),
 }
 
@@ -117,7 +117,7 @@ impl Drop for Program {
     }
 }
 
-/// A source that a dependency brings.
+/// A source that a dependency adds to a target.
 pub enum Source {
     File { path: Text, is_built: bool },
     CustomTarget { number: usize, outputs: usize },
@@ -166,7 +166,7 @@ impl Clone for Source {
     }
 }
 
-/// A list of numbers of targets.
+/// A list of target numbers.
 #[derive(Drop)]
 pub struct Numbers {
     items: Vec<usize>,
@@ -179,6 +179,7 @@ impl Model for Numbers {
 }
 
 impl Numbers {
+    /// Returns an empty list.
     pub fn new(alloc: Global) -> Numbers
         ensures { result ≡ [] }
     {
@@ -187,6 +188,7 @@ impl Numbers {
         }
     }
 
+    /// Appends a number.
     pub fn push(&mut self, number: usize) -> Result<(), AllocError>
         ensures { OnOk result (self.new ≡ self.old ++ number ∷ []) }
     {
@@ -194,7 +196,7 @@ impl Numbers {
         Ok(())
     }
 
-    /// Puts further numbers at the end.
+    /// Appends further numbers.
     pub fn extend(&mut self, others: &[usize]) -> Result<(), AllocError>
         ensures { OnOk result (self.new ≡ self.old ++ others.now) }
     {
@@ -204,6 +206,7 @@ impl Numbers {
         Ok(())
     }
 
+    /// Returns the numbers as a slice.
     pub fn as_slice(&self) -> &[usize]
         ensures { result.now ≡ self.now }
     {
@@ -227,6 +230,7 @@ impl Model for Sources {
 }
 
 impl Sources {
+    /// Returns an empty list.
     pub fn new(alloc: Global) -> Sources
         ensures { result ≡ [] }
     {
@@ -235,6 +239,7 @@ impl Sources {
         }
     }
 
+    /// Appends a source.
     pub fn push(&mut self, source: Source) -> Result<(), AllocError>
         ensures { OnOk result (self.new ≡ self.old ++ source ∷ []) }
     {
@@ -242,7 +247,7 @@ impl Sources {
         Ok(())
     }
 
-    /// Puts further sources at the end. Their paths are shared, and no byte is copied.
+    /// Appends further sources. Their paths are shared, and no byte is copied.
     pub fn extend(&mut self, others: &[Source]) -> Result<(), AllocError>
         ensures { OnOk result (self.new ≡ self.old ++ others.now) }
     {
@@ -252,6 +257,7 @@ impl Sources {
         Ok(())
     }
 
+    /// Returns the sources as a slice.
     pub fn as_slice(&self) -> &[Source]
         ensures { result.now ≡ self.now }
     {

@@ -1,4 +1,4 @@
-//! Values with all lists opened.
+//! Flattens nested lists of values.
 
 ghost use Rattle.std.specs.Prelude.{◌≡◌, ◌≤◌, ◌++◌, length, map, IfOk, OnOk};
 ghost use Rattle.values.specs.View.{data_of, items_of};
@@ -8,7 +8,7 @@ ghost use Rattle.values.specs.Weight.{items_weight};
 use crate::Value;
 use std::alloc::{AllocError, Global};
 
-// Puts a value, or what is in a list, behind what was found.
+// Appends a value, or the items of a list with all nested lists flattened.
 #[cycle(open)]
 fn open<'v>(found: &mut Vec<&'v Value>, value: &'v Value) -> Result<(), AllocError>
     ensures { OnOk result (map (λ v. data_of v.now) found.new.items
@@ -34,7 +34,7 @@ fn open_items<'v>(found: &mut Vec<&'v Value>, items: &'v [Value]) -> Result<(), 
     Ok(())
 }
 
-/// What a value is with all its lists opened: itself where it is no list.
+/// Returns the items of a list with all nested lists flattened. Any other value is returned alone.
 pub fn open_up(alloc: Global, value: &Value) -> Result<Vec<&Value>, AllocError>
     ensures { IfOk result (λ found. map (λ v. data_of v.now) found.items ≡ opened (data_of value.now)) }
 {
@@ -43,7 +43,7 @@ pub fn open_up(alloc: Global, value: &Value) -> Result<Vec<&Value>, AllocError>
     Ok(found)
 }
 
-/// What some values are with all their lists opened, in order, so that none of them is a list.
+/// Returns some values, in order, with all lists flattened, so that none of the results is a list.
 pub fn open_all(alloc: Global, values: &[Value]) -> Result<Vec<&Value>, AllocError>
     ensures { IfOk result (λ found. map (λ v. data_of v.now) found.items ≡ opened_all (map data_of values.now)) }
 {
@@ -52,7 +52,7 @@ pub fn open_all(alloc: Global, values: &[Value]) -> Result<Vec<&Value>, AllocErr
     Ok(found)
 }
 
-/// How many values a value is with all its lists opened.
+/// Returns how many values `open_up` would return.
 #[cycle(count)]
 pub fn opened_count(value: &Value) -> usize
     ensures { result ≡ length (opened (data_of value.now)) }

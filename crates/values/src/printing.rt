@@ -1,13 +1,13 @@
-//! The text that a value is printed as: by `message`, and at a place of a text that is formatted.
+//! Prints values, for `message` and for the placeholders of a formatted text.
 //!
 //! See `message` and `str.format` of the page "Reference manual".
 //!
 //! # Decisions
 //!
-//! **A value is printed piece by piece.** What `message` prints has no limit, and a list whose items are shared can be printed as more
-//! than a gigabyte; so the text is never made as a whole. A [`Printer`] keeps the parts that are left on a stack of its own and answers
-//! the next piece, so that a caller puts the pieces where it likes, and no function calls itself. [`print`] and [`write`] put them into
-//! a text up to its limit. [`print`] first asks whether an object is in the value (E9), without memory, so E9 comes before E22.
+//! **A value is printed piece by piece.** The output of `message` has no limit, and a list whose items are shared can print as more than a
+//! gigabyte. So the text is never made as a whole. A [`Printer`] keeps the parts that are left on its own stack and returns the next piece,
+//! so no function is recursive and the caller decides where the pieces go. [`print`] and [`write`] append them to a text up to its limit.
+//! [`print`] first checks whether the value contains an object (E9). That check needs no memory, so E9 comes before E22.
 
 mod pieces;
 mod printable;

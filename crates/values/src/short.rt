@@ -1,14 +1,14 @@
-//! Texts that need no memory of their own.
+//! Stores short texts without allocating.
 ghost use Rattle.std.specs.Prelude.{◌≡◌, ◌+◌, ◌<◌, ◌≤◌, ◌++◌, IfSome, length};
 ghost use Rattle.std.specs.Option.{IfNone};
 
 use std::marker::Model;
 use std::str;
 
-/// The most bytes of a short text: with them a value is no larger than one with an integer.
+/// The most bytes of a short text. With this size a value is no larger than one that holds an integer.
 pub(crate) const SHORT_BYTES: usize = 22;
 
-/// A text of at most 22 bytes, which lie in it.
+/// A text of at most 22 bytes, stored inline.
 #[derive(Drop)]
 pub struct Short {
     bytes: [u8; SHORT_BYTES],
@@ -26,6 +26,7 @@ impl Model for Short {
 }
 
 impl Short {
+    /// Returns the empty text.
     #[inline(always)]
     pub(crate) fn new() -> Short
         ensures { length result ≡ 0 }
@@ -36,7 +37,7 @@ impl Short {
         }
     }
 
-    /// The text of a copy of some bytes, where they are at most 22.
+    /// Returns a copy of a text of at most 22 bytes, and `None` for a longer one.
     #[inline(always)]
     pub fn of_str(bytes: &str) -> Option<Short>
         ensures text { IfSome result (λ s. s ≡ bytes.now) }
@@ -50,7 +51,7 @@ impl Short {
         Some(short)
     }
 
-    /// Puts a piece behind the text.
+    /// Appends a piece. The whole text must have at most 22 bytes.
     #[inline(always)]
     pub(crate) fn push(&mut self, piece: &str)
         requires { length self.old + length piece.now ≤ 22 }
@@ -62,6 +63,7 @@ impl Short {
         self.count = to as u8;
     }
 
+    /// Returns the text.
     pub fn as_str(&self) -> &str
         ensures text { result.now ≡ self.now }
         ensures short { length result.now ≤ 22 }
@@ -69,7 +71,7 @@ impl Short {
         unsafe { str::from_utf8_unchecked(&self.bytes[..self.count as usize]) }
     }
 
-    /// The same text.
+    /// Returns a copy.
     #[inline(always)]
     pub fn copy(&self) -> Short
         ensures { result ≡ self.now }

@@ -1,4 +1,4 @@
-//! Texts within the limit, and lists of texts.
+//! Defines texts, the strings of the language, with their limited length, and lists of texts.
 
 ghost use Rattle.std.specs.Prelude.{◌≡◌, ◌++◌, ◌∷◌, [], ◌≤◌, length, OnOk, OnErr, IfOk, IfSome, string_bytes};
 ghost use Rattle.values.specs.Limits.{within_bytes, Appends};
@@ -14,12 +14,13 @@ use std::marker::Model;
 use std::rc::Rc;
 use support::limits::TEXT_BYTES;
 
-/// A text of at most 16,777,216 bytes, ordered by them. A short one lies in the value itself, a clone of a long one shares its bytes.
+/// A text: a string of the language (`str` of the manual), of at most 16,777,216 bytes, ordered by its bytes. A short text is stored
+/// inline; clones of a long one share its bytes.
 pub struct Text {
     kept: Kept,
 }
 
-// Where the bytes of a text lie.
+// Where the bytes of a text are stored.
 #[derive(Drop)]
 enum Kept {
     Short(Short),
@@ -51,7 +52,7 @@ impl Model for Text {
 }
 
 impl Text {
-    /// The text of a string, or `Refusal::Limit` where that is too long.
+    /// Returns the text of a string, or `Refusal::Limit` if it is longer than 16,777,216 bytes.
     pub fn new(alloc: Global, string: String) -> Result<Result<Text, Refusal>, AllocError>
         ensures { IfOk result (λ r. r ≡ within_bytes (string_bytes string)) }
     {
@@ -65,7 +66,7 @@ impl Text {
         Ok(Ok(Text { kept }))
     }
 
-    /// The text of a copy of some bytes, or `Refusal::Limit` where they are too many.
+    /// Returns the text with a copy of a string, or `Refusal::Limit` if it is longer than 16,777,216 bytes.
     #[inline(always)]
     pub fn of_str(alloc: Global, bytes: &str) -> Result<Result<Text, Refusal>, AllocError>
         ensures { IfOk result (λ r. r ≡ within_bytes bytes.now) }
@@ -76,7 +77,7 @@ impl Text {
         Text::new(alloc, String::from_str(alloc, bytes)?)
     }
 
-    /// The text of a copy of some bytes, where they are so few that it needs no memory of its own.
+    /// Returns the text with a copy of a string of at most 22 bytes, which needs no allocation, and `None` for a longer one.
     #[inline(always)]
     pub fn of_short(bytes: &str) -> Option<Text>
         ensures { IfSome result (λ t. t ≡ bytes.now) }
@@ -85,7 +86,7 @@ impl Text {
         Some(Text::from_short(&short))
     }
 
-    /// The same text.
+    /// Returns the text of a short text.
     #[inline(always)]
     pub fn from_short(short: &Short) -> Text
         ensures { result ≡ short.now }
@@ -107,6 +108,7 @@ impl Text {
         }
     }
 
+    /// Returns the text as a string slice.
     pub fn as_str(&self) -> &str
         ensures text { result.now ≡ self.now }
         ensures within { length self.now ≤ text_bytes }
@@ -117,16 +119,16 @@ impl Text {
         }
     }
 
-    /// The text without bytes.
+    /// Returns the empty text.
     pub fn empty() -> Text
         ensures { result ≡ [] }
     {
         Text::short("")
     }
 
-    /// Puts a piece behind the text, or answers `Refusal::Limit` where it becomes longer than 16,777,216 bytes; then the text is as it was.
+    /// Appends a piece, or returns `Refusal::Limit` if the text would be longer than 16,777,216 bytes; then the text is unchanged.
     ///
-    /// Where nobody else holds the text it grows in place, and the work is that of the piece.
+    /// If nobody else shares the text it grows in place, and the work is that of the piece.
     #[inline(always)]
     pub fn push(&mut self, alloc: Global, piece: &str) -> Result<Result<(), Refusal>, AllocError>
         ensures pushed { IfOk result (λ r. Appends self.old piece.now self.new r) }
@@ -141,7 +143,7 @@ impl Text {
         self.push_far(alloc, piece)
     }
 
-    // The same, where the text may need memory of its own.
+    // Appends a piece to a text that may have to be allocated.
     #[inline(never)]
     fn push_far(&mut self, alloc: Global, piece: &str) -> Result<Result<(), Refusal>, AllocError>
         ensures pushed { IfOk result (λ r. Appends self.old piece.now self.new r) }
@@ -162,7 +164,7 @@ impl Text {
     }
 }
 
-// A string of two pieces, with room for so many bytes.
+// Returns a string of two pieces, with capacity for `count` bytes.
 fn joined(alloc: Global, count: usize, first: &str, second: &str) -> Result<Rc<String>, AllocError>
     ensures { IfOk result (λ s. string_bytes s.value ≡ first.now ++ second.now) }
 {
@@ -259,7 +261,7 @@ impl Hash for Text {
     }
 }
 
-/// A list of texts, which it shares.
+/// A list of texts, whose bytes are shared.
 #[derive(Drop)]
 pub struct Texts {
     items: Vec<Text>,
@@ -274,6 +276,7 @@ impl Model for Texts {
 }
 
 impl Texts {
+    /// Returns an empty list.
     pub fn new(alloc: Global) -> Texts
         ensures { result ≡ [] }
     {
@@ -282,6 +285,7 @@ impl Texts {
         }
     }
 
+    /// Appends a text.
     pub fn push(&mut self, text: Text) -> Result<(), AllocError>
         ensures { OnOk result (self.new ≡ self.old ++ text ∷ []) }
     {
@@ -289,7 +293,7 @@ impl Texts {
         Ok(())
     }
 
-    /// Puts the texts of another list at the end. They are shared, and no byte is copied.
+    /// Appends the texts of another list. They are shared, and no byte is copied.
     pub fn extend(&mut self, others: &[Text]) -> Result<(), AllocError>
         ensures { OnOk result (self.new ≡ self.old ++ others.now) }
     {
@@ -299,6 +303,7 @@ impl Texts {
         Ok(())
     }
 
+    /// Returns the texts as a slice.
     pub fn as_slice(&self) -> &[Text]
         ensures { result.now ≡ self.now }
     {

@@ -1,21 +1,21 @@
-//! The methods of texts, as functions on plain `&str`.
+//! Implements the methods of strings as functions on `&str`.
 //!
-//! Each is the method of the type `str` of the page "Reference manual" that has its name. Indexes count characters.
+//! Each is the method of the same name of the type `str` on the page "Reference manual". Indexes count characters.
 //!
 //! # Decisions
 //!
-//! **Texts are cut by one loop.** `split` with a separator, `split` without one and `splitlines` differ only in how the first piece of a
-//! text is found. So there is one loop, lent a way to cut, and three short functions that find a first piece. The definitions are apart:
-//! parts between the places of a separator, words as what is left of the stretches between blanks, and lines by a rule for each byte.
+//! **One loop cuts texts.** `split` with a separator, `split` without one and `splitlines` differ only in how the first piece of a text is
+//! found. So one loop takes a way to cut, and three short functions find a first piece. The definitions are separate: parts between
+//! separators, words as what is left of the stretches between blanks, and lines by a rule for each byte.
 //!
-//! **A separator's parts are defined byte by byte.** The parts are a recursion along the text that passes over the bytes of a separator
-//! once it stands somewhere, so that they are a function which computes. That nothing is lost and that no part has the separator in it are
-//! laws beside it, on the contract of [`split_at`].
+//! **The parts between separators are defined byte by byte.** The parts are a recursion along the text that skips the bytes of a separator
+//! once it is found, so the definition is a function that computes. The contract of [`split_at`] adds two laws: joining the parts gives the
+//! text again, and no part contains the separator.
 //!
-//! **The characters of `strip` are kept in a set.** `strip` with an argument looks each character up in a hashed set, so the work stays
+//! **The characters of `strip` are kept in a set.** `strip` with an argument looks each character up in a hash set, so the work stays
 //! linear however many characters are given.
 //!
-//! **Versions.** [`version_compare`] is the order of versions: by runs of digits, as whole numbers of any length, and of letters.
+//! **Versions.** [`version_compare`] compares versions by runs of digits, as integers of any length, and runs of letters.
 
 mod cut;
 mod ends;

@@ -1,4 +1,4 @@
-//! Values, lists and dictionaries.
+//! Defines values, lists and dictionaries.
 
 ghost use Rattle.std.specs.Prelude.{◌≡◌, ◌<◌, ◌≤◌, ◌+◌, ◌*◌, ◌||◌, length, OnOk, OnErr, IfOk, IsTrue, ◌==◌};
 ghost use Rattle.std.specs.Prelude.{option_map, string_bytes, slice_get, Some, Ok, Err, MatchResult, if◌then◌else◌};
@@ -28,7 +28,7 @@ use std::mem;
 use std::rc::Rc;
 use support::limits::{ITEMS, LEVELS, WEIGHT};
 
-/// A value.
+/// A value of the language: an elementary type of the manual, or an object.
 #[cycle(value)]
 pub enum Value {
     Boolean(bool),
@@ -39,7 +39,7 @@ pub enum Value {
     Object(Rc<Object>),
 }
 
-// Values are let go in many functions: this one is proved once.
+// Values are dropped in many functions, so dropping one is proved once, in this function.
 impl Drop for Value {
     #[cycle(value)]
     #[inline]
@@ -59,9 +59,9 @@ impl Drop for Value {
 #[cycle(value)]
 pub struct List {
     items: Vec<Value>,
-    // of the items alone
+    // The weight of the items alone.
     weight: u64,
-    // of the deepest item
+    // The depth of the deepest item.
     depth: u32,
     has_disabler: bool,
 }
@@ -70,7 +70,7 @@ pub struct List {
 #[cycle(value)]
 pub struct Dictionary {
     keys: Keys,
-    // the value of each key, at the key's index
+    // The value of each key, at the index of the key.
     values: Vec<Value>,
     weight: u64,
     depth: u32,
@@ -166,7 +166,7 @@ impl Clone for Value {
 }
 
 impl Value {
-    /// The boolean that it is.
+    /// Returns the boolean, and `None` for a value of another type.
     pub fn as_boolean(&self) -> Option<bool>
         ensures { result ≡ boolean_in (data_of self.now) }
     {
@@ -176,7 +176,7 @@ impl Value {
         }
     }
 
-    /// The integer that it is.
+    /// Returns the integer, and `None` for a value of another type.
     pub fn as_integer(&self) -> Option<i128>
         ensures { result ≡ integer_in (data_of self.now) }
     {
@@ -186,7 +186,7 @@ impl Value {
         }
     }
 
-    /// The text that it is.
+    /// Returns the text, and `None` for a value of another type.
     pub fn as_text(&self) -> Option<&Text>
         ensures { option_map (λ t. t.now) result ≡ text_in (data_of self.now) }
     {
@@ -196,7 +196,7 @@ impl Value {
         }
     }
 
-    /// The list that it is.
+    /// Returns the list, and `None` for a value of another type.
     pub fn as_list(&self) -> Option<&List>
         ensures { option_map (λ l. l.now) result ≡ items_in (data_of self.now) }
     {
@@ -206,7 +206,7 @@ impl Value {
         }
     }
 
-    /// The dictionary that it is.
+    /// Returns the dictionary, and `None` for a value of another type.
     pub fn as_dictionary(&self) -> Option<&Dictionary>
         ensures { option_map (λ d. d.now) result ≡ entries_in (data_of self.now) }
     {
@@ -216,7 +216,7 @@ impl Value {
         }
     }
 
-    /// The object that it is.
+    /// Returns the object, and `None` for a value of another type.
     pub fn as_object(&self) -> Option<&Object>
         ensures { option_map (λ o. o.now) result ≡ object_in (data_of self.now) }
     {
@@ -226,7 +226,7 @@ impl Value {
         }
     }
 
-    /// Whether it is a disabler itself.
+    /// Returns whether the value is a disabler itself.
     pub fn is_disabler(&self) -> bool
         ensures { result ≡ is_disabler (data_of self.now) }
     {
@@ -236,7 +236,7 @@ impl Value {
         }
     }
 
-    /// Whether it is a disabler, or a list with one at any depth of lists. Dictionaries are not looked into.
+    /// Returns whether the value is a disabler, or a list that contains one at any depth of lists. Dictionaries are not searched.
     pub fn has_disabler(&self) -> bool
         ensures { result ≡ has_disabler (data_of self.now) }
     {
@@ -246,7 +246,7 @@ impl Value {
         }
     }
 
-    /// The value of a text, or `Refusal::Limit` where it is longer than 16,777,216 bytes.
+    /// Returns the value of a string, or `Refusal::Limit` if it is longer than 16,777,216 bytes.
     pub fn of_string(alloc: Global, string: String) -> Result<Result<Value, Refusal>, AllocError>
         ensures { IfOk result (λ r. Answers (within_limits (text (string_bytes string))) r) }
     {
@@ -256,7 +256,7 @@ impl Value {
         }
     }
 
-    /// The value of a copy of a text, or `Refusal::Limit` where it is longer than 16,777,216 bytes.
+    /// Returns the value of a copy of a string, or `Refusal::Limit` if it is longer than 16,777,216 bytes.
     #[inline(always)]
     pub fn of_str(alloc: Global, bytes: &str) -> Result<Result<Value, Refusal>, AllocError>
         ensures { IfOk result (λ r. Answers (within_limits (text bytes.now)) r) }
@@ -267,28 +267,29 @@ impl Value {
         }
     }
 
-    /// The value of a list.
+    /// Returns the value of a list.
     pub fn of_list(alloc: Global, list: List) -> Result<Value, AllocError>
         ensures { IfOk result (λ v. data_of v ≡ list_data list) }
     {
         Ok(Value::List(Rc::new(alloc, list)?))
     }
 
-    /// The value of a dictionary.
+    /// Returns the value of a dictionary.
     pub fn of_dictionary(alloc: Global, dictionary: Dictionary) -> Result<Value, AllocError>
         ensures { IfOk result (λ v. data_of v ≡ dictionary_data dictionary) }
     {
         Ok(Value::Dictionary(Rc::new(alloc, dictionary)?))
     }
 
-    /// The value of an object.
+    /// Returns the value of an object.
     pub fn of_object(alloc: Global, object: Object) -> Result<Value, AllocError>
         ensures { IfOk result (λ v. data_of v ≡ object_data object) }
     {
         Ok(Value::Object(Rc::new(alloc, object)?))
     }
 
-    /// A text weighs its bytes and one, a list or a dictionary one and its items and keys, anything else one.
+    /// Returns the weight of the value: a text weighs its bytes plus one, a list or a dictionary the sum of its items and keys plus one,
+    /// anything else one.
     pub fn weight(&self) -> u64
         ensures weight { result ≡ weight (data_of self.now) }
         ensures within { result ≤ 33554432 }
@@ -301,7 +302,7 @@ impl Value {
         }
     }
 
-    /// How many levels of lists and dictionaries it has.
+    /// Returns how many levels of lists and dictionaries the value has.
     pub fn depth(&self) -> u32
         ensures depth { result ≡ depth (data_of self.now) }
         ensures within { result ≤ 64 }
@@ -314,7 +315,7 @@ impl Value {
     }
 }
 
-// Whether a list or a dictionary of so many items, this weight and so many levels is within the limits.
+// Returns whether a list or a dictionary with this many items, this weight and this depth is within the limits.
 fn is_within(items: usize, weight: u128, levels: u32) -> bool
     ensures { result ≡ is_within_limits items weight levels }
 {
@@ -322,6 +323,7 @@ fn is_within(items: usize, weight: u128, levels: u32) -> bool
 }
 
 impl List {
+    /// Returns an empty list.
     pub fn new(alloc: Global) -> List
         ensures { result ≡ no_items }
     {
@@ -333,7 +335,7 @@ impl List {
         }
     }
 
-    /// The list of some items, or `Refusal::Limit` where it is too large.
+    /// Returns the list of some items, or `Refusal::Limit` if it is too large.
     pub fn from_items(items: Vec<Value>) -> Result<List, Refusal>
         ensures { result ≡ (if items_fit (items_of items.items) then Ok (items_of items.items) else Err refusal.Limit) }
     {
@@ -354,6 +356,7 @@ impl List {
         })
     }
 
+    /// Returns the items as a slice.
     pub fn items(&self) -> &[Value]
         ensures items { items_of result.now ≡ self.now }
         ensures within { IsTrue (items_fit self.now) }
@@ -361,7 +364,7 @@ impl List {
         &self.items
     }
 
-    /// A list of the same items.
+    /// Returns a list of the same items.
     pub fn copy_of(alloc: Global, list: &List) -> Result<List, AllocError>
         ensures { IfOk result (λ l. l ≡ list.now) }
     {
@@ -371,7 +374,7 @@ impl List {
         Ok(copy)
     }
 
-    /// The weight of the items.
+    /// Returns the weight of the items, without the one for the list itself.
     pub fn weight(&self) -> u64
         ensures weight { result ≡ items_weight self.now }
         ensures within { result + 1 ≤ 33554432 }
@@ -379,7 +382,7 @@ impl List {
         self.weight
     }
 
-    /// The levels of the deepest item.
+    /// Returns the depth of the deepest item.
     pub fn depth(&self) -> u32
         ensures depth { result ≡ items_depth self.now }
         ensures within { result + 1 ≤ 64 }
@@ -387,13 +390,14 @@ impl List {
         self.depth
     }
 
-    /// Whether a disabler is among the items, or in a list among them at any depth of lists.
+    /// Returns whether a disabler is among the items, or in a list among them at any depth of lists.
     pub fn has_disabler(&self) -> bool
         ensures { result ≡ have_disabler self.now }
     {
         self.has_disabler
     }
 
+    /// Returns the number of items.
     pub fn len(&self) -> usize
         ensures len { result ≡ count self.now }
         ensures within { result ≤ 65536 }
@@ -401,13 +405,14 @@ impl List {
         self.items.len()
     }
 
+    /// Returns whether the list is empty.
     pub fn is_empty(&self) -> bool
         ensures { result ≡ (count self.now == 0) }
     {
         self.len() == 0
     }
 
-    /// Whether one more item leaves it within the limits.
+    /// Returns whether the list is within the limits with one more item.
     pub fn has_room(&self, value: &Value) -> bool
         ensures { result ≡ items_fit (items_append self.now (item (data_of value.now) no_items)) }
     {
@@ -418,7 +423,7 @@ impl List {
         )
     }
 
-    /// Whether the items of another list leave it within the limits.
+    /// Returns whether the list is within the limits with the items of another list.
     pub fn has_room_for(&self, other: &List) -> bool
         ensures { result ≡ items_fit (items_append self.now other.now) }
     {
@@ -429,7 +434,7 @@ impl List {
         )
     }
 
-    /// Puts an item at the end. After an `Err` the list is as it was.
+    /// Appends an item, for which there must be room. After an `Err` the list is unchanged.
     pub fn push(&mut self, value: Value) -> Result<(), AllocError>
         requires { IsTrue (items_fit (items_append self.old (item (data_of value) no_items))) }
         ensures ok { OnOk result (self.new ≡ items_append self.old (item (data_of value) no_items)) }
@@ -445,7 +450,7 @@ impl List {
         Ok(())
     }
 
-    /// Puts the items of another list at the end.
+    /// Appends the items of another list, for which there must be room.
     pub fn extend(&mut self, other: &List) -> Result<(), AllocError>
         requires { IsTrue (items_fit (items_append self.old other.now)) }
         ensures { OnOk result (self.new ≡ items_append self.old other.now) }
@@ -459,6 +464,7 @@ impl List {
 }
 
 impl Dictionary {
+    /// Returns an empty dictionary.
     pub fn new(alloc: Global) -> Dictionary
         ensures { result ≡ no_entries }
     {
@@ -470,7 +476,7 @@ impl Dictionary {
         }
     }
 
-    /// Puts the entries of another dictionary to it, or answers `Refusal::Limit` where it becomes too large; then it is lost.
+    /// Adds the entries of another dictionary, or returns `Refusal::Limit` if it becomes too large; then the entries are lost.
     pub fn merge(
         &mut self,
         alloc: Global,
@@ -492,7 +498,7 @@ impl Dictionary {
         }
     }
 
-    /// The weight of the keys and values.
+    /// Returns the weight of the keys and values.
     pub fn weight(&self) -> u64
         ensures weight { result ≡ entries_weight self.now }
         ensures within { result + 1 ≤ 33554432 }
@@ -500,7 +506,7 @@ impl Dictionary {
         self.weight
     }
 
-    /// The levels of the deepest value.
+    /// Returns the depth of the deepest value.
     pub fn depth(&self) -> u32
         ensures depth { result ≡ entries_depth self.now }
         ensures within { result + 1 ≤ 64 }
@@ -508,6 +514,7 @@ impl Dictionary {
         self.depth
     }
 
+    /// Returns the number of entries.
     pub fn len(&self) -> usize
         ensures len { result ≡ entry_count self.now }
         ensures within { result ≤ 65536 }
@@ -515,7 +522,7 @@ impl Dictionary {
         self.values.len()
     }
 
-    /// The value at a key.
+    /// Returns the value of a key, and `None` if the key is absent.
     pub fn get(&self, key: &Text) -> Option<&Value>
         ensures { option_map (λ v. data_of v.now) result ≡ find key.now self.now }
     {
@@ -523,14 +530,14 @@ impl Dictionary {
         self.values.get(index)
     }
 
-    /// The keys, in order of insertion.
+    /// Returns the keys, in order of insertion.
     pub fn keys(&self) -> &[Text]
         ensures { result.now ≡ keys_in self.now }
     {
         self.keys.as_slice()
     }
 
-    /// The values, in order of insertion.
+    /// Returns the values, in order of insertion.
     pub fn values(&self) -> &[Value]
         ensures values { items_of result.now ≡ entry_values self.now }
         ensures distinct { AreDistinct self.now }
@@ -539,7 +546,7 @@ impl Dictionary {
         &self.values
     }
 
-    /// The key of the value at an index.
+    /// Returns the key at an index, which must be less than the number of entries.
     pub fn key(&self, index: usize) -> &Text
         requires { index < entry_count self.now }
         ensures { slice_get (keys_in self.now) index ≡ Some result.now }
@@ -557,7 +564,7 @@ fn either(one: bool, other: bool) -> bool
     one || other
 }
 
-/// Whether one of some values is a disabler, or a list with one at any depth of lists.
+/// Returns whether one of some values is a disabler, or a list that contains one at any depth of lists.
 pub fn have_disabler(values: &[Value]) -> bool
     ensures { result ≡ have_disabler (items_of values.now) }
 {
@@ -569,7 +576,7 @@ pub fn have_disabler(values: &[Value]) -> bool
     false
 }
 
-// What some values weigh.
+// Returns the weight of some values.
 fn weight_of(values: &[Value]) -> u64
     requires { length values.now ≤ 65536 }
     ensures weight { result ≡ items_weight (items_of values.now) }
@@ -582,7 +589,7 @@ fn weight_of(values: &[Value]) -> u64
     weight
 }
 
-// The levels of the deepest of some values.
+// Returns the depth of the deepest of some values.
 fn deepest(values: &[Value]) -> u32
     ensures deepest { result ≡ items_depth (items_of values.now) }
     ensures within { result ≤ 64 }

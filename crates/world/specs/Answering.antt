@@ -1,4 +1,4 @@
--- What the answer of a call says of its deed or its plan, in a world and over devices.
+-- Relates the result of a call to its deed or plan, in a world and over devices.
 use Rattle.std.specs.Prelude.{◌≡◌, ℕ, ◌+◌, ◌<◌, ◌≤◌, ◌^◌, List, [], Result, Ok, Err, string_bytes}
 use Rattle.ports.specs.Outputs.{OutputState}
 use Rattle.ports.specs.Tree.{TreeState, Stays}
@@ -21,7 +21,7 @@ use Rattle.support.specs.declared.faults.refusal.Refusal.TheVariants as refusals
 use Rattle.world.specs.declared.stop.Stop.{Stop}
 use Rattle.world.specs.declared.stop.Stop.TheVariants as stops
 
--- the world, the table of names, what the devices are seen as, and the names of the references by which all of these are held
+-- The state of a call: the world, the table of names, the views of the devices, and the names of the references that hold them.
 pub record State : Type 0 where
   pub world : World
   pub names : List (List ℕ)
@@ -29,22 +29,22 @@ pub record State : Type 0 where
   pub out : OutputState
   pub lent : ℕ × ℕ × ℕ
 
--- what marks are told to, where the counter is at `n`
+-- Returns what marks change: the outputs, the counter at `n`, and the table of names.
 abbrev pub seen_at : State → ℕ → Seen
 seen_at s n = seen s.out n s.names
 
--- a device that fails can still count it
+-- Holds if each device can count one more failure.
 pub record HasRoom (s : State) : Type 0 where
   pub tree : s.tree.failures + 1 < 2 ^ 64
   pub out : s.out.failures + 1 < 2 ^ 64
 
--- one of the devices failed once more where the answer says so, and else none did
+-- Holds if one of the devices counted one more failure when the call says that a device failed, and none did otherwise.
 pub record Fails {B : Type 0} (old : State) (result : Result B Stop) (new : State) : Type 0 where
   pub tree : old.tree.failures ≤ new.tree.failures
   pub out : old.out.failures ≤ new.out.failures
   pub sum : new.tree.failures + new.out.failures ≡ failures_after (old.tree.failures + old.out.failures) result
 
--- the call ended as the deed does in this state, or after a beginning of what it tells
+-- Holds if the call ended as the deed does in this state, or stopped after a prefix of the deed's output steps.
 pub record Carries {A B : Type 0} (view : B → A) (deed : Deed A) (old : State) (result : Result B Stop) (new : State) : Type 0 where
   pub gives : (files : Files) (n : ℕ) → Holds old.tree files
       → Gives view (perform files deed old.world) result new.world (seen_at old n) (seen_at new n)
@@ -52,7 +52,7 @@ pub record Carries {A B : Type 0} (view : B → A) (deed : Deed A) (old : State)
   pub device : Fails old result new
   pub same : new.lent ≡ old.lent
 
--- the call ended as the act does that these files make, or after a beginning of what it tells
+-- Holds if the call ended as the act for these files does, or stopped after a prefix of the act's output steps.
 pub record Acts {A B : Type 0} (view : B → A) (act : Files → Act A) (old : State) (result : Result B Stop) (new : State) : Type 0 where
   pub gives : (files : Files) (n : ℕ) → Holds old.tree files
       → Gives view (act files old.world) result new.world (seen_at old n) (seen_at new n)
@@ -60,7 +60,7 @@ pub record Acts {A B : Type 0} (view : B → A) (act : Files → Act A) (old : S
   pub device : Fails old result new
   pub same : new.lent ≡ old.lent
 
--- what was done of a deed, and what is left of it
+-- Holds if a deed was done up to the point where `rest` is left of it.
 pub record Leads {A : Type 0} (whole : Deed A) (old : State) (rest : Deed A) (now : State) : Type 0 where
   pub gives : (files : Files) (n : ℕ) → Holds old.tree files
       → Continues (perform files whole old.world) (perform files rest now.world) (seen_at old n) (seen_at now n)
@@ -69,43 +69,43 @@ pub record Leads {A : Type 0} (whole : Deed A) (old : State) (rest : Deed A) (no
   pub out : old.out.failures ≡ now.out.failures
   pub same : now.lent ≡ old.lent
 
--- the answer is this refusal, unless no memory was left to tell it
+-- Holds if the call returned this fault, or ran out of memory while it made it.
 abbrev pub Refuses : {B : Type 0} → FaultData → Result B Stop → Type 0
 Refuses f (Ok x) = ⊥
 Refuses f (Err s) = IsRefusal s f
 
--- an operation's answer is handed on, or its refusal
+-- Holds if the call passed on the value of an operation, or its refusal.
 abbrev pub IsAnswered : {B : Type 0} → World → Result B OperationRefusal → Result B Stop → Type 0
 IsAnswered w (Ok x) result = result ≡ Ok x
 IsAnswered w (Err refusal) result = Refuses (fault_here w (of_operation refusal) []) result
 
--- an operation's answer is handed on, or its refusal, with this rule where it is of the arguments
+-- Holds if the call passed on the value of an operation, or its refusal. A refusal of the arguments names this rule.
 abbrev pub IsAnsweredBy : {B : Type 0} → World → Rule → List ℕ → Result B OperationRefusal → Result B Stop → Type 0
 IsAnsweredBy w rule text (Ok x) result = result ≡ Ok x
 IsAnsweredBy w rule text (Err refusal) result = Refuses (fault_here w (of_operation refusal) (broken_by rule text refusal)) result
 
--- what a test of arguments answers is handed on, or its refusal
+-- Holds if the call passed on the value of a check of arguments, or its refusal.
 abbrev pub IsFitting : {B : Type 0} → World → Result B Refusal → Result B Stop → Type 0
 IsFitting w (Ok x) result = result ≡ Ok x
 IsFitting w (Err refusal) result = Refuses (fault_here w refusal []) result
 
--- what arguments say is handed on, or their refusal, with what that is about
+-- Holds if the call passed on what the arguments say, or their refusal with its detail.
 abbrev pub IsPassed : {B : Type 0} → World → Result B RefusedArguments → Result B Stop → Type 0
 IsPassed w (Ok x) result = result ≡ Ok x
 IsPassed w (Err refused) result = Refuses (fault_here w refused.refusal (string_bytes refused.detail)) result
 
--- what the project answers is handed on, or its refusal, with what that is about
+-- Holds if the call passed on what the project returned, or its refusal with its detail.
 abbrev pub IsAllowed : {B : Type 0} → World → Result B Refused → Result B Stop → Type 0
 IsAllowed w (Ok x) result = result ≡ Ok x
 IsAllowed w (Err refused) result = Refuses (fault_here w (of_project refused.why) (string_bytes refused.detail)) result
 
--- a change of configuration data was made, or the call is refused since they are frozen, or no memory was left
+-- Holds if configuration data was changed, or the call is refused since the data is frozen, or memory ran out.
 abbrev pub IsConfigured : World → Result (Unit {0}) SetStop → Result (Unit {0}) Stop → Type 0
 IsConfigured w (Ok u) result = result ≡ Ok u
 IsConfigured w (Err set_stops.Frozen) result = Refuses (fault_here w refusals.Frozen []) result
 IsConfigured w (Err set_stops.Memory) result = result ≡ Err stops.Memory
 
--- an operation answers what is given, seen so
+-- Holds if an operation returned what its definition gives, seen through this view.
 abbrev pub Views : {A B R : Type 0} → (B → A) → Result A R → Result B R → Type 0
 Views view given (Ok x) = given ≡ Ok (view x)
 Views view given (Err refusal) = given ≡ Err refusal

@@ -1,4 +1,4 @@
--- The state that a caller stands for, and what it does.
+-- Defines the state of a caller, and what a caller does.
 use Rattle.std.specs.Prelude.{Result}
 use Rattle.ports.specs.Outputs.{OutputState}
 use Rattle.ports.specs.Tree.{TreeState}
@@ -9,7 +9,7 @@ use Rattle.world.specs.declared.caller.Caller.{Caller}
 use Rattle.world.specs.declared.stop.Stop.{Stop}
 
 module _ {T O : Type 0} where
-  -- where its devices are seen so
+  -- Returns the state of a caller, with these views of its devices.
   abbrev pub state_of : (T → TreeState) → (O → OutputState) → Caller T O → State
   state_of tree out c = record {
     world = world_of c.store.now;
@@ -19,11 +19,11 @@ module _ {T O : Type 0} where
     lent = (c.store.ghost_name, c.tree.ghost_name, c.out.ghost_name);
   }
 
-  -- a device of its own that fails can still count it
+  -- Holds if each of the caller's devices can count one more failure.
   abbrev pub MayFail : (T → TreeState) → (O → OutputState) → Caller T O → Type 0
   MayFail tree out c = HasRoom (state_of tree out c)
 
-  -- it did what the deed does, or a beginning of what that tells
+  -- Holds if the caller did what the deed does, or stopped after a prefix of the deed's output steps.
   abbrev pub Does : {A B : Type 0} → (T → TreeState) → (O → OutputState) → (B → A) → Deed A → (old : Caller T O) → Result B Stop
       → (new : Caller T O) → Type 0
   Does tree out view deed old result new = Carries view deed (state_of tree out old) result (state_of tree out new)

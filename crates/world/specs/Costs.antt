@@ -1,4 +1,4 @@
--- How many rules a run ends, where each folder is entered once and the file of each has a price.
+-- Bounds the number of rules that a run ends, if each folder is entered once and each file has a price.
 use Rattle.std.specs.Prelude.{ℕ, ◌+◌, ◌≤◌, Bool, true, false, List, [], ◌∷◌, codes}
 use Rattle.std.specs.List.{list_any}
 use Rattle.std.specs.Str.{bytes_eq}
@@ -8,27 +8,28 @@ use Rattle.world.specs.World.{World}
 use Rattle.world.specs.Run.{Run, Act, marks_of, world_after}
 use Rattle.world.specs.Deed.{Files}
 
--- the definition file of a folder
+-- Returns the build file of a folder.
 abbrev pub definition_file : List ℕ → List ℕ
 definition_file folder = path_in folder (codes "meson.build")
 
--- whether this is the definition file of one of these folders
+-- Holds if a path is the build file of one of these folders.
 abbrev pub is_opened : List (List ℕ) → List ℕ → Bool
 is_opened folders path = list_any (λ folder. bytes_eq (definition_file folder) path) folders
 
+-- Returns 0 if a condition is true, and otherwise the number.
 abbrev pub unless : Bool → ℕ → ℕ
 unless true n = 0
 unless false n = n
 
--- what the files that were not opened may still cost
+-- Returns the sum of the prices of the files that were not opened.
 abbrev pub unopened : (List ℕ × List ℕ → ℕ) → Files → List (List ℕ) → ℕ
 unopened price [] folders = 0
 unopened price (file ∷ files) folders = unless (is_opened folders file.0) (price file) + unopened price files folders
 
--- the rules that a run ends, and what may still be opened after it
+-- Returns the number of rules that a run ended, plus the price of all that may still be opened.
 abbrev pub spent : {A : Type 0} → (List ℕ × List ℕ → ℕ) → Files → Run A → ℕ
 spent price files run = ends_of (marks_of run) + unopened price files (world_after run).entered
 
--- an act ends at most so many rules, and pays for each file that it opens
+-- Holds if an act ends at most `cost` rules, and pays for each file that it opens.
 pub record Costs {A : Type 0} (price : List ℕ × List ℕ → ℕ) (files : Files) (cost : ℕ) (act : Act A) : Type 0 where
   pub within : (w : World) → spent price files (act w) ≤ cost + unopened price files w.entered

@@ -1,4 +1,4 @@
--- Deeds that declare what a project has.
+-- Defines deeds that declare something about the project.
 use Rattle.std.specs.Prelude.{◌≡◌, ℕ, List, Result, Ok, Err, refl}
 use Rattle.build.specs.edge.Texts.{Text}
 use Rattle.build.specs.project.Adding.{after_answer, after_target, arguments_answer, target_answer, with_arguments, with_dependency}
@@ -10,18 +10,18 @@ use Rattle.world.specs.Operation.{of_project}
 use Rattle.world.specs.World.{KeepsPaths, declaring, paths_in}
 use Rattle.world.specs.Deed.{Deed, give, refuse, read, change, ◌>>=◌}
 
--- what the project answers is given, or its refusal, with what that is about
+-- Returns what the project returned, or its refusal with its detail.
 unfoldable pub allowed : {A : Type 0} → Result A RefusedData → Deed A
 allowed (Ok a) = give a
 allowed (Err refused) = refuse (of_project refused.why) refused.detail
 
--- an answer leaves the paths alone where it does so that is not refused
+-- Proves that a declaration keeps the noted paths, if its change does so whenever the project does not refuse it.
 abbrev pub after_answer-keeps : {A : Type 0} (answer : Result A RefusedData) (after before : WorldData)
     → paths_in after ≡ paths_in before → paths_in (after_answer answer after before) ≡ paths_in before
 after_answer-keeps (Ok a) after before same = same
 after_answer-keeps (Err refused) after before same = refl
 
--- the project answers, and is afterwards this of what it was
+-- Changes the project by `after`, and returns what the project answers.
 unfoldable pub declared : {A : Type 0} → (answer : WorldData → Result A RefusedData) → (after : WorldData → WorldData)
     → KeepsPaths after → Deed A
 declared answer after keeps = do
@@ -29,37 +29,41 @@ declared answer after keeps = do
   _ ← change (declaring after) (λ facts. keeps facts.project)
   allowed (answer facts.project)
 
--- a target is added, and its number given
+-- Adds a target, and returns its number.
 unfoldable pub add_target : TargetData → Deed ℕ
 add_target t =
     declared (λ p. target_answer p t) (λ p. after_target p t) (λ p. after_answer-keeps (target_answer p t) (with_target p t) p refl)
 
+-- Returns the project after arguments for all compile commands are added, or unchanged if it refuses them.
 abbrev pub after_arguments : List Text → WorldData → WorldData
 after_arguments words p = after_answer (arguments_answer p words) (with_arguments p words) p
 
--- words for all compile commands
+-- Adds arguments to all compile commands.
 unfoldable pub add_arguments : List Text → Deed (Unit {0})
 add_arguments words =
     declared (λ p. arguments_answer p words) (after_arguments words)
     (λ p. after_answer-keeps (arguments_answer p words) (with_arguments p words) p refl)
 
+-- Returns the project after arguments for all link commands are added, or unchanged if it refuses them.
 abbrev pub after_link_arguments : List Text → WorldData → WorldData
 after_link_arguments words p = after_answer (arguments_answer p words) (with_link_arguments p words) p
 
--- words for all link commands
+-- Adds arguments to all link commands.
 unfoldable pub add_link_arguments : List Text → Deed (Unit {0})
 add_link_arguments words =
     declared (λ p. arguments_answer p words) (after_link_arguments words)
     (λ p. after_answer-keeps (arguments_answer p words) (with_link_arguments p words) p refl)
 
--- ---- what is only noted
+-- ---- what the project only records
 
--- what a call of `dependency` answered
+-- Records the result of a call of `dependency`.
 unfoldable pub add_dependency : AnswerData → Deed (Unit {0})
 add_dependency answer = change (declaring (λ p. with_dependency p answer)) (λ facts. refl)
 
+-- Records a file to be installed.
 unfoldable pub add_install : InstallData → Deed (Unit {0})
 add_install install = change (declaring (λ p. with_install p install)) (λ facts. refl)
 
+-- Records a test.
 unfoldable pub add_test : TestData → Deed (Unit {0})
 add_test test = change (declaring (λ p. with_test p test)) (λ facts. refl)

@@ -1,5 +1,5 @@
--- Deeds: what a function does with its evaluated arguments. A deed ends no rule and enters no folder. It asks the tree of files by `ask`
--- alone, and the machine file by `consult` alone; and by `make` alone an output of `configure_file` is made.
+-- Defines deeds: what a function does with its evaluated arguments. A deed ends no rule and enters no folder. Only `ask` reads the file
+-- tree, only `consult` reads the machine file, and only `make` makes an output of `configure_file`.
 use Rattle.std.specs.Prelude.{ℕ, Bool, true, false, List, [], Option, Result, Ok, Err, is_some}
 use Rattle.build.specs.edge.Texts.{Path, Text}
 use Rattle.ports.specs.Outputs.{Step, logs}
@@ -15,36 +15,38 @@ use Rattle.world.specs.Run.{Act, ran, Done, pure, fails, follow}
 use Rattle.support.specs.declared.faults.refusal.Refusal.{Refusal}
 use Rattle.support.specs.declared.faults.refusal.Refusal.TheVariants as refusals
 
--- the files of the tree, by their paths
+-- The files of the tree, by path.
 abbrev pub Files : Type 0
 Files = List (List ℕ × List ℕ)
 
+-- A deed, made from these steps.
 pub data Deed : Type 0 → Type 1 where
-  -- the answer
+  -- Returns a value.
   give : {A : Type 0} → A → Deed A
-  -- a refusal at the present place, of this name, path or text
+  -- Refuses the call at the present place, with a name, path or text as detail.
   refuse : {A : Type 0} → Refusal → List ℕ → Deed A
-  -- steps for the outputs
+  -- Sends steps to the outputs.
   tell : List Step → Deed (Unit {0})
-  -- the bytes of the file at this path, which counts as looked at, and whose presence the project notes
+  -- Returns the bytes of the file at this path. The path counts as looked at, and the project notes whether it is present.
   ask : List ℕ → Deed (Option (List ℕ))
-  -- what the machine file answers to this question, which counts as asked
+  -- Returns what the machine file answers to this question, which counts as asked.
   consult : Question → Deed Answer
   read : Deed Facts
-  -- a change of the facts; which paths the project notes or makes is none of them, since `ask` alone looks at a path, and `make` makes one
+  -- Changes the facts, but not the paths that the project notes or makes: only `ask` looks at a path, and only `make` makes one.
   change : (f : Facts → Facts) → LeavesPaths f → Deed (Unit {0})
-  -- the project begins, of which nothing is declared yet
+  -- Begins the project, with nothing declared yet.
   begin_project : FactsData → Deed (Unit {0})
-  -- The file of the folder with this name is made: its path is taken, or refused as the project does. Once `ready` is done, whose answer
-  -- is given, the output is opened, filled so and closed.
+  -- Makes the file of the folder with this name. Its path is reserved, or refused as the project does. After the deed `ready`, whose value
+  -- is returned, the output is opened, filled and closed.
   make : {A : Type 0} → (folder : Path) (name : Text) → (ready : Deed A) → Filling → Deed A
   then : {A B : Type 0} → Deed A → (A → Deed B) → Deed B
 
 infixl 10 ◌>>=◌
+-- Returns one deed followed by another.
 abbrev pub ◌>>=◌ : {A B : Type 0} → Deed A → (A → Deed B) → Deed B
 first >>= next = then first next
 
--- the act that a deed is
+-- Returns the act of a deed.
 abbrev pub perform : {A : Type 0} → Files → Deed A → Act A
 perform files (give a) w = pure a w
 perform files (refuse refusal detail) w = fails (fault_here w refusal detail) w
@@ -61,32 +63,32 @@ perform files (then first next) w = follow (perform files first w) (λ a. perfor
 
 -- ---- small deeds
 
--- bytes for the log
+-- Writes bytes to the log.
 unfoldable pub say : List ℕ → Deed (Unit {0})
 say bytes = tell (logs bytes)
 
--- what an operation on values answers, or its refusal
+-- Returns the value of an operation, or its refusal.
 unfoldable pub answered : {A : Type 0} → Result A OperationRefusal → Deed A
 answered (Ok a) = give a
 answered (Err refusal) = refuse (of_operation refusal) []
 
--- what a test of arguments answers, or its refusal
+-- Returns the value of a check of arguments, or its refusal.
 unfoldable pub fitting : {A : Type 0} → Result A Refusal → Deed A
 fitting (Ok a) = give a
 fitting (Err refusal) = refuse refusal []
 
--- refused unless it is true
+-- Refuses the call unless a condition is true.
 unfoldable pub need : Bool → Refusal → List ℕ → Deed (Unit {0})
 need true refusal detail = give tt
 need false refusal detail = refuse refusal detail
 
--- whether a file is there
+-- Returns whether a file is present.
 unfoldable pub there : List ℕ → Deed Bool
 there path = do
   bytes ← ask path
   give (is_some bytes)
 
--- a file that has to be there
+-- Refuses the call unless a file is present (E14).
 unfoldable pub required : List ℕ → Deed (Unit {0})
 required path = do
   found ← there path

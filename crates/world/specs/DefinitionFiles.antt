@@ -1,4 +1,4 @@
--- Definition files: their bytes, and the statements that they spell.
+-- Defines how build files are read: from bytes to statements.
 use Rattle.std.specs.Prelude.{ℕ, ◌+◌, Bool, true, false, List, [], take, count_by, nat_eq, nat_le, length, Result, Ok, Err, refl}
 use Rattle.std.specs.Str.{is_utf8}
 use Rattle.std.specs.Str.Lossy.{utf8_valid_len}
@@ -13,35 +13,37 @@ use Rattle.support.specs.Limits.{text_bytes}
 use Rattle.world.specs.World.{with_line}
 use Rattle.world.specs.Deed.{Deed, give, refuse, change, ◌>>=◌, need}
 
--- the bytes of a definition file
+-- The most bytes of a build file.
 abbrev pub most_bytes : ℕ
 most_bytes = text_bytes
 
--- the line of the byte at a place
+-- Returns the line of the byte at an offset.
 abbrev pub line_at : List ℕ → ℕ → ℕ
 line_at bytes at = 1 + count_by (nat_eq 10) (take at bytes)
 
+-- Returns the refusal for a kind of syntax fault.
 abbrev pub refusal_of : FaultKind → Refusal
 refusal_of kinds.Token = refusals.Token
 refusal_of kinds.Grammar = refusals.Grammar
 refusal_of kinds.Nesting = refusals.Nesting
 
--- a refusal at a line of the present file
+-- Refuses the call at a line of the present file.
 unfoldable pub refuse_line : {A : Type 0} → ℕ → Refusal → Deed A
 refuse_line line refusal = do
   _ ← change (with_line line) (λ facts. refl)
   refuse refusal []
 
+-- Returns the statements of a parsed text, or refuses its syntax fault.
 unfoldable pub tree_or_fault : Result FileTree SyntaxFault → Deed Statements
 tree_or_fault (Ok tree) = give (statements tree)
 tree_or_fault (Err fault) = refuse_line fault.line (refusal_of fault.kind)
 
--- the statements that a text spells, by whether it is UTF-8
+-- Returns the statements of a text, or E1 if it is not UTF-8.
 unfoldable pub spelled_by : Bool → List ℕ → Deed Statements
 spelled_by true bytes = tree_or_fault (parsed bytes)
 spelled_by false bytes = refuse_line (line_at bytes (utf8_valid_len bytes)) refusals.NotUtf8
 
--- The statements of the present definition file, which has these bytes: E22 where there are too many, then E1, then E2 to E4.
+-- Returns the statements of the present build file from its bytes. Refuses E22 if there are too many bytes, then E1, then E2 to E4.
 unfoldable pub spelled : List ℕ → Deed Statements
 spelled bytes = do
   _ ← need (nat_le (length bytes) most_bytes) refusals.Limit []

@@ -1,9 +1,9 @@
--- How reading a file may stop.
+-- Says how reading a file may stop.
 use Rattle.std.specs.Prelude.{Result, Ok, Err}
 use Rattle.world.specs.declared.stop.Stop.{Stop}
 use Rattle.world.specs.declared.stop.Stop.TheVariants as stops
 
--- it comes to a value, or stops by a device or for want of memory
+-- Holds if reading ended with a value, stopped at a device, or ran out of memory.
 abbrev pub IsNoFault : {B : Type 0} → Result B Stop → Type 0
 IsNoFault (Ok x) = Unit {0}
 IsNoFault (Err (stops.Refused fault)) = ⊥

@@ -1,19 +1,21 @@
--- Where a call stands: below which roots, in which folder of the tree, and behind which targets.
+-- Describes the place of a call: the roots, the folder, and the targets declared before it.
 use Rattle.std.specs.Prelude.{ℕ, List}
 use Rattle.build.specs.edge.Texts.{Path}
 use Rattle.build.specs.Libraries.{LinkedData, linked_of}
 use Rattle.world.specs.World.{Facts}
 
+-- The place of a call.
 pub record HereData : Type 0 where
-  -- absolute paths
+  -- Absolute paths.
   pub source_root : Path
   pub build_root : Path
-  -- how many folders the build folder lies below the source root
+  -- How many levels the build directory is below the source root.
   pub depth : ℕ
-  -- the folder of the definition file, empty for the root
+  -- The folder of the build file, empty for the root.
   pub folder : Path
   pub earlier : List LinkedData
 
+-- Returns the place of a call in the present build file.
 abbrev pub here_of : Facts → HereData
 here_of facts = record {
   source_root = facts.settings.source_root;

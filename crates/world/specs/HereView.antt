@@ -1,8 +1,9 @@
--- Where a call stands, without where it lies in memory.
+-- Defines the view of the place of a call.
 use Rattle.build.specs.LinkedViews.{linked_views}
 use Rattle.world.specs.Here.{HereData}
 use Rattle.world.specs.declared.caller.here.Here.{Here}
 
+-- Returns the plain data of the place of a call.
 abbrev pub here_view : Here → HereData
 here_view h = record {
   source_root = h.source_root.now;

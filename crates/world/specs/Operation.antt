@@ -1,4 +1,4 @@
--- The numbers and words of refusals.
+-- Translates refusals of values and of the project into refusals of a run.
 use Rattle.values.specs.declared.refusal.Refusal.{Refusal as OperationRefusal}
 use Rattle.values.specs.declared.refusal.Refusal.TheVariants as operation
 use Rattle.build.specs.declared.project.refusal.Refusal.{Refusal as ProjectRefusal}
@@ -6,7 +6,7 @@ use Rattle.build.specs.declared.project.refusal.Refusal.TheVariants as project
 use Rattle.support.specs.declared.faults.refusal.Refusal.{Refusal}
 use Rattle.support.specs.declared.faults.refusal.Refusal.TheVariants as refusals
 
--- the refusal that an operation on values is
+-- Returns the refusal of a run for that of an operation on values.
 abbrev pub of_operation : OperationRefusal → Refusal
 of_operation operation.Type = refusals.Type
 of_operation operation.Range = refusals.Range
@@ -16,7 +16,7 @@ of_operation operation.Absent = refusals.Absent
 of_operation operation.Duplicate = refusals.Duplicate
 of_operation operation.Limit = refusals.Limit
 
--- the refusal that one of the project is
+-- Returns the refusal of a run for that of the project.
 abbrev pub of_project : ProjectRefusal → Refusal
 of_project project.Arguments = refusals.Arguments
 of_project project.Missing = refusals.FileMissing

@@ -1,4 +1,4 @@
--- Plans: what evaluation does. A plan reads and changes the world by deeds, and beside them ends rules and enters folders.
+-- Defines plans: what evaluation does. A plan reads and changes the world by deeds; it also ends rules and enters folders.
 use Rattle.std.specs.Prelude.{ℕ, List, [], Result, Ok, Err, refl}
 use Rattle.values.specs.declared.refusal.Refusal.{Refusal as OperationRefusal}
 use Rattle.world.specs.Operation.{of_operation}
@@ -7,21 +7,23 @@ use Rattle.world.specs.Run.{Act, ran, Done, pure, with_end, follow}
 use Rattle.world.specs.Deed.{Files, Deed, give as give_deed, refuse as refuse_deed, change, perform}
 use Rattle.support.specs.declared.faults.refusal.Refusal.{Refusal}
 
+-- A plan, made from these steps.
 pub data Plan : Type 0 → Type 1 where
   deed : {A : Type 0} → Deed A → Plan A
-  -- the rule of a node or of a round, which has ended after this
+  -- Ends the rule of a node or of a loop round after this plan.
   ruled : {A : Type 0} → Plan A → Plan A
-  -- a folder counts as entered
+  -- Marks a folder as entered.
   enter : List ℕ → Plan (Unit {0})
-  -- the folders entered
+  -- Returns the folders entered.
   entered : Plan (List (List ℕ))
   next : {A B : Type 0} → Plan A → (A → Plan B) → Plan B
 
 infixl 10 ◌>>=◌
+-- Returns one plan followed by another.
 abbrev pub ◌>>=◌ : {A B : Type 0} → Plan A → (A → Plan B) → Plan B
 first >>= others = next first others
 
--- the act that a plan is
+-- Returns the act of a plan.
 abbrev pub carry : {A : Type 0} → Files → Plan A → Act A
 carry files (deed d) w = perform files d w
 carry files (ruled p) w = with_end (carry files p w)
@@ -31,18 +33,19 @@ carry files (next first others) w = follow (carry files first w) (λ a. carry fi
 
 -- ---- small plans
 
+-- Returns a value.
 abbrev pub give : {A : Type 0} → A → Plan A
 give a = deed (give_deed a)
 
--- what is done next is done at this line
+-- Makes a line the present one.
 abbrev pub at : ℕ → Plan (Unit {0})
 at line = deed (change (with_line line) (λ facts. refl))
 
--- a refusal at a line, of this name, path or text
+-- Refuses a line, with a name, path or text as detail.
 abbrev pub refuse : {A : Type 0} → ℕ → Refusal → List ℕ → Plan A
 refuse line refusal detail = at line >>= λ _. deed (refuse_deed refusal detail)
 
--- what an operation on values answers, or its refusal at a line
+-- Returns the value of an operation, or its refusal at a line.
 abbrev pub answered : {A : Type 0} → ℕ → Result A OperationRefusal → Plan A
 answered line (Ok a) = give a
 answered line (Err refusal) = refuse line (of_operation refusal) []

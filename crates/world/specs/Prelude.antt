@@ -1,4 +1,4 @@
--- What the clauses of calls speak of.
+-- Collects the names that contracts of calls use.
 pub use Rattle.arguments.specs.Arguments.{arguments_data}
 pub use Rattle.values.specs.Prelude.{Answers, data_of, items_of, string_in, within, within_bytes}
 pub use Rattle.world.specs.Answering.{Refuses}

@@ -1,4 +1,4 @@
--- The world in which a run begins.
+-- Defines the world in which a run begins.
 use Rattle.std.specs.Prelude.{List, [], None, false, codes}
 use Rattle.machine.specs.machine_file.Files.{Section}
 use Rattle.build.specs.project.World.{new_world}
@@ -6,6 +6,7 @@ use Rattle.build.specs.Data.{FactsData, FlagsData}
 use Rattle.world.specs.Settings.{SettingsData}
 use Rattle.world.specs.World.{World}
 
+-- The flags of a project before `project` is called.
 abbrev pub no_flags : FlagsData
 no_flags = record {
   warning_level = 0;
@@ -17,7 +18,7 @@ no_flags = record {
   c_link_args = [];
 }
 
--- what is known of a project before `project` is called: the folders
+-- Returns what is known of a project before `project` is called: the directories.
 abbrev pub unnamed : SettingsData → FactsData
 unnamed s = record {
   name = [];
@@ -32,7 +33,8 @@ unnamed s = record {
   options = [];
 }
 
--- at the first line of the root file: no variable, nothing declared, nothing entered, nothing looked at and nothing asked
+-- Returns the first world, at the first line of the root file: there are no variables or declarations, and nothing was entered, looked at
+-- or asked.
 abbrev pub first_world : SettingsData → List Section → World
 first_world s machine = record {
   facts = record {

@@ -1,4 +1,4 @@
--- What a store is seen as, and the world that it keeps.
+-- Defines the view of a store, and the world that it keeps.
 use Rattle.std.specs.Prelude.{ℕ, Bool, List, [], Option, Some, None, option_map, option_and_then, slice_index_or}
 use Rattle.code.specs.Names.{number_in}
 use Rattle.values.specs.Data.{Data}
@@ -13,7 +13,7 @@ use Rattle.template.specs.Config.{Configuration}
 use Rattle.world.specs.Settings.{SettingsData}
 use Rattle.world.specs.World.{Asked, World, Facts, with_facts}
 
--- the world with the table of names, and the value of each variable in the slot of its name's number
+-- The world with the table of names. The value of each variable is in the slot with the number of its name.
 pub record Kept : Type 0 where
   pub file : List ℕ
   pub folder : List ℕ
@@ -30,19 +30,20 @@ pub record Kept : Type 0 where
   pub looked : List (List ℕ)
   pub asked : List Asked
 
--- the options, where there are any yet
+-- Returns the options, if they are already set.
 abbrev pub options_of : Option Options → List Setting
 options_of None = []
 options_of (Some options) = options_in options
 
--- the value in a slot
+-- Returns the value in a slot.
 abbrev pub slot_value : List (Option Value) → ℕ → Option Data
 slot_value slots number = option_map data_of (slice_index_or slots number None)
 
--- the variables by their names
+-- Returns the variables by name.
 abbrev pub kept_variables : List (List ℕ) → List (Option Value) → List ℕ → Option Data
 kept_variables names slots name = option_and_then (slot_value slots) (number_in name names)
 
+-- Returns the world of a store.
 abbrev pub world_of : Kept → World
 world_of k = record {
   facts = record {
@@ -62,6 +63,6 @@ world_of k = record {
   asked = k.asked;
 }
 
--- the facts change
+-- Changes the facts of a world.
 abbrev pub changing : (Facts → Facts) → World → World
 changing f w = with_facts w (f w.facts)

@@ -1,41 +1,42 @@
--- What a run leaves of itself: the steps that the outputs were asked to take, and the ends of rules, in order.
+-- Defines the marks of a run, in order: the steps sent to the outputs, and the ends of rules.
 use Rattle.std.specs.Prelude.{◌≡◌, ℕ, ◌+◌, List, [], ◌∷◌, ◌++◌, true}
 use Rattle.code.specs.Draft.{IsFront}
 use Rattle.ports.specs.Outputs.{OutputState, Step, Sends}
 
--- a step of the outputs, or the end of the rule of a node or a round
+-- A mark is a step sent to the outputs, or the end of the rule of a node or a loop round.
 pub data Mark : Type 0 where
   Told : Step → Mark
   Ended : Mark
 
--- what the outputs are asked to take
+-- Returns the steps sent to the outputs.
 abbrev pub steps_of : List Mark → List Step
 steps_of [] = []
 steps_of (Told s ∷ ms) = s ∷ steps_of ms
 steps_of (Ended ∷ ms) = steps_of ms
 
--- how many rules have ended
+-- Returns how many rules have ended.
 abbrev pub ends_of : List Mark → ℕ
 ends_of [] = 0
 ends_of (Told s ∷ ms) = ends_of ms
 ends_of (Ended ∷ ms) = 1 + ends_of ms
 
--- what the outputs are seen as, how often the counter was raised, and the table of names, which only grows
+-- What marks change: the view of the outputs, the counter, and the table of names, which only grows.
 pub record Seen : Type 0 where
   pub out : OutputState
   pub ticks : ℕ
   pub names : List (List ℕ)
 
+-- Returns what marks change, from its three parts.
 abbrev pub seen : OutputState → ℕ → List (List ℕ) → Seen
 seen out ticks names = record { out = out; ticks = ticks; names = names }
 
--- these marks are new
+-- Holds if exactly these marks were added.
 pub record Adds (old : Seen) (marks : List Mark) (new : Seen) : Type 0 where
   pub sent : Sends old.out new.out (steps_of marks) true
   pub ticks : new.ticks ≡ old.ticks + ends_of marks
   pub names : IsFront old.names new.names
 
--- a beginning of these marks is new
+-- Holds if a prefix of these marks was added.
 pub record Begins (these : List Mark) (old new : Seen) : Type 0 where
   pub made : List Mark
   pub left : List Mark

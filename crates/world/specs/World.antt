@@ -1,4 +1,4 @@
--- The world of a run: what its definition files are evaluated in.
+-- Defines the world in which build files are evaluated.
 use Rattle.std.specs.Prelude.{◌≡◌, ℕ, Bool, true, false, List, [], ◌∷◌, ◌++◌, Option, if◌then◌else◌}
 use Rattle.std.specs.Str.{bytes_eq}
 use Rattle.values.specs.Data.{Data}
@@ -14,32 +14,32 @@ use Rattle.build.specs.Data.{FactsData}
 use Rattle.template.specs.Config.{Configuration}
 use Rattle.world.specs.Settings.{SettingsData}
 
--- what a call may read and change
+-- What a call may read and change.
 pub record Facts : Type 0 where
-  -- the present definition file, its folder, and the line in it
+  -- The present build file, its folder, and the line in it.
   pub file : List ℕ
   pub folder : List ℕ
   pub line : ℕ
-  -- what a user sets
+  -- What a user sets.
   pub settings : SettingsData
-  -- the variables by their names
+  -- The variables by name.
   pub variables : List ℕ → Option Data
-  -- the options with their values; none before `project` is called
+  -- The options with their values, empty before `project` is called.
   pub options : List Setting
-  -- configuration data by their numbers
+  -- Configuration data by number.
   pub configurations : List Configuration
-  -- whether `project` was called, and the project so far
+  -- Whether `project` was called, and the project so far.
   pub is_begun : Bool
   pub project : WorldData
 
--- a question that was asked of the machine file, and the place of the call that asked it
+-- A question that was asked of the machine file, and the place of the call that asked it.
 pub record Asked : Type 0 where
   pub question : Question
   pub file : List ℕ
   pub line : ℕ
 
--- The facts, the sections of the machine file, which no fact tells, and the folders entered, the paths looked at and the questions asked,
--- each in order.
+-- The facts, and the sections of the machine file, which the facts do not contain. Then the folders entered, the paths looked at and the
+-- questions asked, each in order.
 pub record World : Type 0 where
   pub facts : Facts
   pub machine : List Section
@@ -47,82 +47,89 @@ pub record World : Type 0 where
   pub looked : List (List ℕ)
   pub asked : List Asked
 
+-- Returns a world with other facts.
 abbrev pub with_facts : World → Facts → World
 with_facts w facts = record w { facts = facts }
 
+-- Returns the world after a folder was entered.
 abbrev pub entering : World → List ℕ → World
 entering w folder = record w { entered = w.entered ++ folder ∷ [] }
 
--- a fault at the present place
+-- Returns a fault at the present place.
 abbrev pub fault_here : World → Refusal → List ℕ → FaultData
 fault_here w refusal detail = record { file = w.facts.file; line = w.facts.line; refusal = refusal; detail = detail }
 
--- ---- what changes of the facts
+-- ---- changes of the facts
 
--- another line of the present file
+-- Returns the facts at another line of the present file.
 abbrev pub with_line : ℕ → Facts → Facts
 with_line line f = record f { line = line }
 
--- another file and its folder, at a line
+-- Returns the facts at a line of another file.
 abbrev pub with_place : List ℕ → List ℕ → ℕ → Facts → Facts
 with_place file folder line f = record f { file = file; folder = folder; line = line }
 
+-- Returns the facts with other variables.
 abbrev pub with_variables : (List ℕ → Option Data) → Facts → Facts
 with_variables variables f = record f { variables = variables }
 
+-- Returns the facts with other options.
 abbrev pub with_options : List Setting → Facts → Facts
 with_options options f = record f { options = options }
 
+-- Returns the facts with other configuration data.
 abbrev pub with_configurations : List Configuration → Facts → Facts
 with_configurations configurations f = record f { configurations = configurations }
 
+-- Returns the facts with another project.
 abbrev pub with_project : WorldData → Facts → Facts
 with_project project f = record f { project = project }
 
--- a variable takes a value, or loses the one that it has
+-- Returns the variables with one of them set to a value, or unset.
 abbrev pub variables_with : (List ℕ → Option Data) → List ℕ → Option Data → List ℕ → Option Data
 variables_with variables name value other = if bytes_eq name other then value else variables other
 
+-- Returns the facts with a variable set to a value, or unset.
 abbrev pub with_variable : List ℕ → Option Data → Facts → Facts
 with_variable name value f = with_variables (variables_with f.variables name value) f
 
 -- ---- the project
 
--- a project of which nothing is declared yet; the paths that were looked at before stay noted
+-- Returns a project without declarations. The paths that were looked at before stay noted.
 abbrev pub begun_project : FactsData → WorldData → WorldData
 begun_project facts before =
     record (new_world facts) { present = first_kept before.present; absent = first_kept before.absent }
 
--- `project` was called, and says this of the project
+-- Returns the facts after `project` was called with these facts of the project.
 abbrev pub begun : FactsData → Facts → Facts
 begun facts f = record f { is_begun = true; project = begun_project facts f.project }
 
--- the project takes note of a path that was looked at: a file is there, or not
+-- Returns the project after it notes a path as present or absent.
 abbrev pub noted : List ℕ → Bool → WorldData → WorldData
 noted path true project = with_present project path
 noted path false project = with_absent project path
 
--- the paths that the project has taken note of: those that are there, and those that are not
+-- Returns the paths that the project has noted as present, and those noted as absent.
 abbrev pub noted_in : WorldData → List (List ℕ) × List (List ℕ)
 noted_in project = (project.present, project.absent)
 
--- these, and the paths that `configure_file` makes
+-- Returns the noted paths, and the paths that `configure_file` makes.
 abbrev pub paths_in : WorldData → (List (List ℕ) × List (List ℕ)) × List (List ℕ)
 paths_in project = (noted_in project, project.outputs)
 
--- a change of the project that leaves all of these alone
+-- Holds if a change of the project keeps all of these paths.
 abbrev pub KeepsPaths : (WorldData → WorldData) → Type 0
 KeepsPaths f = (project : WorldData) → paths_in (f project) ≡ paths_in project
 
--- such a change of the facts
+-- Holds if a change of the facts keeps all of these paths.
 abbrev pub LeavesPaths : (Facts → Facts) → Type 0
 LeavesPaths f = (facts : Facts) → paths_in (f facts).project ≡ paths_in facts.project
 
--- the project becomes this of what it was
+-- Changes the project by `f`.
 abbrev pub declaring : (WorldData → WorldData) → Facts → Facts
 declaring f facts = with_project (f facts.project) facts
 
--- a path is looked at
+-- Returns the world after a path was looked at.
 abbrev pub looking : World → List ℕ → Bool → World
 looking w path is_there = record {
   facts = with_project (noted path is_there w.facts.project) w.facts;
@@ -134,10 +141,10 @@ looking w path is_there = record {
 
 -- ---- the machine file
 
--- a question that is asked at the present place
+-- Returns a question asked at the present place.
 abbrev pub asked_here : World → Question → Asked
 asked_here w question = record { question = question; file = w.facts.file; line = w.facts.line }
 
--- a question is asked
+-- Returns the world after a question was asked.
 abbrev pub asking : World → Question → World
 asking w question = record w { asked = w.asked ++ asked_here w question ∷ [] }

@@ -1,4 +1,4 @@
-//! What was asked of the machine file.
+//! Defines the questions asked of the machine file.
 
 use machine::machine_file::Question;
 
@@ -6,7 +6,7 @@ use machine::machine_file::Question;
 #[derive(Drop)]
 pub struct Asked {
     pub question: Question,
-    /// The definition file.
+    /// The build file.
     pub file: String,
     /// The line, from 1.
     pub line: usize,

@@ -1,4 +1,4 @@
-//! What the code of a function works on: the world of a run and its devices.
+//! Defines what the code of a function works on: the world of a run and its devices.
 ghost use Rattle.std.specs.Prelude.{◌≡◌, string_bytes};
 ghost use Rattle.world.specs.Answering.{IsAnswered, IsFitting, Refuses};
 ghost use Rattle.machine.specs.machine_file.Questions.{Key, answer_to, plain};
@@ -22,7 +22,7 @@ use ports::{Outputs, Tree, log_all};
 use std::alloc::Global;
 use support::faults::Refusal;
 
-/// What a call works on.
+/// The context of a call: the world of the run and the devices.
 #[derive(Drop)]
 pub struct Caller<'a, T, O> {
     pub alloc: Global,
@@ -34,7 +34,7 @@ pub struct Caller<'a, T, O> {
 impl<'a, T: Tree, O: Outputs> Caller<'a, T, O> {
     ghost use Rattle.world.specs.Caller.{Does, MayFail};
 
-    /// Refuses the call, for this name, path or text.
+    /// Refuses the call at the present line, with a name, path or text as detail.
     pub fn refuse<A>(&self, refusal: Refusal, detail: &str) -> Result<A, Stop>
         ensures { Refuses (fault_here (world_of self.now.store.now) refusal detail.now) result }
     {
@@ -42,7 +42,7 @@ impl<'a, T: Tree, O: Outputs> Caller<'a, T, O> {
             .refuse(self.alloc, self.store.line(), refusal, detail)
     }
 
-    /// What an operation on values answered, or the stop of its refusal.
+    /// Returns the value of an operation on values, or stops with its refusal.
     pub fn answer<A>(&self, answer: Result<A, values::Refusal>) -> Result<A, Stop>
         ensures { IsAnswered (world_of self.now.store.now) answer result }
     {
@@ -52,7 +52,7 @@ impl<'a, T: Tree, O: Outputs> Caller<'a, T, O> {
         }
     }
 
-    /// What a test of arguments answered, or the stop of its refusal.
+    /// Returns the value of a check of arguments, or stops with its refusal.
     pub fn fitting<A>(&self, answer: Result<A, Refusal>) -> Result<A, Stop>
         ensures { IsFitting (world_of self.now.store.now) answer result }
     {
@@ -62,7 +62,7 @@ impl<'a, T: Tree, O: Outputs> Caller<'a, T, O> {
         }
     }
 
-    /// Refuses the call unless it is true.
+    /// Refuses the call unless `is_so` is true.
     pub fn need(&self, is_so: bool, refusal: Refusal, detail: &str) -> Result<(), Stop>
         ensures { Does T.seen O.seen (λ u. u) (need is_so refusal detail.now) self.now result self.now }
     {
@@ -73,7 +73,7 @@ impl<'a, T: Tree, O: Outputs> Caller<'a, T, O> {
         }
     }
 
-    /// Whether a file is at this path, which counts as looked at.
+    /// Returns whether a file is at this path, which counts as looked at.
     pub fn is_there(&mut self, path: &str) -> Result<bool, Stop>
         requires { MayFail T.seen O.seen self.old }
         ensures { Does T.seen O.seen (λ b. b) (there path.now) self.old result self.new }
@@ -84,7 +84,7 @@ impl<'a, T: Tree, O: Outputs> Caller<'a, T, O> {
         Ok(found)
     }
 
-    /// Refuses the call unless a file is at this path.
+    /// Refuses the call unless a file is at this path (E14).
     pub fn require_file(&mut self, path: &str) -> Result<(), Stop>
         requires { MayFail T.seen O.seen self.old }
         ensures { Does T.seen O.seen (λ u. u) (required path.now) self.old result self.new }
@@ -93,7 +93,7 @@ impl<'a, T: Tree, O: Outputs> Caller<'a, T, O> {
         self.require_own_file(path)
     }
 
-    /// The same of a path that is given away.
+    /// Refuses the call unless a file is at this path, which is passed by value.
     pub fn require_own_file(&mut self, path: String) -> Result<(), Stop>
         requires { MayFail T.seen O.seen self.old }
         ensures { Does T.seen O.seen (λ u. u) (required (string_bytes path)) self.old result self.new }
@@ -108,7 +108,7 @@ impl<'a, T: Tree, O: Outputs> Caller<'a, T, O> {
         Ok(())
     }
 
-    /// Asks a question of the machine file; the answer is then read off `store.machine()`.
+    /// Asks a question of the machine file. The answer is then in `store.machine()`.
     pub fn ask(&mut self, question: Question) -> Result<(), Stop>
         ensures deed { Does T.seen O.seen (λ u. answer_to self.old.store.now.machine (question_in question).topic)
             (consult (question_in question)) self.old result self.new }
@@ -118,7 +118,7 @@ impl<'a, T: Tree, O: Outputs> Caller<'a, T, O> {
         Ok(())
     }
 
-    /// Asks for the value at a key of a section of the machine file, beside which nothing is said.
+    /// Asks the machine file for the value of a key of a section, as a question without further facts.
     pub fn ask_key(&mut self, section: &str, key: &str) -> Result<(), Stop>
         ensures deed { Does T.seen O.seen (λ u. answer_to self.old.store.now.machine (Key section.now key.now))
             (consult (plain (Key section.now key.now))) self.old result self.new }
@@ -128,7 +128,7 @@ impl<'a, T: Tree, O: Outputs> Caller<'a, T, O> {
         self.ask(Question::plain(self.alloc, topic))
     }
 
-    /// Logs bytes.
+    /// Writes text to the log.
     pub fn say(&mut self, text: &str) -> Result<(), Stop>
         requires { MayFail T.seen O.seen self.old }
         ensures { Does T.seen O.seen (λ u. u) (say text.now) self.old result self.new }

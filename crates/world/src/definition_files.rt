@@ -1,4 +1,4 @@
-//! Definition files: what is found at their paths, how their bytes are read, and where they are refused.
+//! Finds build files, reads their bytes, and refuses bad ones.
 mod finding;
 mod reading;
 

@@ -1,20 +1,22 @@
-//! What definition files are evaluated in, and what evaluation is described by.
+//! Defines the world in which build files are evaluated, and the terms in which evaluation is described.
 //!
 //! A *world* has the present place, the variables, the project so far, the folders entered and the paths looked at. What a function does
-//! on its evaluated arguments is a *deed*, and what evaluation does is a *plan*: descriptions made from a few steps, which compute to a
-//! *run*, that is a value or a fault, the world after it, and the *marks* that it leaves: the steps that the outputs are asked to take, and
-//! the ends of rules. Since a deed asks the tree of files by one step alone, and the machine file by another, and makes an output by a
-//! third, and only a plan ends rules and enters folders, four laws hold of all of them by one induction each: what a run depends on, how
-//! many rules it ends, that the project notes the paths that it looks at, and that each output is closed.
+//! with its evaluated arguments is a *deed*, and what evaluation does is a *plan*. Both are descriptions made from a few steps, which
+//! compute to a *run*. A run is a value or a fault, the world after it, and the *marks* that it leaves: the steps sent to the outputs, and
+//! the ends of rules.
 //!
-//! The code stands beside it. A [`Store`] keeps the world, [`Steps`] counts the rules, and a [`Caller`] is what the code of a function
-//! works on: a store and the devices. How an answer of the code stands to the run of a deed is one relation, `Carries` of
-//! `specs/Answering.antt`.
+//! A deed reads the file tree by one step alone, reads the machine file by another, and makes an output by a third. Only a plan ends rules
+//! and enters folders. So four laws hold of all of them, each proved by one induction. They say what a run depends on, how many rules it
+//! ends, that the project notes the paths that it looks at, and that each output is closed.
+//!
+//! The code works alongside these definitions. A [`Store`] keeps the world, [`Steps`] counts the rules, and a [`Caller`] is what the code
+//! of a function works on: a store and the devices. One relation, `Carries` of `specs/Answering.antt`, connects a result of the code with
+//! the run of a deed.
 //!
 //! # Decisions
 //!
-//! **The steps of a run are counted by a ledger.** The counter of steps takes no bytes: it is a book and a share of `std::sync::ledger`,
-//! whose total only `tick` raises. A machine number would need a bound on the steps of a run.
+//! **A ledger counts the steps of a run.** The counter of steps takes no bytes. It is a book and a share of `std::sync::ledger`, whose
+//! total only `tick` raises. A machine integer would need a bound on the steps of a run.
 #![tactic(auto)]
 
 mod asked;

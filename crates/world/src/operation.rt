@@ -1,10 +1,10 @@
-//! Refusals of operations on values.
+//! Translates refusals of operations on values.
 ghost use Rattle.std.specs.Prelude.{◌≡◌};
 ghost use Rattle.world.specs.Operation.{of_operation};
 
 use support::faults::Refusal;
 
-/// The refusal that an operation on values is.
+/// Returns the refusal of a run for that of an operation on values.
 pub fn of_operation(refusal: values::Refusal) -> Refusal
     ensures { result ≡ of_operation refusal }
 {

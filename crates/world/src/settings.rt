@@ -1,4 +1,4 @@
-//! What a user sets for a run.
+//! Defines what a user sets for a run.
 ghost use Rattle.std.specs.Prelude.{◌≡◌, ◌≤◌, IfOk, IsTrue, map, string_bytes};
 ghost use Rattle.support.specs.paths.Below.{is_absolute};
 
@@ -7,13 +7,13 @@ use std::alloc::{AllocError, Global};
 use support::paths::{depth_of, is_absolute, path_below, tidy_folder};
 use thiserror::Error;
 
-/// Why there are no [`Settings`] of these texts.
+/// The reason why there are no [`Settings`] for some arguments.
 #[derive(Clone, Copy, Debug, PartialEq, Eq, Drop, Error)]
 pub enum SettingsFault {
-    /// The source root doesn't begin with `/`.
+    /// The source root does not begin with `/`.
     #[error("the source root is no absolute path")]
     Root,
-    /// The build folder is absolute, has a part `..`, or has no part or more than 64.
+    /// The build directory is absolute, has a part `..`, or has no part or more than 64.
     #[error("the build folder is no relative path of 1 to 64 parts, none of them `..`")]
     Folder,
     /// Memory ran out.
@@ -31,9 +31,9 @@ impl From<AllocError> for SettingsFault {
     }
 }
 
-/// What a user sets for a run: the option words, the source root and the build folder.
+/// The settings of a run: the option arguments, the source root and the build directory.
 ///
-/// They can't be wrong: both roots are absolute, and the build folder lies 1 to 64 folders below the source root.
+/// They are always valid: both roots are absolute, and the build directory is 1 to 64 levels below the source root.
 #[derive(Drop)]
 pub struct Settings {
     words: Vec<String>,
@@ -50,9 +50,10 @@ impl Settings {
     ghost use Rattle.world.specs.MakingSettings.{MakesSettings};
     ghost use Rattle.world.specs.SettingsView.{settings_view};
 
-    /// The settings of a run in the folder `source_root`, an absolute path, for the build folder `build_folder`, relative to it: 1 to 64
-    /// parts divided by `/`, none of them `..`. Empty parts and `.` go. `words` are option words, `name=value` each, in the order in
-    /// which they were given.
+    /// Returns the settings of a run in `source_root`, an absolute path, with the build directory `build_folder`, relative to it.
+    ///
+    /// `build_folder` has 1 to 64 parts divided by `/`, none of them `..`. Empty parts and `.` are removed. `words` are option arguments,
+    /// `name=value` each, in the order in which they were given.
     pub fn new(
         alloc: Global,
         source_root: &str,
@@ -76,7 +77,7 @@ impl Settings {
         })
     }
 
-    /// The same settings.
+    /// Returns a copy of the settings.
     pub fn copy(&self, alloc: Global) -> Result<Settings, AllocError>
         ensures { IfOk result (λ s. settings_view s ≡ settings_view self.now) }
     {
@@ -88,14 +89,14 @@ impl Settings {
         })
     }
 
-    /// The option words, `name=value` each, in the order in which they were given.
+    /// Returns the option arguments, `name=value` each, in the order in which they were given.
     pub fn words(&self) -> &[String]
         ensures { map string_bytes result.now ≡ (settings_view self.now).words }
     {
         &self.words
     }
 
-    /// How many folders the build folder lies below the source root, from 1 to 64.
+    /// Returns how many levels the build directory is below the source root, from 1 to 64.
     pub fn depth(&self) -> usize
         ensures value { result ≡ (settings_view self.now).depth }
         ensures some { 1 ≤ result }
@@ -104,7 +105,7 @@ impl Settings {
         self.depth
     }
 
-    /// The source root: an absolute path.
+    /// Returns the source root, an absolute path.
     pub fn source_root(&self) -> &str
         ensures value { result.now ≡ (settings_view self.now).source_root }
         ensures absolute { IsTrue (is_absolute result.now) }
@@ -112,7 +113,7 @@ impl Settings {
         self.source_root.as_str()
     }
 
-    /// The build folder: an absolute path.
+    /// Returns the build directory, an absolute path.
     pub fn build_root(&self) -> &str
         ensures value { result.now ≡ (settings_view self.now).build_root }
         ensures absolute { IsTrue (is_absolute result.now) }

@@ -1,3 +1,5 @@
+//! Counts the steps of a run.
+
 ghost use Rattle.std.specs.Prelude.{◌≡◌, ◌+◌, ◌<◌, ℕ};
 ghost use Rattle.world.specs.Counts.{EndsKeepUp};
 ghost use Rattle.world.specs.Gives.{is_ended};
@@ -6,7 +8,7 @@ use crate::stop::Stop;
 use std::marker::Model;
 use std::sync::ledger::{Blank, Book, Ledger, Share};
 
-/// How many steps a run has taken: one for the rule of each node. It takes no bytes, and only `tick` changes it.
+/// Counts the steps of a run: one for the rule of each node. The counter takes no bytes, and only `tick` changes it.
 #[derive(Drop)]
 pub struct Steps<L: Ledger> {
     book: Book<L>,
@@ -22,7 +24,7 @@ impl<L: Ledger> Model for Steps<L> {
 }
 
 impl<L: Ledger> Steps<L> {
-    /// One step more.
+    /// Counts one more step.
     pub fn tick(&mut self)
         ensures { self.new ≡ self.old + 1 }
     {
@@ -30,7 +32,7 @@ impl<L: Ledger> Steps<L> {
     }
 }
 
-/// No step yet, on a new ledger.
+/// Returns a counter at 0, on a new ledger.
 pub fn new_steps<L: Ledger>(blank: Blank) -> Steps<L>
     requires name { blank.name ≡ L.name }
     requires parts { blank.parts ≡ L.parts }
@@ -41,7 +43,7 @@ pub fn new_steps<L: Ledger>(blank: Blank) -> Steps<L>
     Steps { book, share }
 }
 
-/// Ticks where the rule of a node has ended, by a value or by a fault.
+/// Ticks if the rule of a node has ended, by a value or by a fault, and returns the result unchanged.
 pub fn end_rule<T, L: Ledger>(answer: Result<T, Stop>, steps: &mut Steps<L>) -> Result<T, Stop>
     ensures same { result ≡ answer }
     ensures ticks { steps.new ≡ steps.old + is_ended answer }
@@ -60,7 +62,7 @@ pub fn end_rule<T, L: Ledger>(answer: Result<T, Stop>, steps: &mut Steps<L>) -> 
     }
 }
 
-/// In a beginning of a run's marks at least as many rules have ended as there are marks that are less than the number of the steps in it.
+/// Proves that a prefix of a run's marks has at least as many ended rules as there are counts below the number of its steps.
 pub fn ends_keep_up()
     ensures { EndsKeepUp }
 {}

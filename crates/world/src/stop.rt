@@ -1,4 +1,4 @@
-//! Why a run came to no value.
+//! Lists the reasons why a run returned no value.
 ghost use Rattle.std.specs.Prelude.{◌≡◌};
 
 use ports::DeviceFault;
@@ -6,16 +6,16 @@ use std::alloc::{AllocError, AllocFailed};
 use support::faults::Fault;
 use thiserror::Error;
 
-/// Why an evaluation came to no value.
+/// The reason why an evaluation returned no value.
 #[derive(Debug, Drop, Error)]
 pub enum Stop {
-    /// The definitions are refused.
+    /// The build files are refused.
     #[error(transparent)]
     Refused(Fault),
     /// A device failed.
     #[error("a device failed")]
     Device,
-    /// No memory was left.
+    /// Memory ran out.
     #[error("out of memory")]
     Memory,
 }

@@ -1,4 +1,4 @@
-//! What a run keeps: its world.
+//! Keeps the world of a run.
 ghost use Rattle.std.specs.Prelude.{◌≡◌, ◌≢◌, ◌<◌, ◌≤◌, ◌+◌, ◌==◌, ℕ, IfOk, OnOk, None, Some, false, length};
 ghost use Rattle.std.specs.Prelude.{max, option_map, slice_index_or, string_bytes, [], bytes_eq, IsTrue};
 ghost use Rattle.std.specs.List.{list_any};
@@ -41,18 +41,18 @@ use syntax::tree::File;
 use template::ConfigData;
 use values::Value;
 
-/// A place in the definition files.
+/// A place in the build files.
 #[derive(Drop)]
 pub struct Place {
-    /// The definition file.
+    /// The build file.
     pub file: String,
-    /// The folder that it is of; the root's is empty.
+    /// The folder of the file, empty for the root.
     pub folder: String,
     /// The line, from 1.
     pub line: usize,
 }
 
-/// The world of a run. The value of each variable is in the slot of its name's number.
+/// The world of a run. The value of each variable is in the slot with the number of its name.
 pub struct Store {
     place: Place,
     settings: Settings,
@@ -121,7 +121,7 @@ impl Model for Store {
     ghost invariant = { λ s. length s.slots.items ≤ length s.names };
 }
 
-// Makes room for a variable.
+// Adds empty slots until there is one with this number.
 fn reach(slots: &mut Vec<Option<Value>>, number: usize) -> Result<(), AllocError>
     ensures same { (i : ℕ) → slice_index_or slots.new.items i None ≡ slice_index_or slots.old.items i None }
     ensures room { OnOk result (number < length slots.new.items) }
@@ -133,7 +133,7 @@ fn reach(slots: &mut Vec<Option<Value>>, number: usize) -> Result<(), AllocError
     Ok(())
 }
 
-// The value in a slot, shared.
+// Returns a shared copy of the value in a slot, if there is one.
 #[inline(always)]
 fn slot(slots: &[Option<Value>], number: usize) -> Result<Option<Value>, AllocError>
     ensures { IfOk result (λ v. option_map data_of v ≡ slot_value slots.now number) }
@@ -144,7 +144,7 @@ fn slot(slots: &[Option<Value>], number: usize) -> Result<Option<Value>, AllocEr
     }
 }
 
-// Takes the value out of a slot, where there is one.
+// Takes the value out of a slot, if there is one.
 fn take_value(slots: &mut Vec<Option<Value>>, number: usize) -> Option<Value>
     ensures value { option_map data_of result ≡ slot_value slots.old.items number }
     ensures same { (i : ℕ) → i ≢ number → slice_index_or slots.new.items i None ≡ slice_index_or slots.old.items i None }
@@ -158,7 +158,7 @@ fn take_value(slots: &mut Vec<Option<Value>>, number: usize) -> Option<Value>
     }
 }
 
-// What is known of a project before `project` is called.
+// Returns what is known of a project before `project` is called.
 fn unnamed_facts(alloc: Global, settings: &Settings) -> Result<Facts, AllocError>
     ensures { IfOk result (λ f. facts_view f ≡ unnamed (settings_view settings.now)) }
 {
@@ -191,7 +191,7 @@ fn no_flags(alloc: Global) -> Flags
 }
 
 impl Store {
-    /// The world in which a run begins, over a machine file that says this.
+    /// Returns the world in which a run begins, with this machine file.
     pub fn new(alloc: Global, settings: Settings, machine: Rc<Machine>) -> Result<Store, AllocError>
         ensures world { IfOk result (λ s. world_of s ≡ first_world (settings_view settings) (machine_in machine.value)) }
         ensures names { IfOk result (λ s. s.names ≡ []) }
@@ -219,28 +219,28 @@ impl Store {
 
     // ---- the place
 
-    /// The present definition file.
+    /// Returns the present build file.
     pub fn file(&self) -> &str
         ensures { result.now ≡ self.now.file }
     {
         self.place.file.as_str()
     }
 
-    /// The folder of the present definition file; the root's is empty.
+    /// Returns the folder of the present build file, empty for the root.
     pub fn folder(&self) -> &str
         ensures { result.now ≡ self.now.folder }
     {
         self.place.folder.as_str()
     }
 
-    /// The line of the present call.
+    /// Returns the line of the present call, from 1.
     pub fn line(&self) -> usize
         ensures { result ≡ self.now.line }
     {
         self.place.line
     }
 
-    /// Refuses what stands in a line of the present file, for this name, path or text.
+    /// Refuses a line of the present file, with a name, path or text as detail.
     #[cold]
     pub fn refuse<A>(
         &self,
@@ -257,7 +257,7 @@ impl Store {
         }
     }
 
-    /// What is done next is done at this line.
+    /// Makes a line the present one.
     pub fn at(&mut self, line: usize)
         ensures world { world_of self.new ≡ changing (with_line line) (world_of self.old) }
         ensures names { self.new.names ≡ self.old.names }
@@ -265,7 +265,7 @@ impl Store {
         self.place.line = line;
     }
 
-    /// What is done next is done at this place. Gives the place before.
+    /// Makes a place the present one, and returns the place before.
     pub fn go(&mut self, place: Place) -> Place
         ensures moved { world_of self.new
             ≡ changing (with_place (string_bytes place.file) (string_bytes place.folder) place.line) (world_of self.old) }
@@ -277,7 +277,7 @@ impl Store {
         mem::replace(&mut self.place, place)
     }
 
-    /// What a user sets.
+    /// Returns what the user sets.
     pub fn settings(&self) -> &Settings
         ensures { settings_view result.now ≡ self.now.settings }
     {
@@ -286,7 +286,7 @@ impl Store {
 
     // ---- variables
 
-    /// The code of a file, whose names are put into the table.
+    /// Returns the code of a file. Its names are added to the table.
     pub fn flatten(&mut self, alloc: Global, file: &File<'_>) -> Result<Code, AllocError>
         ensures tree { IfOk result (λ code. code_tree self.new.names code ≡ file_of file.now) }
         ensures count { IfOk result (λ code. code.names ≡ length self.new.names) }
@@ -296,7 +296,7 @@ impl Store {
         flatten(alloc, file, &mut self.names)
     }
 
-    /// The value of the variable of a number, which is that of a name.
+    /// Returns the value of the variable whose name has this number.
     #[inline(always)]
     pub fn value(&self, number: usize) -> Result<Option<Value>, AllocError>
         ensures { IfOk result (λ v. number < length self.now.names → option_map data_of v
@@ -308,14 +308,14 @@ impl Store {
         slot(&self.slots, number)
     }
 
-    /// The name with a number.
+    /// Returns the name with a number, and `""` if there is none.
     pub fn name(&self, number: usize) -> &str
         ensures { number < length self.now.names → result.now ≡ slice_index_or self.now.names number [] }
     {
         self.names.name(number).unwrap_or("")
     }
 
-    /// The value of the variable of a name.
+    /// Returns the value of the variable with a name.
     pub fn find(&self, name: &str) -> Result<Option<Value>, AllocError>
         ensures { IfOk result (λ v. option_map data_of v ≡ (world_of self.now).facts.variables name.now) }
     {
@@ -325,14 +325,14 @@ impl Store {
         }
     }
 
-    // Whether a number is that of a name.
+    // Returns whether a name has this number.
     fn is_named(&self, number: usize, name: &str) -> bool
         ensures { IsTrue result → (number < length self.now.names) × (slice_index_or self.now.names number [] ≡ name.now) }
     {
         number < self.names.len() && self.name(number) == name
     }
 
-    /// The value of the variable of a name. It needs no search where the name has this number.
+    /// Returns the value of the variable with a name. If the name has this number, no search is needed.
     pub fn find_at(&self, number: Option<usize>, name: &str) -> Result<Option<Value>, AllocError>
         ensures { IfOk result (λ v. option_map data_of v ≡ (world_of self.now).facts.variables name.now) }
     {
@@ -344,7 +344,7 @@ impl Store {
         self.find(name)
     }
 
-    /// The variable of a name, which may be new, takes a value.
+    /// Sets the variable with a name, which may be new, to a value.
     pub fn set(&mut self, name: &str, value: Value) -> Result<(), AllocError>
         ensures names { IsFront self.old.names self.new.names }
         ensures world { OnOk result (world_of self.new ≡ changing (with_variable name.now (Some (data_of value))) (world_of self.old)) }
@@ -355,7 +355,7 @@ impl Store {
         Ok(())
     }
 
-    /// The variable of a number takes a value.
+    /// Sets the variable whose name has this number to a value. A number without a name changes nothing.
     #[inline(always)]
     pub fn put(&mut self, number: usize, value: Value) -> Result<(), AllocError>
         ensures names { self.new.names ≡ self.old.names }
@@ -371,7 +371,7 @@ impl Store {
         Ok(())
     }
 
-    /// Takes the value of the variable of a number out of it, which then has none.
+    /// Takes the value of the variable whose name has this number, and unsets the variable.
     pub fn take(&mut self, number: usize) -> Option<Value>
         ensures value { number < length self.old.names
             → option_map data_of result ≡ (world_of self.old).facts.variables (slice_index_or self.old.names number []) }
@@ -383,7 +383,7 @@ impl Store {
         take_value(&mut self.slots, number)
     }
 
-    /// The variable of a name has no value any more.
+    /// Unsets the variable with a name.
     pub fn unset(&mut self, name: &str)
         ensures world { world_of self.new ≡ changing (with_variable name.now None) (world_of self.old) }
         ensures names { self.new.names ≡ self.old.names }
@@ -395,14 +395,14 @@ impl Store {
 
     // ---- the machine file and the options
 
-    /// What the machine file says.
+    /// Returns the machine file.
     pub fn machine(&self) -> &Machine
         ensures { machine_in result.now ≡ self.now.machine }
     {
         &self.machine
     }
 
-    /// Notes that a question is asked of the machine file, at the present place.
+    /// Records that a question is asked of the machine file, at the present place.
     pub fn ask(&mut self, alloc: Global, question: Question) -> Result<(), AllocError>
         ensures world { OnOk result (world_of self.new ≡ asking (world_of self.old) (question_in question)) }
         ensures machine { self.new.machine ≡ self.old.machine }
@@ -418,14 +418,14 @@ impl Store {
         Ok(())
     }
 
-    /// The questions that were asked of the machine file, in order.
+    /// Returns the questions that were asked of the machine file, in order.
     pub fn questions(&self) -> &[Asked]
         ensures { all_asked_in result.now ≡ self.now.asked }
     {
         &self.asked
     }
 
-    /// The value of the option of a name; it tells the option's type too.
+    /// Returns the value of the option with a name, which also shows the option's type.
     pub fn option(&self, name: &str) -> Option<&OptionValue>
         ensures { option_map (λ v. value_in v.now) result ≡ value_named self.now.options name.now }
     {
@@ -435,7 +435,7 @@ impl Store {
         }
     }
 
-    /// The text that the option of a name has; empty where there is no such option, or it is of another type.
+    /// Returns the text of the option with a name. The text is empty if there is no such option, or if it has another type.
     pub fn option_text(&self, name: &str) -> &str
         ensures { result.now ≡ option_text self.now.options name.now }
     {
@@ -445,7 +445,7 @@ impl Store {
         }
     }
 
-    /// The options have these values.
+    /// Sets the options.
     pub fn set_options(&mut self, options: Options)
         ensures world { world_of self.new ≡ changing (with_options (options_in options)) (world_of self.old) }
         ensures names { self.new.names ≡ self.old.names }
@@ -455,21 +455,21 @@ impl Store {
 
     // ---- folders and paths
 
-    /// Whether a folder was entered.
+    /// Returns whether a folder was entered.
     pub fn is_entered(&self, folder: &str) -> bool
         ensures { result ≡ list_any (bytes_eq folder.now) self.now.entered }
     {
         self.entered.number_of(folder).is_some()
     }
 
-    /// How many folders were entered.
+    /// Returns how many folders were entered.
     pub fn folders_entered(&self) -> usize
         ensures { result ≡ length self.now.entered }
     {
         self.entered.len()
     }
 
-    /// Notes that a folder is entered, which was not before.
+    /// Records that a folder is entered, which was not entered before.
     pub fn enter(&mut self, folder: &str) -> Result<(), AllocError>
         requires { list_any (bytes_eq folder.now) self.old.entered ≡ false }
         ensures world { OnOk result (world_of self.new ≡ entering (world_of self.old) folder.now) }

@@ -1,15 +1,15 @@
-//! Texts one behind another.
+//! Stores texts one after another in one buffer.
 use std::alloc::{AllocError, Global};
 use std::marker::Model;
 
-/// Where a text lies.
+/// The slice that a text takes.
 #[derive(Clone, Copy)]
 pub struct Span {
     pub from: usize,
     pub length: usize,
 }
 
-/// Texts one behind another. All lie in one piece of memory, so that a further one seldom asks for more.
+/// A list of texts in one buffer, so that a further text seldom allocates.
 #[derive(Drop)]
 pub struct Trail {
     whole: String,
@@ -30,7 +30,7 @@ impl Model for Trail {
 impl Trail {
     ghost use Rattle.std.specs.Prelude.{◌≡◌, ◌++◌, ◌∷◌, [], OnOk};
 
-    /// No texts.
+    /// Returns an empty list.
     pub fn new(alloc: Global) -> Trail
         ensures { result ≡ [] }
     {
@@ -40,7 +40,7 @@ impl Trail {
         }
     }
 
-    /// Puts a text behind the others.
+    /// Appends a text.
     pub fn push(&mut self, text: &str) -> Result<(), AllocError>
         ensures { OnOk result (self.new ≡ self.old ++ text.now ∷ []) }
     {

@@ -1,24 +1,24 @@
--- What Ninja's text can hold. What it can't has no escape.
+-- Defines which texts `build.ninja` can hold. The others can't be escaped.
 use Rattle.std.specs.Prelude.{ℕ, Bool, true, false, ◌==◌, nat_le, ◌||◌, ◌&&◌, not, List, [], ◌∷◌, Option, Some, None}
 use Rattle.std.specs.List.{list_all}
 use Rattle.build.specs.edge.Texts.{Path, Text}
 use Rattle.build.specs.edge.Data.{EdgeData}
 
--- no control character, no `#`, no `|`
+-- Returns whether the byte is no control character, `#` or `|`.
 abbrev pub path_byte_held : ℕ → Bool
 path_byte_held b = nat_le 32 b && not ((b == 127) || ((b == 35) || (b == 124)))
 
 abbrev pub path_held : Path → Bool
 path_held path = list_all path_byte_held path
 
--- no zero, newline or carriage return
+-- Returns whether the byte is no zero, newline or carriage return.
 abbrev pub value_byte_held : ℕ → Bool
 value_byte_held b = not ((b == 0) || ((b == 10) || (b == 13)))
 
 abbrev pub value_held : Text → Bool
 value_held text = list_all value_byte_held text
 
--- a path that isn't empty, which Ninja can hold
+-- Returns whether the path is not empty and `build.ninja` can hold it.
 abbrev pub is_path : Path → Bool
 is_path [] = false
 is_path (b ∷ bs) = path_held (b ∷ bs)
@@ -31,19 +31,19 @@ abbrev pub value_held_if : Option Text → Bool
 value_held_if None = true
 value_held_if (Some value) = value_held value
 
--- the edge makes something by a command, and its paths are such
+-- Returns whether the edge makes something and `build.ninja` can hold its paths.
 abbrev pub paths_writable : EdgeData → Bool
 paths_writable e =
     is_some_list e.outputs
     && (list_all is_path e.outputs && (list_all is_path e.inputs && (list_all is_path e.implicit && list_all is_path e.order_only)))
 
--- its words, where its output goes, its description and its depfile can be held as values
+-- Returns whether the edge has a command and `build.ninja` can hold its words, its redirection, its description and its depfile.
 abbrev pub values_writable : EdgeData → Bool
 values_writable e =
     is_some_list e.words
     && (list_all value_held e.words && (value_held_if e.redirect && (value_held e.description && value_held_if e.depfile)))
 
--- `build.ninja` can hold the edge
+-- Returns whether `build.ninja` can hold the edge.
 abbrev pub is_writable : EdgeData → Bool
 is_writable e = paths_writable e && values_writable e
 

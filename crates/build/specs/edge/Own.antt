@@ -1,4 +1,4 @@
--- The parts of an edge without where they lie in memory.
+-- Defines the parts of an edge, without their place in memory.
 use Rattle.std.specs.Prelude.{map, option_map}
 use Rattle.build.specs.edge.Data.{EdgeData}
 use Rattle.build.specs.edge.Parts.{OwnData, SharedData}
@@ -16,7 +16,7 @@ own_view o = record {
   depfile = o.depfile.now;
 }
 
--- an edge of which all is lent
+-- Returns the edge of borrowed parts.
 abbrev pub lent_view : LentEdge → EdgeData
 lent_view e = record {
   rule = e.rule;

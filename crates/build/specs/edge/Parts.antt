@@ -1,21 +1,21 @@
--- An edge from what it shares with others and what it has of its own.
+-- Defines an edge by what it shares with others and what is its own.
 use Rattle.std.specs.Prelude.{List, [], ◌∷◌, ◌++◌, Some, None}
 use Rattle.build.specs.edge.Texts.{Path, Text}
 use Rattle.build.specs.edge.Data.{EdgeData}
 use Rattle.build.specs.declared.edge.rule.Rule.{Rule}
 
--- what edges share
+-- What edges share.
 pub record SharedData : Type 0 where
   pub rule : Rule
   pub order_only : List Path
-  -- the first words of the command
+  -- The first words of the command.
   pub words : List Text
 
--- what an edge has of its own: one output and one input
+-- What is an edge's own: one output and one input.
 pub record OwnData : Type 0 where
   pub output : Path
   pub input : Path
-  -- the last words of the command
+  -- The last words of the command.
   pub words : List Text
   pub description : Text
   pub depfile : Path

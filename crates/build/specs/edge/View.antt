@@ -1,4 +1,4 @@
--- Edges without where they lie in memory.
+-- Defines edges, without their place in memory.
 use Rattle.std.specs.Prelude.{string_bytes, option_map}
 use Rattle.build.specs.edge.Texts.{texts}
 use Rattle.build.specs.edge.Data.{EdgeData}

@@ -1,4 +1,4 @@
--- A target refers only to earlier targets.
+-- Defines that a target refers only to earlier targets.
 use Rattle.std.specs.Prelude.{ℕ, nat_lt, Bool, true, false, ◌&&◌, List, [], ◌∷◌, ◌++◌, length, slice_get, Option, Some, None}
 use Rattle.std.specs.List.{list_all}
 use Rattle.build.specs.edge.Texts.{Path, holds}
@@ -16,22 +16,22 @@ abbrev pub is_library_if : Option TargetData → Bool
 is_library_if None = false
 is_library_if (Some t) = is_library_target t
 
--- the number is below that of the target behind these, and it is that of a library
+-- Returns whether the number is that of an earlier library.
 abbrev pub is_earlier_library : (earlier : List TargetData) → ℕ → Bool
 is_earlier_library earlier n = nat_lt n (length earlier) && is_library_if (slice_get earlier n)
 
--- What a target refers to is before it: each number in its lists of libraries is that of an earlier library, and each path that its
--- sources name of the build folder is an output of an edge of an earlier target, or is made by `configure_file`.
+-- Returns whether a target refers only to earlier ones. Each number in its lists of libraries is that of an earlier library. Each path of
+-- the build directory that its sources name is an output of an edge of an earlier target, or is made by `configure_file`.
 abbrev pub refers_back : SurroundingsData → (outputs : List Path) → (earlier : List TargetData) → TargetData → Bool
 refers_back s outputs earlier t =
     list_all (is_earlier_library earlier) (library_numbers t)
     && list_all (is_made_source (λ p. holds p (made_of s earlier outputs))) (sources_of t)
 
--- each of the targets that follow some earlier ones does
+-- Returns whether each of the targets after some earlier ones refers only to earlier ones.
 abbrev pub all_refer_back : SurroundingsData → (outputs : List Path) → (earlier targets : List TargetData) → Bool
 all_refer_back s outputs earlier [] = true
 all_refer_back s outputs earlier (t ∷ ts) = refers_back s outputs earlier t && all_refer_back s outputs (earlier ++ t ∷ []) ts
 
--- each target of a project does
+-- Returns whether each target of a project refers only to earlier ones.
 abbrev pub refer_back : WorldData → Bool
 refer_back w = all_refer_back w.surroundings w.outputs [] w.targets

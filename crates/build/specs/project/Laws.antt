@@ -1,4 +1,4 @@
--- What holds of a list of edges: what is made once, what is made before it is needed, what leads back to itself.
+-- Defines laws of a list of edges: each path is made once and before it is needed, and no edge depends on itself.
 use Rattle.std.specs.Prelude.{◌≡◌, ℕ, ◌+◌, ◌≤◌, Bool, true, not, ◌&&◌, List, [], ◌∷◌, ◌++◌, flat_map, slice_get, bytes_eq, Option, Some}
 use Rattle.std.specs.Prelude.{None, if◌then◌else◌}
 use Rattle.std.specs.List.{list_all}
@@ -11,36 +11,36 @@ outputs_of edges = flat_map (λ e. e.outputs) edges
 
 -- ---- once
 
--- the first of the paths that is one of those seen, or stands twice
+-- Returns the first of the paths that was seen before or occurs twice.
 abbrev pub first_taken : List Path → List Path → Option Path
 first_taken seen [] = None
 first_taken seen (p ∷ ps) = if holds p seen then Some p else first_taken (seen ++ p ∷ []) ps
 
--- how often a path stands in the list
+-- Returns how often a path is in the list.
 abbrev pub times : Path → List Path → ℕ
 times p [] = 0
 times p (x ∷ xs) = (if bytes_eq p x then 1 else 0) + times p xs
 
--- no path stands twice
+-- Holds if no path occurs twice.
 abbrev pub AtMostOnce : List Path → Type 0
 AtMostOnce paths = (p : Path) → times p paths ≤ 1
 
--- ---- before
+-- ---- earlier
 
--- the paths that an edge needs
+-- Returns the paths that an edge needs.
 abbrev pub needs : EdgeData → List Path
 needs e = e.inputs ++ (e.implicit ++ e.order_only)
 
--- each of the paths is one of those known
+-- Returns whether each of the paths is known.
 abbrev pub all_held : List Path → List Path → Bool
 all_held known ps = list_all (λ p. holds p known) ps
 
--- each path that an edge needs is known, or an output of an edge before it
+-- Returns whether each path that an edge needs is known, or is an output of an earlier edge.
 abbrev pub all_made : List Path → List EdgeData → Bool
 all_made known [] = true
 all_made known (e ∷ es) = all_held known (needs e) && all_made (known ++ e.outputs) es
 
--- ---- no circle
+-- ---- no cycle
 
 abbrev pub outputs_if : Option EdgeData → List Path
 outputs_if None = []
@@ -50,19 +50,19 @@ abbrev pub needs_if : Option EdgeData → List Path
 needs_if None = []
 needs_if (Some e) = needs e
 
--- the edge with the first number makes a path that the other needs
+-- The edge with the first number makes a path that the other needs.
 pub record Feeds (es : List EdgeData) (j i : ℕ) : Type 0 where
   pub path : Path
   pub made : holds path (outputs_if (slice_get es j)) ≡ true
   pub needed : holds path (needs_if (slice_get es i)) ≡ true
 
--- at once, or through others
+-- An edge feeds another directly, or through others.
 pub data Reaches (es : List EdgeData) : ℕ → ℕ → Type 0 where
   at_once : (j i : ℕ) → Feeds es j i → Reaches es j i
   through : (j k i : ℕ) → Feeds es j k → Reaches es k i → Reaches es j i
 
 -- ---- inside
 
--- none of the paths leaves the build folder
+-- Returns whether none of the paths leads out of the build directory.
 abbrev pub all_inside : List Path → Bool
 all_inside ps = list_all (λ p. not (is_upward p)) ps

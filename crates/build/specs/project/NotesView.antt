@@ -1,4 +1,4 @@
--- What was looked at and noted, without where it lies in memory.
+-- Defines the paths that were looked at and the notes, without their place in memory.
 use Rattle.std.specs.Prelude.{map}
 use Rattle.build.specs.edge.Texts.{texts}
 use Rattle.build.specs.project.View.{NotesData, answer_view, install_view, test_view}

@@ -1,4 +1,4 @@
--- Which text of a target `build.ninja` can't hold (E21).
+-- Defines which text of a target `build.ninja` can't hold (E21).
 use Rattle.std.specs.Prelude.{not, List, [], ◌∷◌, Option, Some, None, if◌then◌else◌}
 use Rattle.std.specs.List.{find}
 use Rattle.std.specs.Option.{option_or, unwrap_or}
@@ -6,19 +6,22 @@ use Rattle.build.specs.edge.Texts.{Path, Text}
 use Rattle.build.specs.edge.Holding.{path_held, value_held}
 use Rattle.build.specs.Data.{SourceData, Tree, Built, Made, ListsData, BuildData, CustomData, TargetData, Build, Custom}
 
--- the first, and where there is none the second
+-- The first, or the second if there is no first.
 infixl 10 ◌or◌
 abbrev pub ◌or◌ : Option Text → Option Text → Option Text
 first or second = option_or first second
 
--- ---- the first that it can't hold
+-- ---- the first text that it can't hold
 
+-- Returns the path unless `build.ninja` can hold it.
 abbrev pub unheld_path : Path → Option Path
 unheld_path path = if path_held path then None else Some path
 
+-- Returns the first path that it can't hold.
 abbrev pub unheld_paths : List Path → Option Path
 unheld_paths paths = find (λ p. not (path_held p)) paths
 
+-- Returns the first word that it can't hold.
 abbrev pub unheld_words : List Text → Option Text
 unheld_words words = find (λ w. not (value_held w)) words
 
@@ -30,7 +33,7 @@ abbrev pub unheld_word_if : Option Text → Option Text
 unheld_word_if None = None
 unheld_word_if (Some word) = if value_held word then None else Some word
 
--- it holds what another target makes
+-- Returns the path, unless `build.ninja` can hold it. It can hold what another target makes.
 abbrev pub unheld_source : SourceData → Option Path
 unheld_source (Tree path) = unheld_path path
 unheld_source (Built path) = unheld_path path
@@ -42,30 +45,32 @@ unheld_sources (s ∷ ss) = unheld_source s or unheld_sources ss
 
 -- ---- of a target
 
+-- Returns the first text of these lists that it can't hold.
 abbrev pub unheld_lists : ListsData → Option Text
 unheld_lists l =
     unheld_sources l.sources or unheld_words l.include_folders or unheld_words l.compile_args or unheld_words l.link_args
 
+-- Returns the first text of the dependencies' lists that it can't hold.
 abbrev pub unheld_brought : List ListsData → Option Text
 unheld_brought [] = None
 unheld_brought (l ∷ ls) = unheld_lists l or unheld_brought ls
 
--- its folder, its name and number, what it lists, and what its dependencies bring
+-- Looks at the target's folder, its name and number, its lists, and the lists of its dependencies.
 abbrev pub unheld_of_build : BuildData → Option Text
 unheld_of_build t =
     unheld_path t.folder or unheld_path t.name or unheld_path_if t.soversion or unheld_lists t.own or unheld_brought t.dependencies
 
--- its folder, its outputs, its sources, and its command
+-- Looks at the target's folder, its outputs, its sources, and its command.
 abbrev pub unheld_of_custom : CustomData → Option Text
 unheld_of_custom t =
     unheld_path t.folder or unheld_paths t.outputs or unheld_sources t.inputs or unheld_sources t.needs
     or unheld_words t.words or unheld_word_if t.depfile
 
--- where it can hold all of these, a word of each command is at fault, and the target's name is told
+-- Returns the first text that it can't hold. If there is none, a word of each command is at fault, and the target's name is returned.
 abbrev pub unheld : TargetData → Text
 unheld (Build t) = unwrap_or (unheld_of_build t) t.name
 unheld (Custom t) = unwrap_or (unheld_of_custom t) t.name
 
--- the first of these words
+-- Returns the first of these words.
 abbrev pub unheld_word : List Text → Text
 unheld_word words = unwrap_or (unheld_words words) []

@@ -1,4 +1,4 @@
--- What a project holds, without where it lies in memory.
+-- Defines what a project holds, without its place in memory.
 use Rattle.std.specs.Prelude.{List, map, string_bytes}
 use Rattle.build.specs.edge.Texts.{Path, texts}
 use Rattle.build.specs.Data.{SurroundingsData}
@@ -24,7 +24,7 @@ test_view t = record {
   timeout = t.timeout;
 }
 
--- the paths that were looked at, and what was noted
+-- The paths that were looked at, and the notes.
 pub record NotesData : Type 0 where
   pub present : List Path
   pub absent : List Path

@@ -1,4 +1,4 @@
--- How a project keeps what it holds.
+-- Defines the invariant of a project.
 use Rattle.std.specs.Prelude.{◌≡◌, true, List, [], ◌++◌, map, String}
 use Rattle.std.specs.Global.{Global}
 use Rattle.build.specs.edge.Texts.{Path, holds}
@@ -10,11 +10,11 @@ use Rattle.build.specs.project.Laws.{outputs_of, AtMostOnce, all_made, all_insid
 use Rattle.build.specs.project.World.{taken_of, known_of}
 use Rattle.build.specs.project.Earlier.{refers_back, all_refer_back}
 
--- the same paths, in any order
+-- Holds if both lists have the same paths, in any order.
 abbrev pub SamePaths : List Path → List Path → Type 0
 SamePaths xs ys = (p : Path) → holds p xs ≡ holds p ys
 
--- the second list is the first and more
+-- The second list is the first and more.
 pub record IsFront (old new : List (String Global)) : Type 0 where
   pub more : List (String Global)
   pub is : new ≡ old ++ more
@@ -22,8 +22,8 @@ pub record IsFront (old new : List (String Global)) : Type 0 where
 abbrev pub targets_in : List LinkedData → List TargetData
 targets_in ls = map (λ l. l.target) ls
 
--- The targets are linked as the definition says, the set has the paths that are taken, none is taken twice, each path that an edge needs
--- is there before it, no edge makes anything outside the build folder, Ninja can hold each edge, and each target refers to earlier ones.
+-- The targets are linked as defined. The set has exactly the taken paths, and none is taken twice. Each path that an edge needs exists
+-- before it, no edge makes anything outside the build directory, Ninja can hold each edge, and each target refers only to earlier ones.
 pub record IsWhole (s : SurroundingsData) (ls : List LinkedData) (outputs present kept : List Path) : Type 0 where
   pub libraries : ls ≡ linked_of (targets_in ls)
   pub paths : SamePaths kept (taken_of s (targets_in ls) outputs)
@@ -34,7 +34,7 @@ pub record IsWhole (s : SurroundingsData) (ls : List LinkedData) (outputs presen
   pub writable : are_writable (all_edges s (targets_in ls)) ≡ true
   pub back : all_refer_back s outputs [] (targets_in ls) ≡ true
 
--- a target that fits behind these, with its edges
+-- A target that fits after these, with its edges.
 pub record IsNext (s : SurroundingsData) (ts : List TargetData) (outputs present : List Path) (l : LinkedData)
     (paths : List Path) : Type 0 where
   pub libraries : l ≡ linked (linked_of ts) l.target

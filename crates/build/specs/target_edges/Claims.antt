@@ -1,11 +1,11 @@
--- What a project has to know of the edges of a target.
+-- Defines what a project needs to know of the edges of a target.
 use Rattle.std.specs.Prelude.{◌≡◌, ◌++◌, List, flat_map}
 use Rattle.build.specs.edge.Data.{EdgeData}
 use Rattle.build.specs.edge.Holding.{are_writable}
 use Rattle.build.specs.edge.Texts.{Path, texts}
 use Rattle.build.specs.declared.target_edges.claiming.Claims.{Claims}
 
--- whether `build.ninja` can hold these edges, what they make, and which of that the target is asked for
+-- Whether `build.ninja` can hold these edges, the paths that they make, and which of these paths `all` names.
 pub record AreClaims (claims : Claims) (edges : List EdgeData) (asked_for : List Path) : Type 0 where
   pub writable : claims.writable ≡ are_writable edges
   pub paths : texts claims.objects.items ++ texts claims.asked.items ≡ flat_map (λ e. e.outputs) edges

@@ -1,8 +1,8 @@
--- The edges of a target, from the targets before it.
+-- Defines the edges of a target, given the earlier targets.
 --
--- An executable: each C source is compiled to an object, then the objects and libraries are linked to its file. A static library: the
--- objects are put into an archive. A shared library: it is linked, and where it has a number, symbolic links lead to its file. A custom
--- target is one edge.
+-- For an executable, each C source is compiled to an object, and the objects and libraries are linked to its file. For a static library,
+-- the objects are put into an archive. A shared library is linked, and if it has a number, symbolic links lead to its file. A custom target
+-- has one edge.
 use Rattle.std.specs.Prelude.{ℕ, List, [], ◌∷◌, ◌++◌, map, flat_map, codes, Option, Some, None, if◌then◌else◌}
 use Rattle.build.specs.edge.Texts.{Path, Text}
 use Rattle.build.specs.edge.Paths.{object_path}
@@ -17,12 +17,12 @@ use Rattle.build.specs.target_edges.Words.{compile_words, link_words, library_fi
 
 -- ---- compiling
 
--- the words of a compile command that differ from source to source
+-- Returns the words of a compile command that differ between sources.
 abbrev pub source_words : (object depfile source : Path) → List Text
 source_words object depfile source =
     codes "-MD" ∷ codes "-MQ" ∷ object ∷ codes "-MF" ∷ depfile ∷ codes "-o" ∷ object ∷ codes "-c" ∷ source ∷ []
 
--- the compiler writes into `OBJ.d` which headers it has read
+-- Returns the edge that compiles a source. The compiler lists the headers that it has read in `OBJ.d`.
 abbrev pub compiling : (words : List Text) (generated : List Path) (object source : Path) → EdgeData
 compiling words generated object source = record {
   rule = rule.CCompile;
@@ -36,15 +36,17 @@ compiling words generated object source = record {
   depfile = Some (object ++ codes ".d");
 }
 
--- the edge of an input, of the target whose file this is
+-- Returns the edge of an input, for the target whose file is `file`.
 abbrev pub compile_edge : (words : List Text) (generated : List Path) (file : Path) → InputData → EdgeData
 compile_edge words generated file i = compiling words generated (object_path file i.name) i.path
 
+-- Returns the edges that compile the target's sources.
 abbrev pub compile_edges : SurroundingsData → BuildData → List EdgeData
 compile_edges s t = map (compile_edge (compile_words s t) (generated t) (file_path t)) (compiled s.facts.depth t)
 
 -- ---- the file
 
+-- Returns the edge that puts objects into an archive.
 abbrev pub archiving : (archiver : List Text) (file : Path) (objects : List Path) → EdgeData
 archiving archiver file objects = record {
   rule = rule.Ar;
@@ -58,6 +60,7 @@ archiving archiver file objects = record {
   depfile = None;
 }
 
+-- Returns the edge that links objects and libraries.
 abbrev pub linking : (words : List Text) (file : Path) (objects libraries : List Path) → EdgeData
 linking words file objects libraries = record {
   rule = rule.CLink;
@@ -71,7 +74,7 @@ linking words file objects libraries = record {
   depfile = None;
 }
 
--- the edge that makes the target's file of its objects
+-- Returns the edge that makes the target's file from its objects.
 abbrev pub file_edge : SurroundingsData → List LinkedData → List ℕ → BuildData → (file : Path) (objects : List Path) → EdgeData
 file_edge s earlier ns t file objects =
     if is_static t.kind then archiving s.facts.archiver file objects
@@ -79,6 +82,7 @@ file_edge s earlier ns t file objects =
 
 -- ---- symbolic links
 
+-- Returns the edge that makes a symbolic link to a file.
 abbrev pub naming : (file : Path) (name : Text) (link : Path) → EdgeData
 naming file name link = record {
   rule = rule.Symlink;
@@ -92,6 +96,7 @@ naming file name link = record {
   depfile = None;
 }
 
+-- Returns the edges that make the target's symbolic links.
 abbrev pub link_edges : BuildData → List EdgeData
 link_edges t = map (naming (file_path t) (file_name t)) (link_paths t)
 
@@ -101,6 +106,7 @@ abbrev pub first_of : List Path → Option Path
 first_of [] = None
 first_of (p ∷ ps) = Some p
 
+-- Returns the rule of a custom target, which may have a depfile.
 abbrev pub custom_rule : Option Text → Rule
 custom_rule None = rule.Custom
 custom_rule (Some depfile) = rule.CustomDep
@@ -108,6 +114,7 @@ custom_rule (Some depfile) = rule.CustomDep
 abbrev pub and_path : Path → Text
 and_path path = codes " " ++ path
 
+-- Returns the edge of a custom target.
 abbrev pub custom_edge : ℕ → CustomData → EdgeData
 custom_edge depth t = record {
   rule = custom_rule t.depfile;
@@ -121,24 +128,26 @@ custom_edge depth t = record {
   depfile = depfile_path t;
 }
 
--- ---- all of them
+-- ---- all edges
 
--- the edges of a build target that links these libraries, by their numbers
+-- Returns the edges of a build target that links these libraries, by their numbers.
 abbrev pub build_edges : SurroundingsData → List LinkedData → List ℕ → BuildData → List EdgeData
 build_edges s earlier ns t = compile_edges s t ++ (file_edge s earlier ns t (file_path t) (object_paths s.facts.depth t) ∷ link_edges t)
 
+-- Returns the edges of a target that links these libraries.
 abbrev pub target_edges : SurroundingsData → List LinkedData → List ℕ → TargetData → List EdgeData
 target_edges s earlier ns (Build t) = build_edges s earlier ns t
 target_edges s earlier ns (Custom t) = custom_edge s.facts.depth t ∷ []
 
--- the edges of a target that stands behind these
+-- Returns the edges of a target, given the earlier targets.
 abbrev pub edges_of : SurroundingsData → List LinkedData → LinkedData → List EdgeData
 edges_of s earlier l = target_edges s earlier l.libraries l.target
 
+-- Returns the edges of targets, given the earlier ones.
 abbrev pub edges_after : SurroundingsData → List LinkedData → List TargetData → List EdgeData
 edges_after s earlier [] = []
 edges_after s earlier (t ∷ ts) = edges_of s earlier (linked earlier t) ++ edges_after s (earlier ++ linked earlier t ∷ []) ts
 
--- the edges of all targets, in the order of their declaration
+-- Returns the edges of all targets, in the order of their declaration.
 abbrev pub all_edges : SurroundingsData → List TargetData → List EdgeData
 all_edges s ts = edges_after s [] ts

@@ -1,4 +1,4 @@
--- The compile edges of a target in parts: what they share, and what each has of its own. And what is asked of the parts of edges.
+-- Defines the compile edges of a target in parts, the shared and the own ones, and what is checked of the parts of edges.
 use Rattle.std.specs.Prelude.{Bool, true, false, ◌&&◌, List, [], ◌∷◌, ◌++◌, codes, Option, Some, None}
 use Rattle.std.specs.List.{list_all}
 use Rattle.build.specs.edge.Texts.{Path, Text}
@@ -10,11 +10,11 @@ use Rattle.build.specs.declared.edge.rule.Rule.TheVariants as rule
 use Rattle.build.specs.Data.{FlagsData, SurroundingsData, SourceData, Tree, Built, Made, BuildData, CustomData}
 use Rattle.build.specs.Sources.{InputData, brought, generated}
 
--- the words up to the first that names the object
+-- Returns the words up to the first that names the object.
 abbrev pub front_words : (words : List Text) → List Text
 front_words words = words ++ (codes "-MD" ∷ codes "-MQ" ∷ [])
 
--- the words behind them
+-- Returns the words after them.
 abbrev pub last_words : (object depfile source : Path) → List Text
 last_words object depfile source = object ∷ codes "-MF" ∷ depfile ∷ codes "-o" ∷ object ∷ codes "-c" ∷ source ∷ []
 
@@ -30,11 +30,11 @@ compile_own object source = record {
   depfile = object ++ codes ".d";
 }
 
--- the edge of an input, of the target whose file this is
+-- Returns the edge of an input, for the target whose file is `file`.
 abbrev pub joined_edge : (front : List Text) (generated : List Path) (file : Path) → InputData → EdgeData
 joined_edge front generated file i = joined (compile_shared front generated) (compile_own (object_path file i.name) i.path)
 
--- where something is compiled, there is a first word
+-- Returns whether there is a first word, if something is compiled.
 abbrev pub has_first : {W I : Type 0} → (words : List W) (inputs : List I) → Bool
 has_first [] [] = true
 has_first [] (i ∷ is) = false
@@ -44,62 +44,62 @@ abbrev pub is_none : {X : Type 0} → List X → Bool
 is_none [] = true
 is_none (x ∷ xs) = false
 
--- `build.ninja` can hold what the edges share
+-- Returns whether `build.ninja` can hold what the edges share.
 abbrev pub shared_held : (front : List Text) (generated : List Path) → Bool
 shared_held front generated = list_all is_path generated && list_all value_held front
 
--- `build.ninja` can hold the paths that a source is
+-- Returns whether `build.ninja` can hold the paths of a source.
 abbrev pub source_held : SourceData → Bool
 source_held (Tree path) = path_held path
 source_held (Built path) = is_path path
 source_held (Made paths) = list_all is_path paths
 
--- and the path of a depfile of the folder
+-- Returns whether it can hold the path of a depfile of the folder.
 abbrev pub depfile_held : Path → Option Text → Bool
 depfile_held folder None = true
 depfile_held folder (Some name) = value_held folder && value_held name
 
--- and a command that has a word
+-- Returns whether it can hold a command, which needs a word.
 abbrev pub command_held : CustomData → Bool
 command_held t = is_some_list t.words && (list_all value_held t.words && depfile_held t.folder t.depfile)
 
--- and all of a custom target that makes these outputs
+-- Returns whether it can hold all of a custom target with these outputs.
 abbrev pub custom_held : CustomData → (outputs : List Path) → Bool
 custom_held t outputs =
     is_some_list outputs
     && (list_all is_path outputs && (list_all source_held t.inputs && (list_all source_held t.needs && command_held t)))
 
--- and what the options say of compiling
+-- Returns whether it can hold the options for compiling.
 abbrev pub options_held : FlagsData → Bool
 options_held f = value_held f.c_std && value_held f.optimization
 
--- and where headers are looked for
+-- Returns whether it can hold the include folders.
 abbrev pub includes_held : BuildData → Bool
 includes_held t =
     value_held t.folder
     && (list_all value_held t.own.include_folders && list_all value_held (brought (λ l. l.include_folders) t))
 
--- and the arguments of compile commands
+-- Returns whether it can hold the arguments of compile commands.
 abbrev pub arguments_held : SurroundingsData → BuildData → Bool
 arguments_held s t =
     list_all value_held s.arguments
     && (list_all value_held (brought (λ l. l.compile_args) t)
     && (list_all value_held s.facts.flags.c_args && list_all value_held t.own.compile_args))
 
--- and all words of them
+-- Returns whether it can hold all words of compile commands.
 abbrev pub words_held : SurroundingsData → BuildData → Bool
 words_held s t =
     list_all value_held s.facts.compiler && (includes_held t && (options_held s.facts.flags && arguments_held s t))
 
--- and what the compile edges of a target share
+-- Returns whether it can hold what the compile edges of a target share.
 abbrev pub compiles_held : SurroundingsData → BuildData → Bool
 compiles_held s t = list_all is_path (generated t) && words_held s t
 
--- and an archive
+-- Returns whether it can hold the edge of an archive.
 abbrev pub archive_held : (archiver : List Text) (file : Path) (objects : List Path) → Bool
 archive_held archiver file objects = is_path file && (list_all is_path objects && list_all value_held archiver)
 
--- and what is linked of libraries by the compiler, with further words
+-- Returns whether it can hold the edge of a file that the compiler links with libraries and further words.
 abbrev pub link_held : (compiler words : List Text) (file : Path) (objects libraries : List Path) → Bool
 link_held compiler words file objects libraries =
     is_path file

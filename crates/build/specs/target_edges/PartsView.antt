@@ -1,4 +1,4 @@
--- The edges of which a target's parts are.
+-- Defines the edges of a target's parts.
 use Rattle.std.specs.Prelude.{List, [], ◌∷◌, ◌++◌, map, option_map, string_bytes}
 use Rattle.build.specs.edge.Data.{EdgeData}
 use Rattle.build.specs.edge.Texts.{texts}

@@ -4,25 +4,25 @@ use crate::edge::parts::LentEdge;
 use crate::edge::rule::Rule;
 use crate::edge::texts::lend_text;
 
-/// A build edge (the Ninja manual's "build statement"): outputs, and the command that makes them.
+/// Holds a build edge (the Ninja manual's "build statement"): its outputs, and the command that makes them.
 ///
-/// All paths are seen from the build folder.
+/// All paths are relative to the build directory.
 pub struct Edge {
     pub rule: Rule,
     pub outputs: Vec<String>,
-    /// What the command is about.
+    /// The inputs that the command names.
     pub inputs: Vec<String>,
-    /// Further files at whose change the outputs are made anew.
+    /// Further files whose change rebuilds the outputs (the Ninja manual's "implicit dependencies").
     pub implicit: Vec<String>,
-    /// What is only made before.
+    /// Paths that are only made earlier (the Ninja manual's "order-only dependencies").
     pub order_only: Vec<String>,
     /// The words of the command, not yet quoted.
     pub words: Vec<String>,
-    /// The file that the command's output goes to.
+    /// The file that receives the command's output.
     pub redirect: Option<String>,
-    /// What Ninja shows while the command runs.
+    /// The text that Ninja shows while the command runs.
     pub description: String,
-    /// The file in which the compiler names what it has read.
+    /// The file in which the compiler lists what it has read.
     pub depfile: Option<String>,
 }
 
@@ -46,7 +46,7 @@ impl Edge {
     ghost use Rattle.build.specs.edge.View.{edge_view};
     ghost use Rattle.build.specs.edge.Own.{lent_view};
 
-    /// The same edge, lent.
+    /// Returns the edge with all of its parts borrowed.
     pub fn lend(&self) -> LentEdge<'_>
         ensures { lent_view result ≡ edge_view self.now }
     {

@@ -1,4 +1,4 @@
-//! What Ninja's text can hold.
+//! Decides which texts `build.ninja` can hold.
 ghost use Rattle.std.specs.Prelude.{◌≡◌, map, option_map, string_bytes, ◌&&◌};
 ghost use Rattle.std.specs.List.{list_all};
 ghost use Rattle.build.specs.edge.Texts.{texts};
@@ -14,7 +14,7 @@ fn holds_path_byte(byte: u8) -> bool
     byte >= 32 && !matches!(byte, 127 | b'#' | b'|')
 }
 
-/// Whether `build.ninja` can hold the path: it has no control character, `#` or `|`.
+/// Returns whether `build.ninja` can hold the path: it has no control character, `#` or `|`.
 pub fn can_hold_path(path: &str) -> bool
     ensures { result ≡ path_held path.now }
 {
@@ -27,28 +27,28 @@ fn holds_value_byte(byte: u8) -> bool
     !matches!(byte, 0 | b'\n' | b'\r')
 }
 
-/// Whether `build.ninja` can hold the value: it has no zero byte, newline or carriage return.
+/// Returns whether `build.ninja` can hold the value: it has no zero byte, newline or carriage return.
 pub fn can_hold_value(text: &str) -> bool
     ensures { result ≡ value_held text.now }
 {
     text.as_bytes().iter().all(|byte| holds_value_byte(*byte))
 }
 
-/// Whether the path isn't empty and `build.ninja` can hold it.
+/// Returns whether the path isn't empty and `build.ninja` can hold it.
 pub fn is_path(path: &str) -> bool
     ensures { result ≡ is_path path.now }
 {
     !path.is_empty() && can_hold_path(path)
 }
 
-/// Whether none of the paths is empty and `build.ninja` can hold each.
+/// Returns whether none of the paths is empty and `build.ninja` can hold each.
 pub fn are_paths(paths: &[String]) -> bool
     ensures { result ≡ list_all is_path (texts paths.now) }
 {
     paths.iter().all(|path| is_path(path))
 }
 
-/// Whether `build.ninja` can hold each of the values.
+/// Returns whether `build.ninja` can hold each of the values.
 pub fn can_hold_values(values: &[String]) -> bool
     ensures { result ≡ list_all value_held (texts values.now) }
 {
@@ -64,7 +64,7 @@ fn can_hold_optional(text: &Option<String>) -> bool
     }
 }
 
-/// Whether there is something in the list.
+/// Returns whether the list has an item.
 pub fn is_some_list(list: &[String]) -> bool
     ensures { result ≡ is_some_list (texts list.now) }
 {
@@ -98,8 +98,10 @@ fn all_writable(edges: &[Edge]) -> bool
     edges.iter().all(is_writable)
 }
 
-/// Whether `build.ninja` can hold each of the edges: each makes something by some command, none of its paths is empty or has a control
-/// character, `#` or `|`, and none of its values has a zero byte, newline or carriage return.
+/// Returns whether `build.ninja` can hold each of the edges.
+///
+/// Each edge must make something by some command. None of its paths is empty or has a control character, `#` or `|`. None of its values has
+/// a zero byte, newline or carriage return.
 pub fn are_writable(edges: &[Edge]) -> bool
     ensures { result ≡ are_writable (map edge_view edges.now) }
 {

@@ -1,6 +1,6 @@
 use crate::edge::rule::Rule;
 
-/// An edge, of which all is lent.
+/// Borrows all parts of an edge.
 #[derive(Clone, Copy)]
 pub struct LentEdge<'a> {
     pub rule: Rule,
@@ -14,22 +14,22 @@ pub struct LentEdge<'a> {
     pub depfile: Option<&'a str>,
 }
 
-/// What an edge has of its own, where it shares its rule, its order-only paths and the first words of its command with others: lent.
+/// Borrows what is an edge's own, if it shares its rule, its order-only paths and the first words of its command with other edges.
 #[derive(Clone, Copy)]
 pub struct OwnParts<'a> {
     /// The one path that it makes.
     pub output: &'a str,
-    /// The one path that its command is about.
+    /// The one path that its command names as input.
     pub input: &'a str,
     /// The last words of the command, not yet quoted.
     pub words: &'a [&'a str],
-    /// What Ninja shows while the command runs.
+    /// The text that Ninja shows while the command runs.
     pub description: &'a str,
-    /// The file in which the compiler names what it has read.
+    /// The file in which the compiler lists what it has read.
     pub depfile: &'a str,
 }
 
-/// What edges share: their rule, what is only made before, and the first words of their commands: lent.
+/// Borrows what edges share: their rule, their order-only paths, and the first words of their commands.
 #[derive(Clone, Copy)]
 pub struct SharedParts<'a> {
     pub rule: Rule,

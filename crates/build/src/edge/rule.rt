@@ -1,16 +1,16 @@
-/// The rules of `build.ninja`: each edge names one.
+/// Lists the rules of `build.ninja`. Each edge names one.
 #[derive(Clone, Copy)]
 pub enum Rule {
     /// Compiles a C source, and learns from the compiler which headers it read.
     CCompile,
-    /// Makes a static library of objects.
+    /// Makes a static library from objects.
     Ar,
-    /// Links objects and libraries to a program or a shared library.
+    /// Links objects and libraries into a program or a shared library.
     CLink,
     /// Makes a symbolic link.
     Symlink,
     /// Runs a custom target's command.
     Custom,
-    /// Runs a custom target's command, which writes what it has read into a file.
+    /// Runs a custom target's command, which lists what it has read in a file.
     CustomDep,
 }

@@ -1,10 +1,10 @@
-//! Paths as seen from the build folder.
+//! Makes paths relative to the build directory.
 ghost use Rattle.std.specs.Prelude.{◌≡◌, ◌++◌, IfOk, string_bytes};
 ghost use Rattle.build.specs.edge.Paths.{way_up, source_root, source_path, is_upward, flat_name, object_path};
 
 use std::alloc::{AllocError, Global};
 
-// Appends `../` so many times.
+// Appends `../`, `depth` times.
 fn push_way_up(path: &mut String, depth: usize) -> Result<(), AllocError>
     ensures { IfOk result (λ _. string_bytes path.new ≡ string_bytes path.old ++ way_up depth) }
 {
@@ -14,7 +14,7 @@ fn push_way_up(path: &mut String, depth: usize) -> Result<(), AllocError>
     Ok(())
 }
 
-/// The source root, which lies `depth` folders above the build folder, at least one.
+/// Returns the path of the source root, which is `depth` folders above the build directory, at least one.
 pub fn source_root(alloc: Global, depth: usize) -> Result<String, AllocError>
     ensures { IfOk result (λ root. string_bytes root ≡ source_root depth) }
 {
@@ -24,7 +24,7 @@ pub fn source_root(alloc: Global, depth: usize) -> Result<String, AllocError>
     Ok(root)
 }
 
-/// A file of the tree, by its path there.
+/// Returns the path of a file of the source tree, given its path there.
 pub fn source_path(alloc: Global, depth: usize, path: &str) -> Result<String, AllocError>
     ensures { IfOk result (λ whole. string_bytes whole ≡ source_path depth path.now) }
 {
@@ -36,7 +36,7 @@ pub fn source_path(alloc: Global, depth: usize, path: &str) -> Result<String, Al
     Ok(whole)
 }
 
-/// Whether the path leaves the build folder.
+/// Returns whether the path leads out of the build directory.
 pub fn is_upward(path: &str) -> bool
     ensures { result ≡ is_upward path.now }
 {
@@ -56,7 +56,7 @@ fn push_flat_name(name: &mut String, path: &str) -> Result<(), AllocError>
     name.push_str(rest)
 }
 
-/// The object of a source, of the target whose file is `out`.
+/// Returns the path of the object of a source, for the target whose file is `out`.
 pub fn object_path(alloc: Global, out: &str, source: &str) -> Result<String, AllocError>
     ensures { IfOk result (λ object. string_bytes object ≡ object_path out.now source.now) }
 {

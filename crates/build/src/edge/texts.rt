@@ -1,4 +1,4 @@
-//! Lists of texts, and sets of them.
+//! Appends to lists of texts, and removes repetitions from them.
 ghost use Rattle.std.specs.Prelude.{◌≡◌, ◌++◌, ◌∷◌, [], bytes_eq, map, option_map, string_bytes, IfOk};
 ghost use Rattle.std.specs.List.{list_any};
 ghost use Rattle.build.specs.edge.Texts.{texts, first_kept, holds, put_new};
@@ -7,7 +7,7 @@ use std::alloc::{AllocError, Global};
 use support::tables::{SipSet, new_set};
 use support::text_lists::copies;
 
-/// The text that there is, lent.
+/// Returns the text borrowed, if there is one.
 pub fn lend_text(text: &Option<String>) -> Option<&str>
     ensures { option_map (λ s. s.now) result ≡ option_map string_bytes text.now }
 {
@@ -46,7 +46,7 @@ pub fn push_copies(to: &mut Vec<String>, from: &[String]) -> Result<(), AllocErr
     Ok(())
 }
 
-// Of so many texts each is compared with those before it, which is faster than a set.
+// Up to this many texts are compared with each other, which is faster than a set.
 const FEW: usize = 8;
 
 fn is_one_of(list: &[String], text: &str) -> bool
@@ -61,7 +61,7 @@ fn stands_in(list: &[String], text: &str) -> bool
     is_one_of(list, text)
 }
 
-// Appends the text, unless it stands there.
+// Appends the text, unless the list has it.
 fn put_new(kept: &mut Vec<String>, text: &String) -> Result<(), AllocError>
     ensures { IfOk result (λ _. texts kept.new.items ≡ put_new (texts kept.old.items) (string_bytes text.now)) }
 {
@@ -71,7 +71,7 @@ fn put_new(kept: &mut Vec<String>, text: &String) -> Result<(), AllocError>
     Ok(())
 }
 
-// Of few texts.
+// Keeps the first of equal texts, for few texts.
 fn first_of_few(alloc: Global, all: &[String]) -> Result<Vec<String>, AllocError>
     ensures { IfOk result (λ v. texts v.items ≡ first_kept (texts all.now)) }
 {
@@ -92,7 +92,7 @@ fn first_by_set(alloc: Global, all: &[String]) -> Result<Vec<String>, AllocError
     copies(alloc, kept.as_slice())
 }
 
-/// Of equal texts the first is kept.
+/// Returns the texts without repetitions. The first of equal texts stays.
 pub fn first_kept(alloc: Global, all: &[String]) -> Result<Vec<String>, AllocError>
     ensures { IfOk result (λ v. texts v.items ≡ first_kept (texts all.now)) }
 {
@@ -103,7 +103,7 @@ pub fn first_kept(alloc: Global, all: &[String]) -> Result<Vec<String>, AllocErr
     }
 }
 
-/// Whether the text is one of those in the set.
+/// Returns whether the text is one of those in the set.
 pub fn holds(set: &SipSet<String>, text: &str) -> bool
     ensures { result ≡ holds text.now (texts set.now.keys) }
 {

@@ -1,4 +1,4 @@
-//! The paths that a project makes.
+//! Keeps the set of the paths that a project makes.
 ghost use Rattle.std.specs.Prelude.{◌≡◌, ◌++◌, IfOk, OnErr, ◌&&◌, not, is_some, None, option_map, if◌then◌else◌};
 ghost use Rattle.build.specs.edge.Texts.{texts};
 ghost use Rattle.build.specs.project.Laws.{first_taken};
@@ -7,7 +7,7 @@ ghost use Rattle.build.specs.project.Whole.{IsFront};
 use std::alloc::AllocError;
 use support::tables::SipSet;
 
-// Inserts each path, up to the first that is there, and gives that one.
+// Inserts the paths up to the first that is in the set, and returns that one.
 fn insert_new<'p>(
     paths: &mut SipSet<String>,
     fresh: &'p [String],
@@ -24,7 +24,7 @@ fn insert_new<'p>(
     Ok(None)
 }
 
-// Inserts each path of both lists, up to the first that is there, and gives that one.
+// Inserts the paths of both lists up to the first that is in the set, and returns that one.
 fn insert_both<'p>(
     paths: &mut SipSet<String>,
     these: &'p [String],
@@ -43,8 +43,9 @@ fn insert_both<'p>(
     }
 }
 
-/// Gives the first of the paths of both lists that is there already or stands twice; and adds all of them, where there is none and they
-/// are to be kept.
+/// Returns the first path of both lists that is in the set or occurs twice.
+///
+/// If there is none and `keep` is true, all paths are added. Otherwise the set stays unchanged.
 pub fn claim<'p>(
     paths: &mut SipSet<String>,
     these: &'p [String],

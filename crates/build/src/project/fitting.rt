@@ -1,4 +1,4 @@
-//! What a target may be.
+//! Decides which targets a project accepts.
 ghost use Rattle.std.specs.Prelude.{◌≡◌, ◌+◌, min, IfOk, ◌&&◌, ◌||◌, string_bytes, option_map};
 ghost use Rattle.std.specs.List.{list_any, list_all, sum_by};
 ghost use Rattle.support.specs.Limits.{items};
@@ -52,7 +52,7 @@ fn is_target_name(name: &str) -> bool
     !(name == "" || has_slash(name) || begins_with_dash(name))
 }
 
-/// Whether the path may be that of a folder of the tree.
+/// Returns whether the path may be that of a folder of the source tree.
 pub fn is_folder(folder: &str) -> bool
     ensures { result ≡ is_folder folder.now }
 {
@@ -67,7 +67,7 @@ fn names_fit(alloc: Global, target: &BuildTarget) -> Result<bool, AllocError>
     Ok(is_target_name(&target.name) && is_file_name(&file) && all_file_names(&links))
 }
 
-// ---- what is made
+// ---- made sources
 
 fn is_reserved(path: &str) -> bool
     ensures { result ≡ is_held path.now reserved }
@@ -119,7 +119,7 @@ fn bring_made_sources(taken: &SipSet<String>, target: &BuildTarget) -> bool
         .all(|lists| are_made_sources(taken, &lists.sources))
 }
 
-// The same of a build target, its own sources and those of its dependencies.
+// Returns whether each source of a build target that is in the build directory is made. The sources of its dependencies count too.
 fn build_has_made(taken: &SipSet<String>, target: &BuildTarget) -> bool
     ensures { result ≡ (list_all (λ s. is_made_source (is_made_in (texts taken.now.keys)) (source_view s)) target.now.own.sources.items
         && list_all (λ l. list_all (λ s. is_made_source (is_made_in (texts taken.now.keys))
@@ -135,7 +135,7 @@ fn custom_has_made(taken: &SipSet<String>, target: &CustomTarget) -> bool
     are_made_sources(taken, &target.inputs) && are_made_sources(taken, &target.needs)
 }
 
-/// Whether each source that the target names in the build folder is made.
+/// Returns whether each source of the target that is in the build directory is made.
 pub fn has_made_sources(taken: &SipSet<String>, target: &Target) -> bool
     ensures { result ≡ list_all (is_made_source (is_made_in (texts taken.now.keys))) (sources_of (target_view target.now)) }
 {
@@ -145,7 +145,7 @@ pub fn has_made_sources(taken: &SipSet<String>, target: &Target) -> bool
     }
 }
 
-// ---- what is there
+// ---- present sources
 
 fn is_present(present: &SipSet<String>, source: &Source) -> bool
     ensures { result ≡ is_present (texts present.now.keys) (source_view source.now) }
@@ -172,7 +172,7 @@ fn bring_present(present: &SipSet<String>, target: &BuildTarget) -> bool
         .all(|lists| are_present(present, &lists.sources))
 }
 
-// The same of a build target, its own sources and those of its dependencies.
+// Returns whether each file of the tree that a build target names is present. The sources of its dependencies count too.
 fn build_has_present(present: &SipSet<String>, target: &BuildTarget) -> bool
     ensures { result ≡ (list_all (λ s. is_present (texts present.now.keys) (source_view s)) target.now.own.sources.items
         && list_all (λ l. list_all (λ s. is_present (texts present.now.keys)
@@ -188,7 +188,7 @@ fn custom_has_present(present: &SipSet<String>, target: &CustomTarget) -> bool
     are_present(present, &target.inputs) && are_present(present, &target.needs)
 }
 
-/// Whether each file of the tree that the target names is one of those that are there.
+/// Returns whether each file of the tree that the target names is present.
 pub fn has_present_sources(present: &SipSet<String>, target: &Target) -> bool
     ensures { result ≡ list_all (is_present (texts present.now.keys)) (sources_of (target_view target.now)) }
 {
@@ -198,7 +198,7 @@ pub fn has_present_sources(present: &SipSet<String>, target: &Target) -> bool
     }
 }
 
-// ---- what is compiled
+// ---- compiled sources
 
 fn are_some_c(paths: &[String]) -> bool
     ensures { result ≡ list_any is_c_path (texts paths.now) }
@@ -245,8 +245,10 @@ fn has_c(target: &BuildTarget) -> bool
 
 // ---- a target
 
-/// Whether a build target has a folder and names that files may have, C sources and headers alone, at least one source that is
-/// compiled, and links earlier libraries.
+/// Returns whether a build target fits.
+///
+/// Its folder and its names must be valid, and its sources must be C sources and headers, of which at least one is compiled. It may link
+/// only earlier libraries.
 pub fn build_fits(
     alloc: Global,
     earlier: &[Linked],
@@ -264,7 +266,7 @@ pub fn build_fits(
     )
 }
 
-/// Whether a custom target has a folder and names that files may have.
+/// Returns whether the folder of a custom target and the names of its files are valid.
 pub fn custom_fits(target: &CustomTarget) -> bool
     ensures { result ≡ custom_fits (custom_view target.now) }
 {
@@ -273,7 +275,7 @@ pub fn custom_fits(target: &CustomTarget) -> bool
         && is_optional_file_name(&target.depfile)
 }
 
-/// Whether it is a build target.
+/// Returns whether the target is a build target.
 pub fn is_build(target: &Target) -> bool
     ensures { result ≡ is_build (target_view target.now) }
 {
@@ -285,7 +287,7 @@ pub fn is_build(target: &Target) -> bool
 
 // ---- limits
 
-/// One of the lists of a build target.
+/// Names one of the lists of a build target.
 #[derive(Clone, Copy)]
 pub enum ListOf {
     OfSources,
@@ -307,7 +309,7 @@ fn length_in(lists: &Lists, which: ListOf) -> usize
     }
 }
 
-// How many items the list has, at most one more than it may have.
+// Returns the length of the list, at most one more than is allowed.
 fn length_up_to(target: &BuildTarget, which: ListOf) -> usize
     ensures { result ≡ min (items + 1) (length_of which (build_view target.now)) }
 {
@@ -335,7 +337,7 @@ fn paths_in(source: &Source) -> usize
     }
 }
 
-// How many paths have to be there for the command, at most one more than there may be.
+// Returns how many paths the command needs, at most one more than is allowed.
 fn needs_up_to(target: &CustomTarget) -> usize
     ensures { result ≡ min (items + 1) (sum_by paths_in (custom_view target.now).needs) }
 {
@@ -355,7 +357,7 @@ fn is_short_custom(target: &CustomTarget) -> bool
         && needs_up_to(target) <= support::limits::ITEMS
 }
 
-/// Whether no list of the target, those of its dependencies counted, has more than 65,536 items.
+/// Returns whether no list of the target has more than 65,536 items. The items of its dependencies count too.
 pub fn is_within(target: &Target) -> bool
     ensures { result ≡ is_within (target_view target.now) }
 {

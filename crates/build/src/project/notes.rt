@@ -1,13 +1,13 @@
-/// What a call of `dependency` answered.
+/// Holds the result of a call of `dependency`.
 #[derive(Drop)]
 pub struct Answer {
-    /// The name that fitted, else the first given.
+    /// The name that was found, or else the first name.
     pub name: String,
     pub version: String,
     pub is_found: bool,
 }
 
-/// A file that is installed.
+/// Holds a file that is installed.
 #[derive(Drop)]
 pub struct Install {
     /// An absolute path.
@@ -15,12 +15,12 @@ pub struct Install {
     pub destination: String,
 }
 
-/// What `test` declares.
+/// Holds what `test` declares.
 pub struct Test {
     pub name: String,
-    /// The words of the command, files and targets by absolute paths.
+    /// The words of the command, with files and targets as absolute paths.
     pub command: Vec<String>,
-    /// Texts `K=V`.
+    /// Texts of the form `K=V`.
     pub environment: Vec<String>,
     pub suites: Vec<String>,
     pub should_fail: bool,

@@ -42,7 +42,7 @@ use std::marker::Model;
 use support::paths::{is_file_name, path_in};
 use support::tables::{SipSet, new_set};
 
-// What was looked at, and what was noted.
+// Holds the paths that were looked at, and what was only noted.
 struct Notes {
     present: SipSet<String>,
     absent: SipSet<String>,
@@ -63,16 +63,16 @@ impl Drop for Notes {
     }
 }
 
-/// A project: what `project`, the options and the machine file say of it, and what its definition files declare.
+/// Holds a project: what `project`, the options and the machine file say of it, and what its definition files declare.
 ///
-/// A target refers only to earlier targets, no two of the project's outputs have the same path, each file that an edge needs is there
-/// or is made before it, and `build.ninja` can hold each edge. A call that refuses leaves the project as it was.
+/// A target refers only to earlier targets, and no two outputs have the same path. Each file that an edge needs exists or is made earlier,
+/// and `build.ninja` can hold each edge. A call that refuses leaves the project unchanged.
 pub struct Project {
     alloc: Global,
     surroundings: Surroundings,
     linked: Vec<Linked>,
     outputs: Vec<String>,
-    // What targets and `configure_file` make, and what is reserved.
+    // The paths that targets and `configure_file` make, and the reserved paths.
     taken: SipSet<String>,
     notes: Notes,
 }
@@ -111,7 +111,7 @@ impl Model for Project {
 }
 
 impl Project {
-    /// A project of which nothing is declared yet.
+    /// Returns a project in which nothing is declared yet.
     pub fn new(alloc: Global, facts: Facts) -> Result<Self, AllocError>
         ensures { IfOk result (λ p. p ≡ new_world (facts_view facts)) }
     {
@@ -136,7 +136,7 @@ impl Project {
         })
     }
 
-    // Whether the target has a folder and names that files may have, and what else it is by itself.
+    // Returns whether the target fits by itself: its folder, its names, and what its kind requires.
     fn target_fits(&self, target: &Target) -> Result<bool, AllocError>
         ensures { IfOk result (λ fit. fit ≡ target_fits (linked_of self.now.targets) (target_view target.now)) }
     {
@@ -146,8 +146,8 @@ impl Project {
         }
     }
 
-    /// Whether the target is refused for its names, its sources or its libraries (E9), or not, and then the tree may be asked for its
-    /// files.
+    /// Returns whether the target's names, sources and libraries fit. If not, `add_target` refuses it with E9. If so, the caller may look
+    /// for its files.
     pub fn fits(&self, target: &Target) -> Result<bool, AllocError>
         ensures { IfOk result (λ fit. fit ≡ is_fit self.now (target_view target.now)) }
     {
@@ -155,8 +155,8 @@ impl Project {
         Ok(fits && has_made_sources(&self.taken, target))
     }
 
-    // Adds a target that fits, unless one of its paths is taken or one of its lists is too long. These are the paths that its edges make
-    // beside those that it is asked for.
+    // Adds a target that fits, unless one of its paths is taken or one of its lists is too long. `objects` are the paths that its edges
+    // make besides those by which `all` names it.
     fn place(
         &mut self,
         one: Linked,
@@ -194,9 +194,11 @@ impl Project {
         }
     }
 
-    /// Adds a target and gives its number, or answers the first of these: E9 where it does not fit, E14 where a file of the tree that it
-    /// names was not looked at or is not there, E21 where `build.ninja` can't hold one of its edges, E11 where one of its paths is made
-    /// by something else or stands twice, E22 where one of its lists has more than 65,536 items.
+    /// Adds a target and returns its number.
+    ///
+    /// It is refused with E9 if it does not fit. Then it is E14 if a file of the tree that it names was not looked at or is absent, and E21
+    /// if `build.ninja` can't hold one of its edges. Then it is E11 if something else makes one of its paths or one occurs twice, and E22
+    /// if one of its lists has more than 65,536 items.
     pub fn add_target(&mut self, target: Target) -> Result<Result<usize, Refused>, AllocError>
         ensures answer { IfOk result (λ r. answer_data r ≡ target_answer self.old (target_view target)) }
         ensures ok { OnOk result (self.new ≡ after_target self.old (target_view target)) }
@@ -224,7 +226,7 @@ impl Project {
         self.place(one, &claims.objects, within)
     }
 
-    // What is asked of the edges that a target with these libraries would have.
+    // Returns what the project needs to know of the edges that a target with these libraries would have.
     fn claims_with(&self, target: &Target, libraries: &[u32]) -> Result<Claims, AllocError>
         ensures { let edges = target_edges_of self.now.surroundings (linked_of self.now.targets) libraries.now (target_view target.now) in
             IfOk result (λ c. AreClaims c edges (default_paths (target_view target.now))) }
@@ -262,8 +264,10 @@ impl Project {
         }
     }
 
-    /// Takes the path of a file of the folder that `configure_file` makes, or answers the first of these: E9 where no file may have the
-    /// name, E21 where `build.ninja` can't hold the path, E11 where something else makes it.
+    /// Takes the path of a file that `configure_file` makes in the folder.
+    ///
+    /// Refuses it with the first of these: E9 if no file may have the name, E21 if `build.ninja` can't hold the path, E11 if something else
+    /// makes it.
     pub fn add_output(
         &mut self,
         folder: &str,
@@ -286,8 +290,9 @@ impl Project {
         self.place_output(path)
     }
 
-    /// Adds words of `add_project_arguments` to those of all compile commands, or answers the first of these: E21 where `build.ninja`
-    /// can't hold one of them, E24 where a build target was declared before.
+    /// Adds arguments of `add_project_arguments` to all compile commands.
+    ///
+    /// Refuses them with the first of these: E21 if `build.ninja` can't hold one of them, E24 if a build target was declared before.
     pub fn add_arguments(&mut self, words: &[String]) -> Result<Result<(), Refused>, AllocError>
         ensures answer { IfOk result (λ r. answer_data r ≡ arguments_answer self.old (texts words.now)) }
         ensures ok { OnOk result (self.new
@@ -306,8 +311,9 @@ impl Project {
         Ok(Ok(()))
     }
 
-    /// Adds words of `add_project_link_arguments` to those of all link commands, or answers the first of these: E21 where
-    /// `build.ninja` can't hold one of them, E24 where a build target was declared before.
+    /// Adds arguments of `add_project_link_arguments` to all link commands.
+    ///
+    /// Refuses them with the first of these: E21 if `build.ninja` can't hold one of them, E24 if a build target was declared before.
     pub fn add_link_arguments(
         &mut self,
         words: &[String],
@@ -329,7 +335,7 @@ impl Project {
         Ok(Ok(()))
     }
 
-    /// Notes a path of the tree that was looked at and is there, once.
+    /// Notes a path of the tree that was looked at and is present, once.
     pub fn add_present(&mut self, path: String) -> Result<(), AllocError>
         ensures ok { OnOk result (self.new ≡ with_present self.old (string_bytes path)) }
         ensures err { OnErr result (self.new ≡ self.old) }
@@ -338,7 +344,7 @@ impl Project {
         Ok(())
     }
 
-    /// Notes a path of the tree that was looked at and is not there, once.
+    /// Notes a path of the tree that was looked at and is absent, once.
     pub fn add_absent(&mut self, path: String) -> Result<(), AllocError>
         ensures ok { OnOk result (self.new ≡ with_absent self.old (string_bytes path)) }
         ensures err { OnErr result (self.new ≡ self.old) }
@@ -347,7 +353,7 @@ impl Project {
         Ok(())
     }
 
-    /// Notes a path of the tree that was looked at, once: as one that is there, or as one that is not.
+    /// Notes a path of the tree that was looked at, once, as present or absent.
     pub fn add_file(&mut self, path: String, is_present: bool) -> Result<(), AllocError>
         ensures ok { OnOk result (self.new ≡ with_file self.old (string_bytes path) is_present) }
         ensures err { OnErr result (self.new ≡ self.old) }
@@ -359,7 +365,7 @@ impl Project {
         }
     }
 
-    /// Notes what a call of `dependency` answered.
+    /// Notes the result of a call of `dependency`.
     pub fn add_dependency(&mut self, answer: Answer) -> Result<(), AllocError>
         ensures ok { OnOk result (self.new ≡ with_dependency self.old (answer_view answer)) }
         ensures err { OnErr result (self.new ≡ self.old) }
@@ -388,56 +394,56 @@ impl Project {
 
     // ---- readers
 
-    /// What `project`, the options and the machine file say.
+    /// Returns what `project`, the options and the machine file say.
     pub fn facts(&self) -> &Facts
         ensures { facts_view result.now ≡ self.now.surroundings.facts }
     {
         &self.surroundings.facts
     }
 
-    /// The targets in the order of their declaration, each with what the edge `all` names of it.
+    /// Returns the targets in the order of their declaration, each with the paths by which the edge `all` names it.
     pub fn targets(&self) -> &[Linked]
         ensures { linked_views result.now ≡ linked_of self.now.targets }
     {
         &self.linked
     }
 
-    /// What `configure_file` makes.
+    /// Returns the paths that `configure_file` makes, in order.
     pub fn outputs(&self) -> &[String]
         ensures { texts result.now ≡ self.now.outputs }
     {
         &self.outputs
     }
 
-    /// The paths of the tree that were looked at and are there, in the order of the first look.
+    /// Returns the paths of the tree that were looked at and are present, in the order of the first look.
     pub fn present(&self) -> &[String]
         ensures { texts result.now ≡ self.now.present }
     {
         self.notes.present.as_slice()
     }
 
-    /// The paths of the tree that were looked at and are not there, in the order of the first look.
+    /// Returns the paths of the tree that were looked at and are absent, in the order of the first look.
     pub fn absent(&self) -> &[String]
         ensures { texts result.now ≡ self.now.absent }
     {
         self.notes.absent.as_slice()
     }
 
-    /// What the calls of `dependency` answered, in order.
+    /// Returns the results of the calls of `dependency`, in order.
     pub fn dependencies(&self) -> &[Answer]
         ensures { map answer_view result.now ≡ self.now.dependencies }
     {
         &self.notes.dependencies
     }
 
-    /// The files that are installed, in order.
+    /// Returns the files that are installed, in order.
     pub fn installs(&self) -> &[Install]
         ensures { map install_view result.now ≡ self.now.installs }
     {
         &self.notes.installs
     }
 
-    /// The tests, in order.
+    /// Returns the tests, in order.
     pub fn tests(&self) -> &[Test]
         ensures { map test_view result.now ≡ self.now.tests }
     {
@@ -445,7 +451,7 @@ impl Project {
     }
 }
 
-// The set of the paths that are reserved.
+// Returns the set of the reserved paths.
 fn reserved_paths(alloc: Global) -> Result<SipSet<String>, AllocError>
     ensures { IfOk result (λ taken. texts taken.keys ≡ reserved) }
 {
@@ -455,7 +461,7 @@ fn reserved_paths(alloc: Global) -> Result<SipSet<String>, AllocError>
     Ok(taken)
 }
 
-// Appends copies of the strings, or leaves the list as it was.
+// Appends copies of the strings, or leaves the list unchanged if memory runs out.
 fn append(all: &mut Vec<String>, alloc: Global, more: &[String]) -> Result<(), AllocError>
     ensures ok { OnOk result (texts all.new.items ≡ texts all.old.items ++ texts more.now) }
     ensures err { OnErr result (all.new.items ≡ all.old.items) }
@@ -464,14 +470,14 @@ fn append(all: &mut Vec<String>, alloc: Global, more: &[String]) -> Result<(), A
     all.append(&mut copies)
 }
 
-// Whether one of the targets is a build target.
+// Returns whether one of the targets is a build target.
 fn some_build(targets: &[Linked]) -> bool
     ensures { result ≡ list_any (λ l. is_build_target (target_view l.target)) targets.now }
 {
     targets.iter().any(|linked| is_build(&linked.target))
 }
 
-// The name of the first build target.
+// Returns the name of the first build target.
 fn first_build(targets: &[Linked]) -> &str
     ensures { result.now ≡ first_build (map (λ l. target_view l.target) targets.now) }
 {
@@ -484,14 +490,14 @@ fn first_build(targets: &[Linked]) -> &str
     ""
 }
 
-// Whether `configure_file` may make a file of the folder and the name.
+// Returns whether `configure_file` may make a file of this name in the folder.
 fn output_fits(folder: &str, name: &str) -> bool
     ensures { result ≡ (is_folder_of folder.now && is_name name.now) }
 {
     is_folder(folder) && is_file_name(name)
 }
 
-// The edges of a target that stands behind these, in parts.
+// Returns the edges of a target, in parts, given the earlier targets.
 fn parts_behind<'a>(
     alloc: Global,
     surroundings: &Surroundings,
@@ -512,7 +518,7 @@ fn parts_behind<'a>(
     target_parts(&context, one)
 }
 
-/// The edges of a target in parts, made anew at each call; of a number that no target has, none.
+/// Returns the edges of a target in parts, computed anew at each call. A number without a target has none.
 pub fn parts(project: &Project, target: usize) -> Result<TargetParts<'_>, AllocError>
     ensures { IfOk result (λ p. parts_edges p ≡ edges_at project.now target) }
 {
@@ -527,53 +533,54 @@ pub fn parts(project: &Project, target: usize) -> Result<TargetParts<'_>, AllocE
     }
 }
 
-/// The edges of a target, in the order in which `build.ninja` has them, made anew at each call; of a number that no target has, none.
+/// Returns the edges of a target, in the order of `build.ninja`, computed anew at each call. A number without a target has none.
 pub fn edges(project: &Project, target: usize) -> Result<Vec<Edge>, AllocError>
     ensures { IfOk result (λ es. map edge_view es.items ≡ edges_at project.now target) }
 {
     parts(project, target)?.into_edges(project.alloc)
 }
 
-/// No path is an output of two edges, nor of an edge and of `configure_file`, and none is one that is reserved: `all`, `build.ninja`
-/// and the path of the document.
+/// Proves that no path is made twice: not by two edges, nor by an edge and `configure_file`. None is reserved: `all`, `build.ninja` or the
+/// path of the document.
 pub fn outputs_differ(project: &Project)
     ensures { AtMostOnce (taken_in project.now) }
 {
     let _ = &project.linked;
 }
 
-/// Each path that an edge needs is a file of the tree that was looked at and is there, what `configure_file` makes, or an output of an
-/// edge before it.
+/// Proves that each path that an edge needs is a present file of the tree that was looked at, an output of `configure_file`, or an output
+/// of an earlier edge.
 pub fn needs_are_made(project: &Project)
     ensures { all_made (known_in project.now) (edges_in project.now) ≡ true }
 {
     let _ = &project.linked;
 }
 
-/// No edge reaches itself.
+/// Proves that no edge depends on itself.
 pub fn no_circle(project: &Project)
     ensures { (i : ℕ) → ¬ Reaches (edges_in project.now) i i }
 {
     let _ = &project.linked;
 }
 
-/// A target refers only to earlier targets: each number in its lists of libraries, its own and those of its dependencies, is that of a
-/// library before it, and each path that its sources name of the build folder is an output of an edge of a target before it, or is made
-/// by `configure_file`.
+/// Proves that a target refers only to earlier targets.
+///
+/// Each number in its lists of libraries, and in those of its dependencies, is that of an earlier library. Each path of the build directory
+/// that its sources name is an output of an edge of an earlier target, or is made by `configure_file`.
 pub fn targets_refer_back(project: &Project)
     ensures { refer_back project.now ≡ true }
 {
     let _ = &project.linked;
 }
 
-/// `build.ninja` can hold each edge.
+/// Proves that `build.ninja` can hold each edge.
 pub fn edges_are_writable(project: &Project)
     ensures { are_writable (edges_in project.now) ≡ true }
 {
     let _ = &project.linked;
 }
 
-/// The edges of the targets, one number after another, are all edges.
+/// Proves that the edges of the targets, in the order of their numbers, are all edges.
 pub fn edges_stand_in_order(project: &Project)
     ensures { edges_by_number project.now ≡ edges_in project.now }
 {

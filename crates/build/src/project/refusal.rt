@@ -1,18 +1,18 @@
-//! Why a project does not take what it is given, and what that is about. The words are made only where something is refused.
+//! Says why a project refuses what it is given, and which text is at fault. The words are made only if something is refused.
 ghost use Rattle.std.specs.Prelude.{◌≡◌, IfOk, Err as Refuses, string_bytes};
 ghost use Rattle.build.specs.project.Refused.{answer_data, refused, words_of};
 
 use std::alloc::{AllocError, Global};
 use thiserror::Error;
 
-/// Why a project does not take what it is given.
+/// Says why a project refuses what it is given.
 #[derive(Clone, Copy, Debug, Error)]
 pub enum Refusal {
-    /// E9: a name that no file may have, a source that is no C source or header or that nothing makes, no source that is compiled, or
-    /// a number that is not that of an earlier library.
+    /// E9: a name that no file may have, a source that is no C source or header, or one that nothing makes. Also no source that is
+    /// compiled, or a number of no earlier library.
     #[error("E9 arguments")]
     Arguments,
-    /// E14: a file of the tree that was not looked at or is not there.
+    /// E14: a file of the tree that was not looked at or is absent.
     #[error("E14 file missing")]
     Missing,
     /// E21: a path or a word that `build.ninja` can't hold.
@@ -24,22 +24,22 @@ pub enum Refusal {
     /// E22: a list of more than 65,536 items.
     #[error("E22 limit")]
     Limit,
-    /// E24: arguments of the project behind a build target.
+    /// E24: arguments of the project after a build target.
     #[error("E24 arguments added after a target")]
     Late,
 }
 
-/// A refusal, and what it is about.
+/// Holds a refusal and its details.
 #[derive(Debug, Drop, Error)]
 #[error("{why}{}{detail}", if .detail.is_empty() {""} else {": "})]
 pub struct Refused {
     pub why: Refusal,
-    /// What it is about, in words.
+    /// The details, in words.
     pub detail: String,
 }
 
 impl Refusal {
-    // What it says of a path, of a word or of the name of a target.
+    // Returns the details for a path, a word or the name of a target.
     fn words(self, alloc: Global, text: &str) -> Result<String, AllocError>
         ensures { IfOk result (λ words. string_bytes words ≡ words_of self text.now) }
     {
@@ -55,7 +55,7 @@ impl Refusal {
     }
 }
 
-/// Refuses for this text.
+/// Returns the refusal for this text.
 #[tactic(auto, unfolding(crate::specs::project::Refused::refused))]
 pub fn refuse<A>(alloc: Global, why: Refusal, text: &str) -> Result<Result<A, Refused>, AllocError>
     ensures { IfOk result (λ answer. answer_data answer ≡ Refuses (refused why text.now)) }

@@ -1,4 +1,4 @@
-//! Which text of a target `build.ninja` can't hold: it is looked for only where a call is refused.
+//! Finds the text of a target that `build.ninja` can't hold. It runs only if a call is refused.
 ghost use Rattle.std.specs.Prelude.{◌≡◌, map, option_map, string_bytes};
 ghost use Rattle.build.specs.edge.Texts.{texts};
 ghost use Rattle.build.specs.View.{build_view, custom_view, lists_view, source_view, target_view};
@@ -127,7 +127,7 @@ fn unheld_of_custom(target: &CustomTarget) -> Option<&str>
         .or(unheld_word_if(&target.depfile))
 }
 
-/// The first text of the target that `build.ninja` can't hold, or the target's name.
+/// Returns the first text of the target that `build.ninja` can't hold, or else the target's name.
 pub fn unheld(target: &Target) -> &str
     ensures { result.now ≡ unheld (target_view target.now) }
 {
@@ -137,7 +137,7 @@ pub fn unheld(target: &Target) -> &str
     }
 }
 
-/// The first of the words that `build.ninja` can't hold.
+/// Returns the first of the words that `build.ninja` can't hold, or else an empty text.
 pub fn unheld_word(words: &[String]) -> &str
     ensures { result.now ≡ unheld_word (texts words.now) }
 {

@@ -1,4 +1,4 @@
-//! Whether `build.ninja` can hold the words of compile commands, which is asked before they are made.
+//! Decides whether `build.ninja` can hold the words of compile commands, before they are made.
 ghost use Rattle.std.specs.Prelude.{◌≡◌};
 ghost use Rattle.std.specs.List.{list_all};
 ghost use Rattle.build.specs.edge.Holding.{value_held};
@@ -49,7 +49,7 @@ fn arguments_are_held(surroundings: &Surroundings, target: &BuildTarget) -> bool
         && can_hold_values(&target.own.compile_args)
 }
 
-/// Whether it can hold the words of the target's compile commands, up to the first that names the object.
+/// Returns whether `build.ninja` can hold the words of the target's compile commands, up to the first that names the object.
 pub fn words_are_held(surroundings: &Surroundings, target: &BuildTarget) -> bool
     ensures { result ≡ words_held (surroundings_view surroundings.now) (build_view target.now) }
 {

@@ -1,4 +1,4 @@
-//! The edges of a target, in parts.
+//! Computes the edges of a target, in parts.
 ghost use Rattle.std.specs.Prelude.{◌≡◌, ◌∷◌, [], map, IfOk};
 ghost use Rattle.build.specs.edge.Paths.{object_path};
 ghost use Rattle.build.specs.edge.View.{edge_view};
@@ -20,7 +20,7 @@ use crate::{
 };
 use std::alloc::{AllocError, Global};
 
-/// The edges that make the links to the target's file.
+/// Returns the edges that make the symbolic links to the target's file.
 pub fn names(context: &Context, target: &BuildTarget, file: &str) -> Result<Vec<Edge>, AllocError>
     requires { file.now ≡ path_of (build_view target.now) }
     ensures { IfOk result (λ v. map edge_view v.items ≡ link_edges (build_view target.now)) }
@@ -33,7 +33,7 @@ pub fn names(context: &Context, target: &BuildTarget, file: &str) -> Result<Vec<
     link_edges(context.alloc, file, &name, &links)
 }
 
-// The edge that makes the target's file of the objects of these inputs, and those that make the links to it.
+// Returns the edge that makes the target's file from the objects of these inputs, and the edges of the links to it.
 fn file_edges(
     context: &Context,
     target: &BuildTarget,
@@ -74,7 +74,7 @@ fn build_parts(context: &Context, target: &BuildTarget) -> Result<BuildParts, Al
     })
 }
 
-/// The parts of no edges.
+/// Returns the parts of no edges.
 pub fn no_parts<'a>(alloc: Global) -> TargetParts<'a>
     ensures { parts_edges result ≡ [] }
 {
@@ -87,8 +87,10 @@ pub fn no_parts<'a>(alloc: Global) -> TargetParts<'a>
     })
 }
 
-/// The edges of a target: of a build target those that compile its sources, the one that makes its file and those that make symbolic
-/// links to it; of a custom target the one that runs its command.
+/// Returns the edges of a target.
+///
+/// A build target has edges that compile its sources, one that makes its file, and those that make symbolic links to it. A custom target
+/// has one, which runs its command.
 pub fn target_parts<'a>(context: &Context, one: &'a Linked) -> Result<TargetParts<'a>, AllocError>
     ensures { IfOk result (λ p. parts_edges p
         ≡ target_edges (surroundings_view context.now.surroundings.now)

@@ -1,4 +1,5 @@
-//! What a project asks of a target's edges before it takes the target. They are not made for it, but for those that make symbolic links.
+//! Computes what a project needs to know of a target's edges before it accepts the target, without making them. Only the edges of symbolic
+//! links are made.
 ghost use Rattle.std.specs.Prelude.{◌≡◌, ◌∷◌, [], ◌++◌, ◌&&◌, ◌||◌, map, flat_map, IfOk, option_map, string_bytes};
 ghost use Rattle.std.specs.List.{list_all};
 ghost use Rattle.build.specs.edge.Holding.{is_path as is_path_of, are_writable as are_writable_of};
@@ -25,14 +26,14 @@ use crate::{
 };
 use std::alloc::{AllocError, Global};
 
-/// What a project has to know of a target's edges.
+/// Holds what a project needs to know of a target's edges.
 #[derive(Drop)]
 pub struct Claims {
-    /// Whether `build.ninja` can hold each of them.
+    /// Whether `build.ninja` can hold each of the edges.
     pub writable: bool,
     /// The objects that they make.
     pub objects: Vec<String>,
-    /// What else they make, which is what the target is asked for.
+    /// The other paths that they make, by which the edge `all` names the target.
     pub asked: Vec<String>,
 }
 
@@ -48,7 +49,7 @@ fn own_are_held(inputs: &[Input], objects: &[String]) -> bool
     are_paths(objects) && sources_are_paths(inputs)
 }
 
-// What the edges that compile share.
+// Returns whether `build.ninja` can hold what the edges that compile share.
 fn shared_is_held(context: &Context, target: &BuildTarget) -> Result<bool, AllocError>
     ensures { IfOk result (λ held. held
         ≡ compiles_held (surroundings_view context.now.surroundings.now) (build_view target.now)) }
@@ -57,8 +58,8 @@ fn shared_is_held(context: &Context, target: &BuildTarget) -> Result<bool, Alloc
     Ok(are_paths(&made) && words_are_held(context.surroundings, target))
 }
 
-// Whether `build.ninja` can hold each of the edges that compile these inputs to these objects. What the edges share is asked once, and of
-// each its own paths.
+// Returns whether `build.ninja` can hold each of the edges that compile these inputs to these objects. The shared parts are checked once,
+// and each edge's own paths.
 fn compiles_are_held(
     context: &Context,
     target: &BuildTarget,
@@ -73,7 +74,7 @@ fn compiles_are_held(
     Ok(inputs.is_empty() || (shared && own_are_held(inputs, objects)))
 }
 
-// Appends what the edges make.
+// Appends the outputs of the edges.
 fn push_outputs(paths: &mut Vec<String>, edges: &[Edge]) -> Result<(), AllocError>
     ensures { IfOk result (λ _. texts paths.new.items ≡ texts paths.old.items ++ flat_map (λ e. e.outputs) (map edge_view edges.now)) }
 {
@@ -83,7 +84,7 @@ fn push_outputs(paths: &mut Vec<String>, edges: &[Edge]) -> Result<(), AllocErro
     Ok(())
 }
 
-// A file, and what these edges make.
+// Returns a file, followed by the outputs of these edges.
 fn list_asked(alloc: Global, file: String, names: &[Edge]) -> Result<Vec<String>, AllocError>
     ensures { IfOk result (λ v. texts v.items
         ≡ string_bytes file ∷ flat_map (λ e. e.outputs) (map edge_view names.now)) }
@@ -161,7 +162,7 @@ fn command_is_held(target: &CustomTarget) -> bool
         && depfile_is_held(&target.folder, &target.depfile)
 }
 
-// Whether `build.ninja` can hold the edge of a custom target that makes these outputs.
+// Returns whether `build.ninja` can hold the edge of a custom target with these outputs.
 fn custom_is_held(target: &CustomTarget, outputs: &[String]) -> bool
     ensures { result ≡ custom_held (custom_view target.now) (texts outputs.now) }
 {
@@ -185,7 +186,7 @@ fn custom_claims(context: &Context, target: &CustomTarget) -> Result<Claims, All
     })
 }
 
-/// What a project has to know of the target's edges.
+/// Returns what a project needs to know of the target's edges.
 pub fn claims_of(context: &Context, target: &Target) -> Result<Claims, AllocError>
     ensures { let edges = target_edges (surroundings_view context.now.surroundings.now)
         (linked_views context.now.earlier.now) context.now.libraries.now (target_view target.now) in

@@ -1,4 +1,4 @@
-//! The words of compile commands.
+//! Computes the words of compile commands.
 ghost use Rattle.std.specs.Prelude.{◌≡◌, ◌++◌, flat_map, IfOk, string_bytes};
 ghost use Rattle.build.specs.edge.Folders.{build_folder, source_folder};
 ghost use Rattle.build.specs.edge.Texts.{texts};
@@ -12,9 +12,9 @@ use crate::target_edges::words::{Brought, push_brought, push_if, push_joined};
 use crate::{BuildTarget, Flags, Surroundings};
 use std::alloc::{AllocError, Global};
 
-// ---- where headers are looked for
+// ---- include folders
 
-// The words for a folder of the tree.
+// Appends the words for a folder of the source tree.
 fn push_include(words: &mut Vec<String>, depth: usize, folder: &str) -> Result<(), AllocError>
     ensures { IfOk result (λ _. texts words.new.items ≡ texts words.old.items ++ include_words depth folder.now) }
 {
@@ -36,7 +36,7 @@ fn push_includes(
     Ok(())
 }
 
-// The words for all folders, those of dependencies too.
+// Returns the words for all folders, with those of the dependencies.
 fn all_includes(
     alloc: Global,
     depth: usize,
@@ -63,7 +63,7 @@ fn includes(alloc: Global, depth: usize, target: &BuildTarget) -> Result<Vec<Str
     first_kept(alloc, &words)
 }
 
-// ---- what options and arguments say
+// ---- options and arguments
 
 fn push_warnings(words: &mut Vec<String>, level: usize) -> Result<(), AllocError>
     ensures { IfOk result (λ _. texts words.new.items ≡ texts words.old.items ++ warning_words level) }
@@ -73,7 +73,7 @@ fn push_warnings(words: &mut Vec<String>, level: usize) -> Result<(), AllocError
     push_if(words, level >= 3, "-Wpedantic")
 }
 
-// The word that gives the compiler an option's value, unless it is the one that asks for no word.
+// Appends the word that passes an option's value to the compiler, unless the value is the one without a word.
 fn push_value(
     words: &mut Vec<String>,
     front: &str,
@@ -112,7 +112,7 @@ fn push_arguments(
     push_copies(words, &target.own.compile_args)
 }
 
-// The words of the target's compile commands, up to what differs from source to source.
+// Returns the words of the target's compile commands, up to those that differ between sources.
 fn compile_words(
     alloc: Global,
     surroundings: &Surroundings,
@@ -130,7 +130,7 @@ fn compile_words(
     Ok(words)
 }
 
-/// The words of the target's compile commands, up to the first that names the object.
+/// Returns the words of the target's compile commands, up to the first that names the object.
 pub fn front_words(
     alloc: Global,
     surroundings: &Surroundings,

@@ -1,4 +1,4 @@
-//! The edge of a custom target. It is not made: what it has of the target is lent.
+//! Computes the edge of a custom target. The edge borrows from the target.
 ghost use Rattle.std.specs.Prelude.{◌≡◌, ◌++◌, [], flat_map, IfOk, string_bytes, option_map, codes, None, if◌then◌else◌};
 ghost use Rattle.build.specs.edge.Texts.{texts};
 ghost use Rattle.build.specs.edge.Own.{lent_view};
@@ -30,14 +30,14 @@ fn first_of(paths: &[String]) -> Option<&str>
     }
 }
 
-// Where the output of the command goes.
+// Returns the file that receives the output of the command, if one does.
 fn redirect(captures: bool, outputs: &[String]) -> Option<&str>
     ensures { option_map (λ p. p.now) result ≡ (if captures then first_of (texts outputs.now) else None) }
 {
     if captures { first_of(outputs) } else { None }
 }
 
-// Appends a blank and the path.
+// Appends a space and the path.
 fn push_spaced(text: &mut String, path: &str) -> Result<(), AllocError>
     ensures { IfOk result (λ _. string_bytes text.new ≡ string_bytes text.old ++ and_path path.now) }
 {
@@ -45,7 +45,7 @@ fn push_spaced(text: &mut String, path: &str) -> Result<(), AllocError>
     text.push_str(path)
 }
 
-// The bytes that there is room for before a path is named: those of most descriptions.
+// The initial capacity in bytes of a description, which is enough for most.
 const ROOM: usize = 64;
 
 fn description(alloc: Global, paths: &[String]) -> Result<String, AllocError>
@@ -60,7 +60,7 @@ fn description(alloc: Global, paths: &[String]) -> Result<String, AllocError>
 }
 
 impl<'a> CustomParts<'a> {
-    /// The edge.
+    /// Returns the edge.
     pub fn edge(&self) -> LentEdge<'_>
         ensures { lent_view result ≡ custom_parts_edge self.now }
     {
@@ -78,7 +78,7 @@ impl<'a> CustomParts<'a> {
     }
 }
 
-/// The parts of the edge that runs the command of a custom target, which makes these outputs.
+/// Returns the parts of the edge that runs the command of a custom target with these outputs.
 pub fn custom_parts<'a>(
     alloc: Global,
     depth: usize,

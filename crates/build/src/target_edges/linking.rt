@@ -1,4 +1,4 @@
-//! The edges that link and archive objects.
+//! Computes the edges that link and archive objects.
 ghost use Rattle.std.specs.Prelude.{◌≡◌, [], ◌∷◌, ◌++◌, ◌&&◌, None, Some, map, flat_map, IfOk, string_bytes, codes};
 ghost use Rattle.std.specs.List.{list_all};
 ghost use Rattle.build.specs.edge.Holding.{is_path as is_path_of, is_writable, value_held};
@@ -22,20 +22,20 @@ use crate::target_edges::words::{Brought, join, push_brought, push_joined};
 use crate::{BuildTarget, Kind, Linked, Surroundings, build_target_at, file_at, so_name};
 use std::alloc::{AllocError, Global};
 
-/// What a target's edges are made from, besides the target.
+/// Holds what a target's edges are computed from, besides the target.
 #[derive(Clone, Copy)]
 pub struct Context<'a> {
     pub alloc: Global,
     pub surroundings: &'a Surroundings,
-    /// The targets before it.
+    /// The earlier targets.
     pub earlier: &'a [Linked],
-    /// The libraries that it links, by their numbers.
+    /// The numbers of the libraries that it links.
     pub libraries: &'a [u32],
 }
 
 // ---- libraries
 
-// The file of the library with a number.
+// Appends the file of the library with this number.
 fn push_library(
     files: &mut Vec<String>,
     earlier: &[Linked],
@@ -49,7 +49,7 @@ fn push_library(
     Ok(())
 }
 
-// The files of the libraries.
+// Returns the files of the libraries.
 fn library_files(
     alloc: Global,
     earlier: &[Linked],
@@ -81,14 +81,14 @@ fn each_library_is_held(earlier: &[Linked], numbers: &[u32]) -> bool
         .all(|number| library_is_held(earlier, *number as usize))
 }
 
-// Whether `build.ninja` can hold the files of the libraries.
+// Returns whether `build.ninja` can hold the files of the libraries.
 fn libraries_are_held(earlier: &[Linked], numbers: &[u32]) -> bool
     ensures { result ≡ list_all is_path_of (library_files (linked_views earlier.now) numbers.now) }
 {
     each_library_is_held(earlier, numbers)
 }
 
-// The folder of a shared library.
+// Appends the folder of a shared library.
 fn push_if_shared(folders: &mut Vec<String>, target: &BuildTarget) -> Result<(), AllocError>
     ensures { IfOk result (λ _. texts folders.new.items ≡ texts folders.old.items ++ shared_folder_in (Some (build_view target.now))) }
 {
@@ -111,7 +111,7 @@ fn push_shared_folder(
     }
 }
 
-// The folders of the shared ones of the libraries.
+// Returns the folders of the shared libraries among these.
 fn shared_folders(
     alloc: Global,
     earlier: &[Linked],
@@ -126,7 +126,7 @@ fn shared_folders(
     Ok(folders)
 }
 
-// What the dependencies of a static library bring for linking.
+// Appends the link arguments of a static library's dependencies.
 fn push_if_static(words: &mut Vec<String>, target: &BuildTarget) -> Result<(), AllocError>
     ensures { IfOk result (λ _. texts words.new.items ≡ texts words.old.items ++ static_arguments_in (Some (build_view target.now))) }
 {
@@ -149,7 +149,7 @@ fn push_static_argument(
     }
 }
 
-// What the dependencies of the static ones of the libraries bring for linking.
+// Appends the link arguments of the dependencies of the static libraries among these.
 fn push_static_arguments(
     words: &mut Vec<String>,
     earlier: &[Linked],
@@ -166,7 +166,7 @@ fn push_static_arguments(
 
 // ---- words
 
-// The word that says where a program of a folder looks for a shared library of another.
+// Returns the argument that makes a program in `from` look for a shared library in `to`.
 fn search_word(alloc: Global, from: &str, to: &str) -> Result<String, AllocError>
     ensures { IfOk result (λ s. string_bytes s ≡ search_word from.now to.now) }
 {
@@ -175,7 +175,7 @@ fn search_word(alloc: Global, from: &str, to: &str) -> Result<String, AllocError
     Ok(word)
 }
 
-// Appends such a word for each of the folders.
+// Appends such an argument for each of the folders.
 fn push_words_for(words: &mut Vec<String>, from: &str, folders: &[String]) -> Result<(), AllocError>
     ensures { IfOk result (λ _. texts words.new.items ≡ texts words.old.items ++ map (search_word from.now) (texts folders.now)) }
 {
@@ -233,7 +233,7 @@ fn push_link_arguments(
     push_static_arguments(words, context.earlier, context.libraries)
 }
 
-// What stands behind the files of the libraries.
+// Appends what follows the files of the libraries.
 fn push_behind(
     words: &mut Vec<String>,
     context: &Context,
@@ -273,7 +273,7 @@ fn link_words(
 
 // ---- edges
 
-// The edge of this rule that makes this file of these inputs by these words.
+// Returns the edge with this rule that makes this file from these inputs, by a command of these words.
 fn edge_of(
     rule: Rule,
     file: &str,
@@ -354,7 +354,7 @@ fn link_edge(
     Ok(edge)
 }
 
-/// The edge that makes the target's file of its objects.
+/// Returns the edge that makes the target's file from its objects.
 pub fn file_edge(
     context: &Context,
     target: &BuildTarget,
@@ -377,7 +377,7 @@ pub fn file_edge(
     }
 }
 
-// ---- what is asked before they are made
+// ---- checks before the edges are made
 
 fn archive_is_held(archiver: &[String], file: &str, objects: &[String]) -> bool
     ensures { result ≡ archive_held (texts archiver.now) file.now (texts objects.now) }
@@ -385,7 +385,7 @@ fn archive_is_held(archiver: &[String], file: &str, objects: &[String]) -> bool
     is_path(file) && are_paths(objects) && can_hold_values(archiver)
 }
 
-// The same of what is linked with these words beside the files.
+// Returns whether `build.ninja` can hold the edge of a file that is linked with these words, besides the files.
 fn parts_are_held(context: &Context, file: &str, objects: &[String], words: &[String]) -> bool
     ensures { let libraries = library_files (linked_views context.now.earlier.now) context.now.libraries.now in
         let compiler = texts context.now.surroundings.now.facts.compiler.items in
@@ -399,7 +399,8 @@ fn parts_are_held(context: &Context, file: &str, objects: &[String], words: &[St
         && can_hold_values(words)
 }
 
-// The files of the libraries are words too, but what is a path can be held as a word.
+// Returns whether `build.ninja` can hold the edge that links. The files of the libraries are words too, but each valid path is a valid
+// word.
 fn link_is_held(
     context: &Context,
     target: &BuildTarget,
@@ -419,7 +420,7 @@ fn link_is_held(
     Ok(parts_are_held(context, file, objects, &words))
 }
 
-/// Whether `build.ninja` can hold the edge that makes the target's file of its objects.
+/// Returns whether `build.ninja` can hold the edge that makes the target's file from its objects.
 pub fn file_is_held(
     context: &Context,
     target: &BuildTarget,
@@ -448,7 +449,7 @@ fn naming_edge(alloc: Global, file: &str, name: &str, link: &str) -> Result<Edge
     edge_of(Rule::Symlink, link, inputs, words, "Linking name ")
 }
 
-/// The edges that make these symbolic links to the file of this name.
+/// Returns the edges that make these symbolic links to the file of this name.
 pub fn link_edges(
     alloc: Global,
     file: &str,

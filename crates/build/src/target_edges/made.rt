@@ -1,4 +1,4 @@
-//! The edges of a target as a list.
+//! Returns the edges of a target as a list.
 ghost use Rattle.std.specs.Prelude.{◌≡◌, ◌++◌, [], IfOk, map, option_map, string_bytes};
 ghost use Rattle.build.specs.edge.Own.{lent_view};
 ghost use Rattle.build.specs.edge.Texts.{texts};
@@ -22,7 +22,7 @@ fn copy_text(alloc: Global, text: Option<&str>) -> Result<Option<String>, AllocE
     }
 }
 
-// The edge, of which all is copied.
+// Returns a copy of the edge.
 fn copied(alloc: Global, edge: &LentEdge) -> Result<Edge, AllocError>
     ensures { IfOk result (λ e. edge_view e ≡ lent_view edge.now) }
 {
@@ -39,7 +39,7 @@ fn copied(alloc: Global, edge: &LentEdge) -> Result<Edge, AllocError>
     })
 }
 
-// The words of the command that compiles a source.
+// Returns the words of the command that compiles a source.
 fn compile_words(
     alloc: Global,
     front: &[String],
@@ -54,7 +54,7 @@ fn compile_words(
     Ok(words)
 }
 
-// The edge that compiles an input.
+// Returns the edge that compiles an input.
 fn compile_edge(alloc: Global, parts: &BuildParts, input: &Input) -> Result<Edge, AllocError>
     ensures { let p = parts.now in
         let edge = joined_edge (texts p.words.items) (texts p.generated.items) (string_bytes p.file) (input_view input.now) in
@@ -101,7 +101,7 @@ fn build_edges(alloc: Global, mut parts: BuildParts) -> Result<Vec<Edge>, AllocE
 }
 
 impl TargetParts<'_> {
-    /// The edges, in the order in which `build.ninja` has them.
+    /// Returns the edges, in the order of `build.ninja`.
     pub fn into_edges(self, alloc: Global) -> Result<Vec<Edge>, AllocError>
         ensures { IfOk result (λ es. map edge_view es.items ≡ parts_edges self.entry) }
     {

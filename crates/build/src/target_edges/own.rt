@@ -1,4 +1,4 @@
-//! What the compile edge of a source has of its own.
+//! Computes the parts of a source's compile edge that no other edge shares.
 ghost use Rattle.std.specs.Prelude.{◌≡◌, ◌++◌, map, IfOk, string_bytes, codes};
 ghost use Rattle.build.specs.edge.Own.{own_view};
 ghost use Rattle.build.specs.edge.Paths.{object_path};
@@ -9,7 +9,7 @@ use crate::edge::{OwnParts, object_path};
 use crate::target_edges::words::join;
 use std::alloc::{AllocError, Global};
 
-/// The texts of a source's compile edge that no other edge has.
+/// Holds the texts of a source's compile edge that no other edge has.
 #[derive(Drop)]
 pub struct SourceTexts {
     pub object: String,
@@ -17,7 +17,7 @@ pub struct SourceTexts {
     pub description: String,
 }
 
-/// The texts of an input, of the target whose file this is.
+/// Returns the texts of an input, for the target whose file is `file`.
 pub fn source_texts(alloc: Global, file: &str, input: &Input) -> Result<SourceTexts, AllocError>
     ensures object { IfOk result (λ t. string_bytes t.object ≡ object_path file.now (string_bytes input.now.name)) }
     ensures depfile { IfOk result (λ t. string_bytes t.depfile ≡ object_path file.now (string_bytes input.now.name) ++ codes ".d") }
@@ -34,7 +34,7 @@ pub fn source_texts(alloc: Global, file: &str, input: &Input) -> Result<SourceTe
     })
 }
 
-/// The words behind those that the compile edges of a target share.
+/// Returns the words after those that the compile edges of a target share.
 pub fn last_words<'a>(texts: &'a SourceTexts, source: &'a str) -> [&'a str; 7]
     ensures { map (λ w. w.now) result ≡ last_words (string_bytes texts.now.object) (string_bytes texts.now.depfile) source.now }
 {
@@ -50,7 +50,7 @@ pub fn last_words<'a>(texts: &'a SourceTexts, source: &'a str) -> [&'a str; 7]
     ]
 }
 
-/// The parts of the edge, with these last words.
+/// Returns the edge's own parts, with these last words.
 pub fn own_parts<'a>(texts: &'a SourceTexts, source: &'a str, words: &'a [&'a str]) -> OwnParts<'a>
     ensures { own_view result ≡ record {
       output = string_bytes texts.now.object;

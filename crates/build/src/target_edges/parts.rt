@@ -4,16 +4,16 @@ ghost use Rattle.build.specs.target_edges.Parts.{has_first};
 use crate::Input;
 use crate::edge::{Edge, Rule};
 
-/// The edges of a build target in parts. Those that compile its sources come first: they share all but three texts of each, and are not
-/// made.
+/// Holds the edges of a build target in parts. Those that compile its sources come first. They share all but three texts of each, and are
+/// not made.
 pub struct BuildParts {
     /// The words of the compile commands, up to the first that names the object.
     pub words: Vec<String>,
-    /// What is only made before a source is compiled.
+    /// The paths that must be made before a source is compiled.
     pub generated: Vec<String>,
     /// The target's file, from which objects have their names.
     pub file: String,
-    /// What is compiled.
+    /// The sources that are compiled.
     pub inputs: Vec<Input>,
     /// The edges that compile nothing.
     pub rest: Vec<Edge>,
@@ -32,7 +32,7 @@ impl Drop for BuildParts {
     }
 }
 
-/// The edge of a custom target: what is lent of the target, and what is made of it.
+/// Holds the edge of a custom target: what it borrows from the target, and what is computed.
 #[derive(Drop)]
 pub struct CustomParts<'a> {
     pub rule: Rule,
@@ -45,7 +45,7 @@ pub struct CustomParts<'a> {
     pub depfile: Option<String>,
 }
 
-/// The edges of a target, in parts.
+/// Holds the edges of a target, in parts.
 #[derive(Drop)]
 pub enum TargetParts<'a> {
     Build(BuildParts),

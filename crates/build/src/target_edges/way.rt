@@ -1,18 +1,18 @@
-//! The way from one folder of the build folder to another.
+//! Computes the relative path from one folder of the build directory to another.
 ghost use Rattle.std.specs.Prelude.{◌≡◌, ◌++◌, ◌==◌, map, flat_map, IfOk, string_bytes};
 ghost use Rattle.std.specs.List.{slice_split};
 ghost use Rattle.build.specs.target_edges.Ways.{parts_of, steps_up, step_down, way_between, relative_way};
 
 use std::alloc::{AllocError, Global};
 
-// What stands between the slashes of a path.
+// Returns the parts of a path between its slashes.
 fn pieces<'a>(alloc: Global, path: &'a str) -> Result<Vec<&'a str>, AllocError>
     ensures { IfOk result (λ pieces. map (λ s. s.now) pieces.items ≡ slice_split (λ c. c == 47) path.now) }
 {
     path.split('/').collect(alloc)
 }
 
-// The parts of a folder's path: the root has none.
+// Returns the parts of a folder's path. The root has none.
 fn parts_of<'a>(alloc: Global, folder: &'a str) -> Result<Vec<&'a str>, AllocError>
     ensures { IfOk result (λ parts. map (λ s. s.now) parts.items ≡ parts_of folder.now) }
 {
@@ -23,7 +23,7 @@ fn parts_of<'a>(alloc: Global, folder: &'a str) -> Result<Vec<&'a str>, AllocErr
     }
 }
 
-// Appends `/..` so many times.
+// Appends `/..`, `steps` times.
 fn push_up(way: &mut String, steps: usize) -> Result<(), AllocError>
     ensures { IfOk result (λ _. string_bytes way.new ≡ string_bytes way.old ++ steps_up steps) }
 {
@@ -33,7 +33,7 @@ fn push_up(way: &mut String, steps: usize) -> Result<(), AllocError>
     Ok(())
 }
 
-// `/` and the part, for each of these parts.
+// Appends `/` and the part, for each of these parts.
 fn push_down(way: &mut String, to: &[&str]) -> Result<(), AllocError>
     ensures { IfOk result (λ _. string_bytes way.new ≡ string_bytes way.old ++ flat_map step_down (map (λ s. s.now) to.now)) }
 {
@@ -44,7 +44,7 @@ fn push_down(way: &mut String, to: &[&str]) -> Result<(), AllocError>
     Ok(())
 }
 
-// The way between folders of these parts, without those that both begin with.
+// Appends the way between folders with these parts, without the parts that both begin with.
 fn push_way_between(way: &mut String, from: &[&str], to: &[&str]) -> Result<(), AllocError>
     ensures { IfOk result (λ _. string_bytes way.new
         ≡ string_bytes way.old ++ way_between (map (λ s. s.now) from.now) (map (λ s. s.now) to.now)) }
@@ -65,7 +65,7 @@ fn push_way_between(way: &mut String, from: &[&str], to: &[&str]) -> Result<(), 
     }
 }
 
-/// Appends the way from a folder to another.
+/// Appends the way from one folder to another.
 pub fn push_way(way: &mut String, alloc: Global, from: &str, to: &str) -> Result<(), AllocError>
     ensures { IfOk result (λ _. string_bytes way.new ≡ string_bytes way.old ++ relative_way from.now to.now) }
 {

@@ -1,4 +1,4 @@
-//! Words of commands.
+//! Appends words of commands.
 ghost use Rattle.std.specs.Prelude.{◌≡◌, [], ◌∷◌, ◌++◌, IfOk, string_bytes};
 ghost use Rattle.build.specs.edge.Texts.{texts};
 ghost use Rattle.build.specs.Sources.{brought};
@@ -9,7 +9,7 @@ use crate::edge::{push_copies, push_text};
 use crate::{BuildTarget, Lists};
 use std::alloc::{AllocError, Global};
 
-/// One text behind another.
+/// Returns the first text followed by the second.
 pub fn join(alloc: Global, front: &str, end: &str) -> Result<String, AllocError>
     ensures { IfOk result (λ s. string_bytes s ≡ front.now ++ end.now) }
 {
@@ -19,7 +19,7 @@ pub fn join(alloc: Global, front: &str, end: &str) -> Result<String, AllocError>
     Ok(whole)
 }
 
-/// Appends one text behind another as a word.
+/// Appends a word that is the first text followed by the second.
 pub fn push_joined(words: &mut Vec<String>, front: &str, end: &str) -> Result<(), AllocError>
     ensures { IfOk result (λ _. texts words.new.items ≡ texts words.old.items ++ (front.now ++ end.now) ∷ []) }
 {
@@ -28,7 +28,7 @@ pub fn push_joined(words: &mut Vec<String>, front: &str, end: &str) -> Result<()
     Ok(())
 }
 
-/// Appends the word where the test holds.
+/// Appends the word if the test holds.
 pub fn push_if(words: &mut Vec<String>, test: bool, word: &str) -> Result<(), AllocError>
     ensures { IfOk result (λ _. texts words.new.items ≡ texts words.old.items ++ word_if test word.now) }
 {
@@ -38,7 +38,7 @@ pub fn push_if(words: &mut Vec<String>, test: bool, word: &str) -> Result<(), Al
     Ok(())
 }
 
-/// Texts that a dependency brings to the targets that name it.
+/// Names the texts that a dependency adds to the targets that name it.
 #[derive(Clone, Copy)]
 pub enum Brought {
     IncludeFolders,
@@ -47,7 +47,7 @@ pub enum Brought {
 }
 
 impl Brought {
-    /// Those of these lists.
+    /// Returns the texts of this kind in these lists.
     pub fn of(self, lists: &Lists) -> &[String]
         ensures { texts result.now ≡ texts_of self (lists_view lists.now) }
     {
@@ -59,7 +59,7 @@ impl Brought {
     }
 }
 
-/// Appends what the dependencies bring.
+/// Appends the texts of this kind that the dependencies add.
 pub fn push_brought(
     words: &mut Vec<String>,
     target: &BuildTarget,

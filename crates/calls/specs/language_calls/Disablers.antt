@@ -1,4 +1,4 @@
--- `disabler` and `is_disabler`.
+-- Defines `disabler` and `is_disabler`.
 use Rattle.std.specs.Prelude.{false, Option, Some, unwrap_or, option_map}
 use Rattle.values.specs.Data.{Data, boolean, is_disabler}
 use Rattle.operations.specs.operators.Operations.{disabler}
@@ -6,10 +6,10 @@ use Rattle.arguments.specs.Arguments.{ArgumentsData}
 use Rattle.arguments.specs.Given.{argument}
 use Rattle.world.specs.Deed.{Deed, give}
 
--- `disabler()`
+-- Defines `disabler()`.
 unfoldable pub give_disabler : Deed (Option Data)
 give_disabler = give (Some disabler)
 
--- `is_disabler(value)`: a list with a disabler is none
+-- Defines `is_disabler(value)`. A list that contains a disabler is not one.
 unfoldable pub tell_disabler : ArgumentsData → Deed (Option Data)
 tell_disabler a = give (Some (boolean (unwrap_or (option_map is_disabler (argument 0 a)) false)))

@@ -1,4 +1,4 @@
--- `join_paths`: one path of many.
+-- Defines `join_paths`, which makes one path of many.
 use Rattle.std.specs.Prelude.{ℕ, List, [], ◌∷◌, Option, Some}
 use Rattle.values.specs.Data.{Data, text}
 use Rattle.values.specs.Limits.{within}
@@ -7,12 +7,12 @@ use Rattle.arguments.specs.Arguments.{ArgumentsData}
 use Rattle.values.specs.Flat.{flat_all}
 use Rattle.world.specs.Deed.{Deed, give, ◌>>=◌, answered}
 
--- each path below the one before it, as the operator `/` has it
+-- Returns each path below the one before it, as the operator `/` joins them.
 abbrev pub path_of : List ℕ → List (List ℕ) → List ℕ
 path_of path [] = path
 path_of path (t ∷ ts) = path_of (path_below path t) ts
 
--- `join_paths(texts..)`
+-- Defines `join_paths(texts..)`.
 unfoldable pub join_paths : ArgumentsData → Deed (Option Data)
 join_paths a = do
   d ← answered (within (text (path_of [] (flat_all a.positional))))

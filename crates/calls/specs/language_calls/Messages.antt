@@ -1,4 +1,4 @@
--- `message`, `warning`, `error` and `assert`: what is told to the user.
+-- Defines `message`, `warning`, `error` and `assert`: what the user is shown.
 use Rattle.std.specs.Prelude.{ℕ, true, List, [], ◌∷◌, ◌++◌, Option, None, codes}
 use Rattle.std.specs.List.{list_all}
 use Rattle.values.specs.Data.{Data}
@@ -10,37 +10,37 @@ use Rattle.arguments.specs.Given.{flag_at, text_or}
 use Rattle.calls.specs.language_calls.Saying.{behind_spaces}
 use Rattle.world.specs.Deed.{Deed, give, refuse, ◌>>=◌, say, need}
 
--- what is printed of values, with a space between each two; it may be longer than a text can be
+-- Returns printed values with a space between each two. The result may be longer than a text can be.
 abbrev pub line_of : List Data → List ℕ
 line_of [] = []
 line_of (d ∷ ds) = whole (shown d ∷ behind_spaces ds)
 
--- values that have a printed text, or the call is refused (E9)
+-- Refuses the call if a value cannot be printed (E9).
 unfoldable pub need_printable : List Data → Deed (Unit {0})
 need_printable ds = need (list_all is_printable ds) refusals.Arguments (codes "arguments: one can't be printed")
 
--- a line of the log, which begins so
+-- Writes a line that begins with `start` to the log.
 unfoldable pub logged : List ℕ → ArgumentsData → Deed (Option Data)
 logged start a = do
   _ ← need_printable a.positional
   _ ← say (start ++ (line_of a.positional ++ codes "\n"))
   give None
 
--- `message(values..)`
+-- Defines `message(values..)`.
 unfoldable pub message : ArgumentsData → Deed (Option Data)
 message a = logged (codes "Message: ") a
 
--- `warning(values..)`
+-- Defines `warning(values..)`.
 unfoldable pub warning : ArgumentsData → Deed (Option Data)
 warning a = logged (codes "WARNING: ") a
 
--- `error(values..)` ends the run with E18 and what is printed
+-- Defines `error(values..)`, which ends the run with E18 and the printed values.
 unfoldable pub error : ArgumentsData → Deed (Option Data)
 error a = do
   _ ← need_printable a.positional
   refuse refusals.Message (line_of a.positional)
 
--- `assert(condition, text)` ends the run with E18 where the condition is false
+-- Defines `assert(condition, text)`, which ends the run with E18 if the condition is false.
 unfoldable pub assert : ArgumentsData → Deed (Option Data)
 assert a = do
   _ ← need (flag_at 0 true a) refusals.Message (text_or 1 (codes "assert") a)

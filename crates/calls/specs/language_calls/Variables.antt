@@ -1,4 +1,4 @@
--- The functions that name a variable by a text.
+-- Defines the functions that take the name of a variable as a text.
 use Rattle.std.specs.Prelude.{ℕ, Bool, true, false, not, ◌||◌, ◌&&◌, List, [], Option, Some, None, is_some, refl}
 use Rattle.values.specs.Data.{Data, boolean}
 use Rattle.arguments.specs.declared.rule.Rule.TheVariants as rules
@@ -10,55 +10,57 @@ use Rattle.world.specs.Deed.{Deed, give, refuse, read, change, ◌>>=◌, need}
 use Rattle.world.specs.Ruled.{obeyed}
 use Rattle.values.specs.language_names.Names.{is_name, is_predefined, predefined}
 
--- a name that definition files may set
+-- Holds if build files may assign a variable with this name.
 abbrev pub is_settable : List ℕ → Bool
 is_settable name = is_name name && not (is_predefined name)
 
+-- Assigns a value to a variable.
 unfoldable pub set_to : List ℕ → Option Data → Deed (Unit {0})
 set_to name (Some d) = change (with_variable name (Some d)) (λ facts. refl)
 set_to name None = refuse refusals.Arguments []
 
--- `set_variable(name, value)`
+-- Defines `set_variable(name, value)`.
 unfoldable pub set_variable : ArgumentsData → Deed (Option Data)
 set_variable a = do
   _ ← obeyed (is_settable (text_at 0 a)) rules.IsSettable (text_at 0 a)
   _ ← set_to (text_at 0 a) (argument 1 a)
   give None
 
--- the value of a variable, or else a fallback
+-- Returns the value of a variable, and otherwise the fallback. Without either it refuses with E5.
 unfoldable pub value_or : List ℕ → Option Data → Option Data → Deed (Option Data)
 value_or name (Some d) fallback = give (Some d)
 value_or name None (Some d) = give (Some d)
 value_or name None None = refuse refusals.UndefinedName name
 
--- the value of a variable that definition files set, or else a fallback
+-- Returns the value of a variable that build files assign, and otherwise the fallback.
 unfoldable pub set_or : List ℕ → Option Data → Deed (Option Data)
 set_or name fallback = do
   facts ← read
   value_or name (facts.variables name) fallback
 
--- what a name stands for that every run has
+-- Returns the object of a predefined variable.
 unfoldable pub thing : List ℕ → Deed (Option Data)
 thing name = give (Some (predefined name))
 
+-- Returns the value of a variable, and otherwise the fallback, by whether the name is predefined.
 unfoldable pub variable_or : Bool → List ℕ → Option Data → Deed (Option Data)
 variable_or true name fallback = thing name
 variable_or false name fallback = set_or name fallback
 
--- `get_variable(name, fallback)`
+-- Defines `get_variable(name, fallback)`.
 unfoldable pub get_variable : ArgumentsData → Deed (Option Data)
 get_variable a = do
   _ ← obeyed (is_name (text_at 0 a)) rules.IsVariableName (text_at 0 a)
   variable_or (is_predefined (text_at 0 a)) (text_at 0 a) (argument 1 a)
 
--- `is_variable(name)`
+-- Defines `is_variable(name)`.
 unfoldable pub is_variable : ArgumentsData → Deed (Option Data)
 is_variable a = do
   _ ← obeyed (is_name (text_at 0 a)) rules.IsVariableName (text_at 0 a)
   facts ← read
   give (Some (boolean (is_predefined (text_at 0 a) || is_some (facts.variables (text_at 0 a)))))
 
--- `unset_variable(name)`
+-- Defines `unset_variable(name)`.
 unfoldable pub unset_variable : ArgumentsData → Deed (Option Data)
 unset_variable a = do
   _ ← obeyed (is_settable (text_at 0 a)) rules.IsSettable (text_at 0 a)

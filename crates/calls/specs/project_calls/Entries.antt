@@ -1,4 +1,4 @@
--- Options as they are listed.
+-- Defines how options are listed.
 use Rattle.std.specs.Prelude.{ℕ, List, map, codes}
 use Rattle.machine.specs.option_values.Values as value
 use Rattle.machine.specs.declared.option_values.kind.FeatureState.{FeatureState}
@@ -8,6 +8,7 @@ use Rattle.build.specs.Data.{OptionData, OptionEntryData, text, boolean, integer
 use Rattle.build.specs.declared.facts.OptionType.{OptionType}
 use Rattle.build.specs.declared.facts.OptionType.TheVariants as kind
 
+-- Returns the type of an option's value.
 abbrev pub type_of : value.Value → OptionType
 type_of (value.Text t) = kind.String
 type_of (value.Boolean b) = kind.Boolean
@@ -16,12 +17,13 @@ type_of (value.Integer n) = kind.Integer
 type_of (value.Array items) = kind.Array
 type_of (value.Feature state) = kind.Feature
 
+-- Returns the name of a feature's state.
 abbrev pub word_of : FeatureState → List ℕ
 word_of feature.Enabled = codes "enabled"
 word_of feature.Disabled = codes "disabled"
 word_of feature.Auto = codes "auto"
 
--- a choice and the state of a feature are shown as texts
+-- Returns how an option's value is listed. Choices and the states of features are listed as texts.
 abbrev pub shown : value.Value → OptionData
 shown (value.Text t) = text t
 shown (value.Boolean b) = boolean b
@@ -30,9 +32,10 @@ shown (value.Integer n) = integer n
 shown (value.Array items) = texts items
 shown (value.Feature state) = text (word_of state)
 
+-- Returns an option as it is listed.
 abbrev pub entry_of : List ℕ × value.Value → OptionEntryData
 entry_of named = record { name = named.0; kind = type_of named.1; value = shown named.1 }
 
--- every option, in their order
+-- Returns all options, in order.
 abbrev pub entries_in : List Setting → List OptionEntryData
 entries_in settings = map entry_of (map named_value settings)

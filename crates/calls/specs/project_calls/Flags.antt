@@ -1,29 +1,31 @@
--- What edges take from the options.
+-- Defines which flags compilers and linkers get from the options.
 use Rattle.std.specs.Prelude.{ℕ, Bool, false, List, [], Option, Some, codes, bytes_eq, if◌then◌else◌}
 use Rattle.machine.specs.option_values.Values as value
 use Rattle.machine.specs.option_values.Settings.{value_named, Setting}
 use Rattle.build.specs.Data.{FlagsData}
 
--- the text that a value is, be it any or a choice
+-- Returns the text of a string option or the choice of a combo option.
 abbrev pub text_in : Option value.Value → List ℕ
 text_in (Some (value.Text text)) = text
 text_in (Some (value.Combo choice)) = choice
 text_in _ = []
 
+-- Returns the boolean of a boolean option, and false for any other.
 abbrev pub is_set : Option value.Value → Bool
 is_set (Some (value.Boolean boolean)) = boolean
 is_set _ = false
 
+-- Returns the items of an array option.
 abbrev pub items_in : Option value.Value → List (List ℕ)
 items_in (Some (value.Array items)) = items
 items_in _ = []
 
--- a level of warnings
+-- Returns the number of a warning level.
 abbrev pub level_of : List ℕ → ℕ
 level_of text =
     if bytes_eq text (codes "1") then 1 else (if bytes_eq text (codes "2") then 2 else (if bytes_eq text (codes "3") then 3 else 0))
 
--- Each option has a value of its type; in place of an option that there isn't stands what says nothing.
+-- Returns the flags of the options. Each option has a value of its type; an absent option has no effect.
 abbrev pub flags_in : List Setting → FlagsData
 flags_in settings = record {
   warning_level = level_of (text_in (value_named settings (codes "warning_level")));

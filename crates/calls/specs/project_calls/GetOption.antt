@@ -1,4 +1,4 @@
--- `get_option`.
+-- Defines `get_option`.
 use Rattle.std.specs.Prelude.{ℕ, List, Option, Some, None, Result, Ok}
 use Rattle.values.specs.Data.{Data, boolean, integer, text, object}
 use Rattle.values.specs.Limits.{within}
@@ -18,12 +18,13 @@ use Rattle.machine.specs.declared.option_values.kind.FeatureState.TheVariants as
 use Rattle.machine.specs.option_values.Settings.{value_named}
 use Rattle.world.specs.Deed.{Deed, give, refuse, read, ◌>>=◌, answered}
 
+-- Returns the feature for a state.
 abbrev pub feature_of : FeatureState → Feature
 feature_of states.Enabled = features.Enabled
 feature_of states.Disabled = features.Disabled
 feature_of states.Auto = features.Auto
 
--- the value of an option as a value of the language, or E22 where it is too large for one; that of a feature is an object
+-- Returns the value of an option as a value of the language, or E22 if it is too large. The value of a feature option is an object.
 unfoldable pub as_data : Value → Result Data OperationRefusal
 as_data (Text t) = within (text t)
 as_data (Boolean b) = Ok (boolean b)
@@ -32,14 +33,14 @@ as_data (Integer n) = Ok (integer n)
 as_data (Array items) = text_list items
 as_data (FeatureValue state) = Ok (object (objects.Feature (feature_of state)))
 
--- the value of the option with a name, where there is such an option
+-- Returns the value of the option with a name, and refuses an unknown name with E15.
 unfoldable pub given : List ℕ → Option Value → Deed (Option Data)
 given name None = refuse refusals.OptionValue (broken rules.IsOption name)
 given name (Some value) = do
   d ← answered (as_data value)
   give (Some d)
 
--- `get_option(name)`: E15 where no option has the name
+-- Defines `get_option(name)`, which refuses an unknown name with E15.
 unfoldable pub get_option : ArgumentsData → Deed (Option Data)
 get_option a = do
   facts ← read

@@ -1,4 +1,4 @@
--- The option file of a project.
+-- Defines how the option file of a project is read.
 use Rattle.std.specs.Prelude.{ℕ, List, [], ◌∷◌, codes, Result, Ok, Err, refl}
 use Rattle.std.specs.Str.{is_utf8}
 use Rattle.syntax.specs.Parsed.{parsed}
@@ -13,40 +13,41 @@ use Rattle.world.specs.Finding.{FoundData, nothing, too_long, bytes, find}
 use Rattle.world.specs.World.{with_place}
 use Rattle.world.specs.Deed.{Deed, give, refuse, read, change, ◌>>=◌}
 
--- its path, and the options that it declares
+-- An option file: its path, and the options that it declares.
 pub record OptionFileData : Type 0 where
   pub path : List ℕ
   pub declared : List Declaration
 
--- the statements of a file, one after another
+-- Returns the statements of a file as a list.
 abbrev pub listed : Statements → FileTree
 listed NoStatement = []
 listed (MoreStatements s ss) = s ∷ listed ss
 
--- the options that statements of the present file declare, or the first fault of one, at its line
+-- Returns the options declared by statements of the present file, or refuses the first fault at its line.
 unfoldable pub declared_or_fault : Result (List Declaration) DeclareFaultData → Deed (List Declaration)
 declared_or_fault (Ok options) = give options
 declared_or_fault (Err fault) = refuse_line_about fault.line fault.refusal fault.detail
 
--- the options that a text of the present file declares
+-- Returns the options declared by a text of the present file.
 unfoldable pub text_declares : List ℕ → Deed (List Declaration)
 text_declares text = do
   body ← tree_or_fault (parsed text)
   declared_or_fault (file_declares (listed body))
 
--- the options that the bytes of the present file declare
+-- Returns the options declared by the bytes of the present file.
 unfoldable pub bytes_declare : List ℕ → Deed (List Declaration)
 bytes_declare bs = do
   body ← spelled_by (is_utf8 bs) bs
   declared_or_fault (file_declares (listed body))
 
--- The options that the present file declares, which was found so: E22 at its first line, then E1 to E4, and then E15 and E23.
+-- Returns the options declared by the present file, from what was found there. Refuses with E22 at its first line, then E1 to E4, and then
+-- E15 and E23.
 unfoldable pub declared_in : FoundData → Deed (List Declaration)
 declared_in nothing = give []
 declared_in too_long = refuse refusals.Limit []
 declared_in (bytes bs) = bytes_declare bs
 
--- the same of a file that was found so at this path; the run goes on where it was
+-- Returns the options declared by the file at this path, from what was found there. The present place is restored afterwards.
 unfoldable pub declared_at : List ℕ → FoundData → Deed OptionFileData
 declared_at path found = do
   outer ← read
@@ -55,14 +56,14 @@ declared_at path found = do
   _ ← change (with_place outer.file outer.folder outer.line) (λ facts. refl)
   give (record { path = path; declared = options })
 
--- by what was found at the new path
+-- Returns the option file, by what was found at the new path.
 unfoldable pub option_file_by : FoundData → Deed OptionFileData
 option_file_by nothing = do
   old ← find (codes "meson_options.txt")
   declared_at (codes "meson_options.txt") old
 option_file_by found = declared_at (codes "meson.options") found
 
--- `meson.options` and, where that is absent, `meson_options.txt`
+-- Returns the option file: `meson.options`, or if that is absent `meson_options.txt`.
 unfoldable pub option_file : Deed OptionFileData
 option_file = do
   found ← find (codes "meson.options")

@@ -1,30 +1,31 @@
--- The programs of a machine.
+-- Defines which programs the machine uses.
 use Rattle.std.specs.Prelude.{ℕ, List, [], ◌∷◌, Option, Some, None, codes}
 use Rattle.machine.specs.machine_file.Questions.{Answer, Key, plain, value_of_answer}
 use Rattle.machine.specs.machine_file.Readers.{words_said}
 use Rattle.machine.specs.machine_file.Values.{Value}
 use Rattle.world.specs.Deed.{Deed, give, consult, ◌>>=◌}
 
+-- Returns the command in a value, or the default as its only argument.
 abbrev pub words_or : Option Value → List ℕ → List (List ℕ)
 words_or None default = default ∷ []
 words_or (Some value) default = words_said value
 
--- the words of a program by what the machine file answers, or this one
+-- Returns the command of a program by the machine file's answer, or the default.
 abbrev pub program_by : Answer → List ℕ → List (List ℕ)
 program_by answer default = words_or (value_of_answer answer) default
 
--- the words of a program, as `[binaries]` of the machine file has it, or this one
+-- Returns the command of a program from `[binaries]` of the machine file, or the default.
 unfoldable pub program : List ℕ → List ℕ → Deed (List (List ℕ))
 program name default = do
   answer ← consult (plain (Key (codes "binaries") name))
   give (program_by answer default)
 
--- the programs that every build has, each by its words
+-- The programs that every build has, each as a command line of one or more arguments.
 pub record ProgramsData : Type 0 where
   pub compiler : List (List ℕ)
   pub archiver : List (List ℕ)
 
--- the compiler, which is asked for first, and the archiver
+-- Returns the compiler and the archiver. The compiler is requested first.
 unfoldable pub programs : Deed ProgramsData
 programs = do
   compiler ← program (codes "c") (codes "cc")

@@ -1,4 +1,4 @@
--- `project`.
+-- Defines `project`.
 use Rattle.std.specs.Prelude.{ℕ, not, List, [], ◌∷◌, ◌++◌, Option, Some, None, codes, unwrap_or, option_and_then, if◌then◌else◌}
 use Rattle.std.specs.Prelude.{Result, Ok, Err, refl}
 use Rattle.std.specs.Str.{bytes_eq}
@@ -24,54 +24,55 @@ use Rattle.world.specs.World.{Facts, with_options}
 use Rattle.world.specs.Deed.{Deed, give, refuse, need, read, change, begin_project, ◌>>=◌, say}
 use Rattle.world.specs.Operation.{of_operation}
 
--- what stands behind the name
+-- Returns the arguments after the name: the languages.
 abbrev pub texts_behind : ArgumentsData → List (List ℕ)
 texts_behind a = texts_from 1 a
 
--- the first language that is not C
+-- Returns the first language that is not C.
 abbrev pub other_language : List (List ℕ) → Option (List ℕ)
 other_language [] = None
 other_language (l ∷ ls) = if bytes_eq l (codes "c") then other_language ls else Some l
 
--- no language beside C
+-- Refuses a language other than C (E23).
 unfoldable pub c_alone : Option (List ℕ) → Deed (Unit {0})
 c_alone None = give tt
 c_alone (Some language) = refuse refusals.LeftOut (broken rules.IsC language)
 
--- the languages of a project: at least one, and none but C
+-- Checks the languages of a project: at least one, and only C.
 unfoldable pub languages_taken : List (List ℕ) → Deed (Unit {0})
 languages_taken [] = refuse refusals.ProjectCall (codes "'project': names no language")
 languages_taken (l ∷ ls) = c_alone (other_language (l ∷ ls))
 
 -- ---- the options
 
--- values as they are printed, or a refusal by this name
+-- Returns printed values, or refuses with this name.
 unfoldable pub printed_or : Result (List (List ℕ)) OperationRefusal → List ℕ → Deed (List (List ℕ))
 printed_or (Ok texts) name = give texts
 printed_or (Err refusal) name = refuse (of_operation refusal) (broken rules.IsPrinted name)
 
--- the values of a dictionary of defaults as they are printed, or a refusal by the name of the first that can't be
+-- Returns the printed values of a dictionary of defaults, or refuses with the name of the first that cannot be printed.
 unfoldable pub defaults_printed : ArgumentsData → Deed (List (List ℕ))
 defaults_printed a = printed_or (printed_values a) (first_unprinted (keys_in (entries_given a)) (entry_values (entries_given a)))
 
--- the user is warned of names that no option has
+-- Warns the user of names that no option has.
 unfoldable pub warned : List (List ℕ) → Deed (Unit {0})
 warned [] = give tt
 warned (name ∷ names) = do
   _ ← say ((codes "WARNING: unknown option " ++ name) ++ codes "\n")
   warned names
 
--- the options with their values, or the first fault of a value, at its place, where the option file has this path
+-- Returns the options with their values, or refuses the first fault of a value at its place, where `path` is the path of the option file.
 unfoldable pub settled : List ℕ → Result (List Setting) OptionFaultData → ℕ → Deed (List Setting)
 settled path (Ok settings) call = give settings
 settled path (Err fault) call = refuse_about (file_of path fault.place) (line_of call fault.place) fault.refusal fault.detail
 
--- ---- what `project` says
+-- ---- facts of the project
 
+-- Returns the keyword `version`, which is `undefined` by default.
 abbrev pub version_of : ArgumentsData → List ℕ
 version_of a = unwrap_or (option_and_then text_in (keyword (codes "version") a)) (codes "undefined")
 
--- the arguments of the call, the folders, the programs of the machine and the options
+-- Returns the facts of the project: from the arguments of the call, the directories, the programs of the machine and the options.
 abbrev pub facts_of : ArgumentsData → List Setting → ProgramsData → Facts → FactsData
 facts_of a options programs facts = record {
   name = text_at 0 a;
@@ -86,7 +87,7 @@ facts_of a options programs facts = record {
   options = entries_in options;
 }
 
--- the warnings, the programs, and then the options are set, and the project begins
+-- Writes the warnings, requests the programs, sets the options, and begins the project.
 unfoldable pub begin : ArgumentsData → List ℕ → Resolution → Deed (Unit {0})
 begin a path r = do
   _ ← warned r.unknown
@@ -97,8 +98,8 @@ begin a path r = do
   _ ← change (with_options options) (λ facts. refl)
   begin_project (facts_of a options found facts)
 
--- `project(name, language.., version:, license:, default_options:, meson_version:)`: a later call is refused, whatever it is given; which
--- version of Meson is asked for has no effect
+-- Defines `project(name, language.., version:, license:, default_options:, meson_version:)`. A second call is refused, whatever its
+-- arguments are. The required version of Meson has no effect.
 unfoldable pub project : ArgumentsData → Deed (Option Data)
 project a = do
   facts ← read

@@ -1,8 +1,9 @@
--- The rows of the functions: what each takes.
+-- Defines the rows of `project` and `get_option`: the arguments that each takes.
 use Rattle.std.specs.Prelude.{List, [], ◌∷◌, codes}
 use Rattle.arguments.specs.declared.row.Kind.TheVariants.{Any, Text, Texts, TextsOrDictionary}
 use Rattle.arguments.specs.Row.{KeywordData, RowData, optional, row, with_others}
 
+-- Returns the keywords of `project`.
 abbrev pub project_keywords : List KeywordData
 project_keywords =
     optional (codes "version") Text
@@ -11,10 +12,10 @@ project_keywords =
     ∷ optional (codes "meson_version") Any
     ∷ []
 
--- a name and languages
+-- Returns the row of `project`: a name and languages.
 abbrev pub project_row : RowData
 project_row = with_others Texts (row (Text ∷ []) 1 project_keywords)
 
--- the name of an option
+-- Returns the row of `get_option`: the name of an option.
 abbrev pub get_option_row : RowData
 get_option_row = row (Text ∷ []) 1 []

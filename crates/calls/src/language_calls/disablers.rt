@@ -1,4 +1,4 @@
-//! `disabler` and `is_disabler`.
+//! Implements `disabler` and `is_disabler`.
 ghost use Rattle.std.specs.Prelude.{option_map};
 ghost use Rattle.world.specs.Prelude.{Does, arguments_data, data_of};
 ghost use Rattle.calls.specs.language_calls.Disablers.{give_disabler, tell_disabler};
@@ -8,14 +8,14 @@ use ports::{Outputs, Tree};
 use values::{Object, Value};
 use world::{Caller, Stop};
 
-/// `disabler()`
+/// Runs `disabler()`.
 pub fn disabler<T: Tree, O: Outputs>(caller: &Caller<'_, T, O>) -> Result<Option<Value>, Stop>
     ensures { Does T.seen O.seen (option_map data_of) give_disabler caller.now result caller.now }
 {
     Ok(Some(Value::of_object(caller.alloc, Object::Disabler)?))
 }
 
-/// `is_disabler(value)`
+/// Runs `is_disabler(value)`, which is false for a list that contains a disabler.
 pub fn is_disabler<T: Tree, O: Outputs>(
     caller: &Caller<'_, T, O>,
     arguments: &Arguments,

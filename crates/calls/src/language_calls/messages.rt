@@ -1,4 +1,4 @@
-//! `message`, `warning`, `error` and `assert`: what is told to the user.
+//! Implements `message`, `warning`, `error` and `assert`: what the user is shown.
 ghost use Rattle.std.specs.Prelude.{◌≡◌, ◌++◌, IfOk, OnOk, map, option_map, string_bytes, codes};
 ghost use Rattle.std.specs.List.{list_all};
 ghost use Rattle.values.specs.printing.Parts.{piece_bytes};
@@ -18,14 +18,14 @@ use values::Value;
 use values::printing::{Piece, Printer, is_printable};
 use world::{Caller, Stop};
 
-// Whether all of these have a printed text.
+// Returns whether all of these values can be printed.
 fn are_printable(values: &[Value]) -> bool
     ensures { result ≡ list_all (λ v. is_printable (data_of v)) values.now }
 {
     values.iter().all(|value| is_printable(value))
 }
 
-// Nothing where all of these have a printed text, or the call is refused.
+// Refuses the call if one of these values cannot be printed (E9).
 fn need_printable<T: Tree, O: Outputs>(
     caller: &Caller<'_, T, O>,
     values: &[Value],
@@ -39,7 +39,7 @@ fn need_printable<T: Tree, O: Outputs>(
     )
 }
 
-// The text of a piece; a number's is put into the buffer.
+// Returns the text of a piece. The digits of an integer are written to the buffer.
 fn text_of<'b>(piece: Piece<'b>, buffer: &'b mut Buffer) -> &'b str
     ensures { result.now ≡ piece_bytes piece.entry }
 {
@@ -49,7 +49,7 @@ fn text_of<'b>(piece: Piece<'b>, buffer: &'b mut Buffer) -> &'b str
     }
 }
 
-// Logs a piece of what is printed.
+// Writes a piece of a printed value to the log.
 fn say_piece<T: Tree, O: Outputs>(
     caller: &mut Caller<'_, T, O>,
     piece: Piece<'_>,
@@ -61,7 +61,7 @@ fn say_piece<T: Tree, O: Outputs>(
     caller.say(text_of(piece, &mut buffer))
 }
 
-// Logs what a value is printed as, piece by piece: the whole may be longer than a text can be.
+// Writes a printed value to the log, piece by piece: the whole may be longer than a text can be.
 fn say_value<T: Tree, O: Outputs>(caller: &mut Caller<'_, T, O>, value: &Value) -> Result<(), Stop>
     requires { MayFail T.seen O.seen caller.old }
     ensures { Does T.seen O.seen (λ u. u) (say (shown (data_of value.now))) caller.old result caller.new }
@@ -73,7 +73,7 @@ fn say_value<T: Tree, O: Outputs>(caller: &mut Caller<'_, T, O>, value: &Value) 
     Ok(())
 }
 
-// Logs values, with a space before each.
+// Writes values to the log, with a space before each.
 fn say_others<T: Tree, O: Outputs>(
     caller: &mut Caller<'_, T, O>,
     values: &[Value],
@@ -88,7 +88,7 @@ fn say_others<T: Tree, O: Outputs>(
     Ok(())
 }
 
-// Logs values, with a space between each two.
+// Writes values to the log, with a space between each two.
 fn say_values<T: Tree, O: Outputs>(
     caller: &mut Caller<'_, T, O>,
     values: &[Value],
@@ -103,7 +103,7 @@ fn say_values<T: Tree, O: Outputs>(
     say_others(caller, others)
 }
 
-// Logs a line that begins so.
+// Writes a line that begins with `start` to the log.
 fn say_line<T: Tree, O: Outputs>(
     caller: &mut Caller<'_, T, O>,
     start: &str,
@@ -118,7 +118,7 @@ fn say_line<T: Tree, O: Outputs>(
     caller.say("\n")
 }
 
-// A line of the log, which begins so.
+// Writes a line that begins with `start` to the log, unless an argument cannot be printed.
 fn log_line<T: Tree, O: Outputs>(
     caller: &mut Caller<'_, T, O>,
     start: &str,
@@ -132,7 +132,7 @@ fn log_line<T: Tree, O: Outputs>(
     Ok(None)
 }
 
-// Puts a piece of what is printed behind a text.
+// Appends a piece of a printed value to a text.
 fn put_piece(text: &mut String, piece: Piece<'_>) -> Result<(), AllocError>
     ensures { OnOk result (string_bytes text.new ≡ string_bytes text.old ++ piece_bytes piece.entry) }
 {
@@ -141,7 +141,7 @@ fn put_piece(text: &mut String, piece: Piece<'_>) -> Result<(), AllocError>
     Ok(())
 }
 
-// Puts what a value is printed as behind a text, however long that becomes.
+// Appends a printed value to a text, however long it becomes.
 fn put_value(alloc: Global, text: &mut String, value: &Value) -> Result<(), AllocError>
     ensures { OnOk result (string_bytes text.new ≡ string_bytes text.old ++ shown (data_of value.now)) }
 {
@@ -152,7 +152,7 @@ fn put_value(alloc: Global, text: &mut String, value: &Value) -> Result<(), Allo
     Ok(())
 }
 
-// Puts values behind a text, with a space before each.
+// Appends values to a text, with a space before each.
 fn put_others(alloc: Global, text: &mut String, values: &[Value]) -> Result<(), AllocError>
     ensures { OnOk result (string_bytes text.new ≡ string_bytes text.old ++ whole (behind_spaces (map data_of values.now))) }
 {
@@ -163,7 +163,7 @@ fn put_others(alloc: Global, text: &mut String, values: &[Value]) -> Result<(), 
     Ok(())
 }
 
-// What is printed of values, with a space between each two, however long that is.
+// Returns printed values with a space between each two, however long the result is.
 fn line_of(alloc: Global, values: &[Value]) -> Result<String, AllocError>
     ensures { IfOk result (λ line. string_bytes line ≡ line_of (map data_of values.now)) }
 {
@@ -176,7 +176,7 @@ fn line_of(alloc: Global, values: &[Value]) -> Result<String, AllocError>
     Ok(line)
 }
 
-/// `message(values..)`
+/// Runs `message(values..)`.
 pub fn message<T: Tree, O: Outputs>(
     caller: &mut Caller<'_, T, O>,
     arguments: &Arguments,
@@ -187,7 +187,7 @@ pub fn message<T: Tree, O: Outputs>(
     log_line(caller, "Message: ", arguments)
 }
 
-/// `warning(values..)`
+/// Runs `warning(values..)`.
 pub fn warning<T: Tree, O: Outputs>(
     caller: &mut Caller<'_, T, O>,
     arguments: &Arguments,
@@ -198,7 +198,7 @@ pub fn warning<T: Tree, O: Outputs>(
     log_line(caller, "WARNING: ", arguments)
 }
 
-/// `error(values..)` ends the run with E18 and what is printed.
+/// Runs `error(values..)`, which ends the run with E18 and the printed values.
 pub fn error<T: Tree, O: Outputs>(
     caller: &Caller<'_, T, O>,
     arguments: &Arguments,
@@ -210,7 +210,7 @@ pub fn error<T: Tree, O: Outputs>(
     caller.refuse(Refusal::Message, text.as_str())
 }
 
-/// `assert(condition, text)` ends the run with E18 where the condition is false.
+/// Runs `assert(condition, text)`, which ends the run with E18 if the condition is false.
 pub fn assert<T: Tree, O: Outputs>(
     caller: &Caller<'_, T, O>,
     arguments: &Arguments,

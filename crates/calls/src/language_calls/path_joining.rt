@@ -1,4 +1,4 @@
-//! `join_paths`: one path of many.
+//! Implements `join_paths`, which makes one path of many.
 ghost use Rattle.std.specs.Prelude.{◌≡◌, ◌++◌, ◌<◌, IfOk, [], ℕ, List, false, length, map, option_map, string_bytes};
 ghost use Rattle.values.specs.Data.{text as text_data};
 ghost use Rattle.support.specs.paths.Below.{is_absolute, path_below};
@@ -13,7 +13,7 @@ use support::paths::{ends_with_slash, is_absolute};
 use values::{Refusal, Value};
 use world::{Caller, Stop};
 
-// A path and a piece behind it, within the limit of a text.
+// Returns a path followed by a piece, or `Refusal::Limit` past the limit of a text.
 fn lengthen(mut path: String, piece: &str) -> Result<Result<String, Refusal>, AllocError>
     ensures { IfOk result (λ r. string_in r ≡ within_bytes (string_bytes path ++ piece.now)) }
 {
@@ -24,7 +24,7 @@ fn lengthen(mut path: String, piece: &str) -> Result<Result<String, Refusal>, Al
     Ok(Ok(path))
 }
 
-// A path that is not empty and a relative one below it.
+// Returns a relative path below a path that is not empty.
 fn below(mut path: String, text: &str) -> Result<Result<String, Refusal>, AllocError>
     requires some { 0 < length (string_bytes path) }
     requires relative { is_absolute text.now ≡ false }
@@ -37,7 +37,7 @@ fn below(mut path: String, text: &str) -> Result<Result<String, Refusal>, AllocE
     lengthen(path, text)
 }
 
-// A path, or none that is within the limit, and one below it.
+// Returns a path below one that may already be past the limit.
 fn join(
     alloc: Global,
     path: Result<String, Refusal>,
@@ -61,7 +61,7 @@ fn join(
     }
 }
 
-// All of them, from the first on.
+// Returns each path below the one before it, from the first on.
 fn path_of(alloc: Global, texts: &[&str]) -> Result<Result<String, Refusal>, AllocError>
     ensures { IfOk result (λ r. string_in r ≡ within_bytes (path_of [] (map (λ t. t.now) texts.now))) }
 {
@@ -72,7 +72,7 @@ fn path_of(alloc: Global, texts: &[&str]) -> Result<Result<String, Refusal>, All
     Ok(path)
 }
 
-// The text that they are.
+// Returns the joined path as a value.
 fn path_value(alloc: Global, texts: &[&str]) -> Result<Result<Value, Refusal>, AllocError>
     ensures { IfOk result (λ r. Answers (within (text_data (path_of [] (map (λ t. t.now) texts.now)))) r) }
 {
@@ -82,7 +82,7 @@ fn path_value(alloc: Global, texts: &[&str]) -> Result<Result<Value, Refusal>, A
     }
 }
 
-/// `join_paths(texts..)`: E22 where the path is too long.
+/// Runs `join_paths(texts..)`, which refuses a path that is too long with E22.
 pub fn join_paths<T: Tree, O: Outputs>(
     caller: &Caller<'_, T, O>,
     arguments: &Arguments,

@@ -1,4 +1,4 @@
-//! `range`: a list of integers.
+//! Implements `range`, which makes a list of integers.
 ghost use Rattle.std.specs.Prelude.{◌≡◌, ◌<◌, ◌≤◌, ◌-◌, ◌^◌, IfOk, option_map, pos};
 ghost use Rattle.values.specs.Data.{integer as integer_data};
 ghost use Rattle.world.specs.Prelude.{Answers, Does, arguments_data, data_of, items_of};
@@ -14,7 +14,7 @@ use world::{Caller, Stop};
 /// The most items of a list.
 const MOST_ITEMS: u128 = ITEMS as u128;
 
-// How many integers there are from a start to below a stop, by steps.
+// Returns how many integers are in a range, from the start up to but not including the stop.
 fn how_many(start: u128, stop: u128, step: u128) -> u128
     requires order { start ≤ stop }
     requires stop { stop < 2 ^ 127 }
@@ -25,7 +25,7 @@ fn how_many(start: u128, stop: u128, step: u128) -> u128
     (stop - start + (step - 1)) / step
 }
 
-// The value of a number.
+// Returns the value of a number.
 fn integer(number: u128) -> Value
     requires { number < 2 ^ 127 }
     ensures { data_of result ≡ integer_data (pos number) }
@@ -33,7 +33,7 @@ fn integer(number: u128) -> Value
     Value::Integer(number as i128)
 }
 
-// Those integers.
+// Returns the integers of a range.
 fn integers(alloc: Global, start: u128, stop: u128, step: u128) -> Result<Vec<Value>, AllocError>
     requires stop { stop < 2 ^ 127 }
     requires step { 0 < step }
@@ -49,7 +49,7 @@ fn integers(alloc: Global, start: u128, stop: u128, step: u128) -> Result<Vec<Va
     Ok(integers)
 }
 
-// The list of them, where that is within the limits.
+// Returns the list of a range, or `Refusal::Limit` past 65,536 integers.
 fn step_through(
     alloc: Global,
     start: u128,
@@ -71,7 +71,7 @@ fn step_through(
     }
 }
 
-// The same of integers that may be no such start, stop and step.
+// Returns the list of a range, and `Refusal::Arguments` for a bad start, stop or step.
 fn range_answer(
     alloc: Global,
     start: i128,
@@ -91,7 +91,7 @@ fn range_answer(
     )
 }
 
-// The integer at a place.
+// Returns the integer argument at a position.
 fn integer_at(arguments: &Arguments, place: usize) -> i128
     ensures { result ≡ integer_at place (arguments_data arguments.now) }
 {
@@ -101,7 +101,7 @@ fn integer_at(arguments: &Arguments, place: usize) -> i128
     }
 }
 
-// The list that one, two or three integers describe.
+// Returns the list of a range, given one, two or three integers.
 fn range_of(alloc: Global, arguments: &Arguments) -> Result<Result<Value, Refusal>, AllocError>
     ensures { IfOk result (λ r. Answers (range_of (arguments_data arguments.now).positional (arguments_data arguments.now)) r) }
 {
@@ -114,8 +114,8 @@ fn range_of(alloc: Global, arguments: &Arguments) -> Result<Result<Value, Refusa
     }
 }
 
-/// `range(stop)`, `range(start, stop)` and `range(start, stop, step)`: E9 where an integer is negative, the stop is below the start or
-/// the step is no positive one; E22 past 65,536 integers.
+/// Runs `range(stop)`, `range(start, stop)` or `range(start, stop, step)`. Refuses with E9 if an integer is negative, the stop is below the
+/// start or the step is less than one, and with E22 past 65,536 integers.
 pub fn range<T: Tree, O: Outputs>(
     caller: &Caller<'_, T, O>,
     arguments: &Arguments,

@@ -1,4 +1,4 @@
-//! What a disabler among the arguments does to a call.
+//! Decides what a disabler among the arguments does to a call.
 ghost use Rattle.std.specs.Prelude.{◌≡◌, ◌&&◌};
 ghost use Rattle.world.specs.Prelude.{arguments_data};
 ghost use Rattle.calls.specs.language_calls.Turning.{is_turned_off, makes_file, takes_disablers};
@@ -20,14 +20,14 @@ fn takes_disablers(function: Function) -> bool
     )
 }
 
-/// Whether a disabler among the arguments turns the call off.
+/// Returns whether a disabler among the arguments turns the call off.
 pub fn is_turned_off(function: Function, arguments: &Arguments) -> bool
     ensures { result ≡ is_turned_off function (arguments_data arguments.now) }
 {
     !takes_disablers(function) && gives_disabler(arguments)
 }
 
-/// Whether it is `configure_file`.
+/// Returns whether a function is `configure_file`.
 pub fn makes_file(function: Function) -> bool
     ensures { result ≡ makes_file function }
 {

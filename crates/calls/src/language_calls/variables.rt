@@ -1,4 +1,4 @@
-//! The functions that name a variable by a text.
+//! Implements the functions that take the name of a variable as a text.
 ghost use Rattle.std.specs.Prelude.{◌≡◌, ◌&&◌, ◌||◌, is_some, option_map};
 ghost use Rattle.values.specs.language_names.Names.{is_predefined};
 ghost use Rattle.world.specs.Prelude.{Does, arguments_data, data_of};
@@ -13,28 +13,28 @@ use values::Value;
 use values::language_names::{is_name, is_predefined, predefined_value};
 use world::{Caller, Stop};
 
-// Whether it is a name that definition files may set.
+// Returns whether build files may assign a variable with this name.
 fn is_settable(name: &str) -> bool
     ensures { result ≡ is_settable name.now }
 {
     is_name(name) && !is_predefined(name)
 }
 
-// Whether a variable has this value, or none.
+// Returns whether a variable has a value.
 fn is_known(value: Option<Value>) -> bool
     ensures { result ≡ is_some (option_map data_of value) }
 {
     value.is_some()
 }
 
-// Whether a name is that of a variable, which has this value, or none.
+// Returns whether a name is predefined, or its variable has a value.
 fn is_set(name: &str, value: Option<Value>) -> bool
     ensures { result ≡ (is_predefined name.now || is_some (option_map data_of value)) }
 {
     is_predefined(name) || is_known(value)
 }
 
-// The variable takes a value, which the row of the call has seen to.
+// Assigns a value to a variable. The row of the call makes sure that there is a value.
 fn set_to<T: Tree, O: Outputs>(
     caller: &mut Caller<'_, T, O>,
     name: &str,
@@ -52,7 +52,7 @@ fn set_to<T: Tree, O: Outputs>(
     }
 }
 
-/// `set_variable(name, value)`
+/// Runs `set_variable(name, value)`.
 pub fn set_variable<T: Tree, O: Outputs>(
     caller: &mut Caller<'_, T, O>,
     arguments: &Arguments,
@@ -65,7 +65,7 @@ pub fn set_variable<T: Tree, O: Outputs>(
     Ok(None)
 }
 
-// The value of a variable, or else a fallback.
+// Returns the value of a variable, and otherwise the fallback. Without either it refuses with E5.
 fn value_or<T: Tree, O: Outputs>(
     caller: &Caller<'_, T, O>,
     name: &str,
@@ -84,7 +84,7 @@ fn value_or<T: Tree, O: Outputs>(
     }
 }
 
-// The value of a variable that definition files set, or else a fallback.
+// Returns the value of a variable that build files assign, and otherwise the fallback.
 fn set_or<T: Tree, O: Outputs>(
     caller: &Caller<'_, T, O>,
     name: &str,
@@ -97,7 +97,7 @@ fn set_or<T: Tree, O: Outputs>(
     value_or(caller, name, value, fallback)
 }
 
-// What a name stands for that every run has.
+// Returns the object of a predefined variable.
 fn thing<T: Tree, O: Outputs>(caller: &Caller<'_, T, O>, name: &str) -> Result<Option<Value>, Stop>
     ensures { Does T.seen O.seen (option_map data_of) (thing name.now) caller.now result caller.now }
 {
@@ -105,7 +105,7 @@ fn thing<T: Tree, O: Outputs>(caller: &Caller<'_, T, O>, name: &str) -> Result<O
     Ok(Some(value))
 }
 
-// The value of a variable, or else a fallback. A name that every run has stands for its object.
+// Returns the value of a variable, and otherwise the fallback. A predefined name gives its object.
 fn variable_or<T: Tree, O: Outputs>(
     caller: &Caller<'_, T, O>,
     name: &str,
@@ -121,7 +121,7 @@ fn variable_or<T: Tree, O: Outputs>(
     }
 }
 
-/// `get_variable(name, fallback)`
+/// Runs `get_variable(name, fallback)`, which refuses a variable without a value or fallback with E5.
 pub fn get_variable<T: Tree, O: Outputs>(
     caller: &Caller<'_, T, O>,
     arguments: &Arguments,
@@ -133,7 +133,7 @@ pub fn get_variable<T: Tree, O: Outputs>(
     variable_or(caller, name, arguments.argument(1))
 }
 
-/// `is_variable(name)`
+/// Runs `is_variable(name)`.
 pub fn is_variable<T: Tree, O: Outputs>(
     caller: &Caller<'_, T, O>,
     arguments: &Arguments,
@@ -146,7 +146,7 @@ pub fn is_variable<T: Tree, O: Outputs>(
     Ok(Some(Value::Boolean(is_set(name, value))))
 }
 
-/// `unset_variable(name)`
+/// Runs `unset_variable(name)`, which refuses a variable without a value with E5.
 pub fn unset_variable<T: Tree, O: Outputs>(
     caller: &mut Caller<'_, T, O>,
     arguments: &Arguments,

@@ -1,4 +1,4 @@
-//! The option file of a project.
+//! Reads the option file of a project.
 ghost use Rattle.syntax.specs.Tree.{file_of};
 ghost use Rattle.options.specs.option_file.Declares.{file_declares};
 ghost use Rattle.options.specs.option_file.View.{options_in};
@@ -26,7 +26,7 @@ pub struct OptionFile {
     pub declared: Declared,
 }
 
-// The options that the statements of the present file declare.
+// Returns the options declared by the statements of the present file.
 fn collect_in_file<T: Tree, O: Outputs>(
     caller: &mut Caller<'_, T, O>,
     file: &File<'_>,
@@ -42,7 +42,7 @@ fn collect_in_file<T: Tree, O: Outputs>(
     }
 }
 
-// The options that a text of the present file declares.
+// Returns the options declared by a text of the present file.
 fn collect_in_text<T: Tree, O: Outputs>(
     caller: &mut Caller<'_, T, O>,
     text: &str,
@@ -59,7 +59,7 @@ fn collect_in_text<T: Tree, O: Outputs>(
     }
 }
 
-// The options that bytes of the present file declare.
+// Returns the options declared by the bytes of the present file.
 fn collect_in_bytes<T: Tree, O: Outputs>(
     caller: &mut Caller<'_, T, O>,
     bytes: &[u8],
@@ -75,7 +75,7 @@ fn collect_in_bytes<T: Tree, O: Outputs>(
     }
 }
 
-// The options that the present file declares, which was found so.
+// Returns the options declared by the present file, from what was found there.
 fn collect_found<T: Tree, O: Outputs>(
     caller: &mut Caller<'_, T, O>,
     found: &Found,
@@ -89,7 +89,7 @@ fn collect_found<T: Tree, O: Outputs>(
     }
 }
 
-// The options that the file at a path declares, which was found so.
+// Returns the options declared by the file at a path, from what was found there. The present place is restored afterwards.
 fn collect_at<T: Tree, O: Outputs>(
     caller: &mut Caller<'_, T, O>,
     path: &'static str,
@@ -108,7 +108,7 @@ fn collect_at<T: Tree, O: Outputs>(
     Ok(OptionFile { path, declared })
 }
 
-// By what was found at the new path.
+// Returns the option file, by what was found at the new path.
 fn option_file_by<T: Tree, O: Outputs>(
     caller: &mut Caller<'_, T, O>,
     found: &Found,
@@ -126,7 +126,8 @@ fn option_file_by<T: Tree, O: Outputs>(
     }
 }
 
-/// The option file: `meson.options` and, where that is absent, `meson_options.txt`. E22 at its first line, E1 to E4, E15 and E23.
+/// Returns the option file: `meson.options`, or if that is absent `meson_options.txt`. Refuses with E22 at its first line, then E1 to E4,
+/// E15 and E23.
 pub fn option_file<T: Tree, O: Outputs>(caller: &mut Caller<'_, T, O>) -> Result<OptionFile, Stop>
     requires { MayFail T.seen O.seen caller.old }
     ensures { Does T.seen O.seen file_in option_file caller.old result caller.new }

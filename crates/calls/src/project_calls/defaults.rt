@@ -1,4 +1,4 @@
-//! The keyword `default_options` of `project`.
+//! Reads the keyword `default_options` of `project`.
 ghost use Rattle.std.specs.Prelude.{◌≡◌, ◌++◌, IfOk, map, option_map};
 ghost use Rattle.values.specs.Data.{entry_values, keys_in};
 ghost use Rattle.machine.specs.option_values.View.{strings_in};
@@ -15,7 +15,7 @@ use std::alloc::{AllocError, Global};
 use values::printing::print;
 use values::{Dictionary, Refusal, Text, Value};
 
-// The dictionary that the keyword has, where it has one.
+// Returns the dictionary that the keyword has, if it has one.
 fn dictionary_given(arguments: &Arguments) -> Option<&Dictionary>
     ensures { option_map (λ d. d.now) result ≡ dictionary_given (arguments_data arguments.now) }
 {
@@ -25,7 +25,7 @@ fn dictionary_given(arguments: &Arguments) -> Option<&Dictionary>
     }
 }
 
-/// The values of the dictionary that the keyword has; none where it has none.
+/// Returns the values of the dictionary that the keyword has, and none if it has no dictionary.
 pub fn values_given(arguments: &Arguments) -> &[Value]
     ensures { items_of result.now ≡ entry_values (entries_given (arguments_data arguments.now)) }
 {
@@ -35,7 +35,7 @@ pub fn values_given(arguments: &Arguments) -> &[Value]
     }
 }
 
-/// The keys of the dictionary that the keyword has; none where it has none.
+/// Returns the keys of the dictionary that the keyword has, and none if it has no dictionary.
 pub fn keys_given(arguments: &Arguments) -> &[Text]
     ensures { result.now ≡ keys_in (entries_given (arguments_data arguments.now)) }
 {
@@ -45,8 +45,7 @@ pub fn keys_given(arguments: &Arguments) -> &[Text]
     }
 }
 
-/// The texts that values are printed as. `Refusal::Arguments` where one is an object or holds one, `Refusal::Limit` where one is too
-/// long.
+/// Returns printed values. The refusal is `Refusal::Arguments` if one is or contains an object, and `Refusal::Limit` if one is too long.
 pub fn print_all(
     alloc: Global,
     values: &[Value],
@@ -63,7 +62,7 @@ pub fn print_all(
     Ok(Ok(texts))
 }
 
-/// The name of the first of these values that can't be printed.
+/// Returns the name of the first of these values that cannot be printed, and `""` if all can.
 #[tactic(auto, using(crate::proofs::Unprinted::unprinted_cases))]
 pub fn first_unprinted<'n>(
     alloc: Global,
@@ -84,7 +83,7 @@ pub fn first_unprinted<'n>(
     Ok("")
 }
 
-/// The defaults that a call gives: texts, and keys with the printed values of theirs.
+/// Returns the defaults that a call gives: texts, and keys with their printed values.
 pub fn defaults<'a>(
     alloc: Global,
     texts: &'a [String],

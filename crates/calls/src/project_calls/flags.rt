@@ -1,4 +1,4 @@
-//! What edges take from the options.
+//! Reads the flags of compilers and linkers from the options.
 ghost use Rattle.std.specs.Prelude.{◌≡◌, IfOk};
 ghost use Rattle.build.specs.edge.Texts.{texts};
 ghost use Rattle.machine.specs.option_values.Settings.{value_named};
@@ -50,7 +50,7 @@ fn level_of(text: &str) -> usize
     }
 }
 
-/// What edges take from the options: the flags of the compiler and the linker.
+/// Returns the flags of the compiler and the linker that the options set.
 pub fn flags_of(alloc: Global, options: &Options) -> Result<Flags, AllocError>
     ensures { IfOk result (λ f. flags_view f ≡ flags_in (options_in options.now)) }
 {

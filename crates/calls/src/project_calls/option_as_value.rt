@@ -1,4 +1,4 @@
-//! The values of options as values of the language.
+//! Converts the values of options to values of the language.
 ghost use Rattle.std.specs.Prelude.{◌≡◌, IfOk, map, string_bytes};
 ghost use Rattle.machine.specs.option_values.View.{value_in};
 ghost use Rattle.world.specs.Prelude.{Answers};
@@ -20,7 +20,7 @@ fn feature_of(state: FeatureState) -> Feature
     }
 }
 
-// The list of these strings, or `Refusal::Limit` where one or the list is too long.
+// Returns the list of these strings, or `Refusal::Limit` if one of them or the list is too long.
 fn list_of(alloc: Global, strings: &[String]) -> Result<Result<Value, Refusal>, AllocError>
     ensures { IfOk result (λ r. Answers (text_list (map string_bytes strings.now)) r) }
 {
@@ -32,7 +32,8 @@ fn list_of(alloc: Global, strings: &[String]) -> Result<Result<Value, Refusal>, 
     Ok(list)
 }
 
-/// The value of an option as a value of the language, or `Refusal::Limit` where it is too large for one. That of a feature is an object.
+/// Returns the value of an option as a value of the language, or `Refusal::Limit` if it is too large. The value of a feature option is an
+/// object.
 #[tactic(auto, unfolding(crate::specs::project_calls::GetOption::as_data))]
 pub fn as_data(alloc: Global, value: &OptionValue) -> Result<Result<Value, Refusal>, AllocError>
     ensures { IfOk result (λ r. Answers (as_data (value_in value.now)) r) }

@@ -1,4 +1,4 @@
-//! `get_option`.
+//! Implements `get_option`.
 ghost use Rattle.std.specs.Prelude.{option_map};
 ghost use Rattle.world.specs.Prelude.{Does, arguments_data, data_of};
 ghost use Rattle.calls.specs.project_calls.GetOption.{get_option};
@@ -10,7 +10,7 @@ use support::faults::Refusal;
 use values::Value;
 use world::{Caller, Stop};
 
-/// `get_option(name)`: E15 where no option has the name, E22 where its value is too large for a value of the language.
+/// Runs `get_option(name)`. Refuses an unknown name with E15, and a value that is too large for the language with E22.
 pub fn get_option<T: Tree, O: Outputs>(
     caller: &Caller<'_, T, O>,
     arguments: &Arguments,

@@ -1,4 +1,4 @@
-//! The programs of a machine.
+//! Chooses the programs of the machine.
 ghost use Rattle.std.specs.Prelude.{◌≡◌, IfOk, codes};
 ghost use Rattle.build.specs.edge.Texts.{texts};
 ghost use Rattle.machine.specs.machine_file.Questions.{Key, answer_to};
@@ -14,7 +14,7 @@ use ports::{Outputs, Tree};
 use std::alloc::{AllocError, Global};
 use world::{Caller, Stop};
 
-/// The programs that every build has, each by its words.
+/// The programs that every build has, each as a command line of one or more arguments.
 #[derive(Drop)]
 pub struct Programs {
     pub compiler: Vec<String>,
@@ -31,7 +31,7 @@ fn words_of(alloc: Global, value: &MachineValue) -> Result<Vec<String>, AllocErr
     }
 }
 
-// The words of a program, as `[binaries]` of the machine file has it, or the one word that stands for it elsewhere.
+// Returns the command of a program from `[binaries]` of the machine file, or the default as its only argument.
 fn words_or(
     alloc: Global,
     machine: &Machine,
@@ -47,7 +47,7 @@ fn words_or(
     }
 }
 
-// The same; the machine file is asked.
+// Asks the machine file for a program, and returns its command.
 fn program<T: Tree, O: Outputs>(
     caller: &mut Caller<'_, T, O>,
     name: &str,
@@ -60,7 +60,7 @@ fn program<T: Tree, O: Outputs>(
     Ok(words)
 }
 
-/// The compiler and the archiver, for which the machine file is asked one after the other.
+/// Returns the compiler and the archiver, after asking the machine file for one and then the other.
 pub fn ask_programs<T: Tree, O: Outputs>(caller: &mut Caller<'_, T, O>) -> Result<Programs, Stop>
     ensures { Does T.seen O.seen programs_in programs caller.old result caller.new }
 {

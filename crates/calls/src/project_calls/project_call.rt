@@ -1,4 +1,4 @@
-//! `project`.
+//! Implements `project`.
 ghost use Rattle.std.specs.Prelude.{◌≡◌, ◌++◌, codes, map, option_map, string_bytes, unwrap_or, IfOk};
 ghost use Rattle.values.specs.Data.{text_in};
 ghost use Rattle.machine.specs.option_values.View.{strings_in};
@@ -26,7 +26,7 @@ use support::faults::Refusal;
 use values::Value;
 use world::{Caller, Stop, Store, of_operation};
 
-// The first language that is not C.
+// Returns the first language that is not C.
 fn other_language<'a>(languages: &[&'a str]) -> Option<&'a str>
     ensures { option_map (λ l. l.now) result ≡ other_language (map (λ l. l.now) languages.now) }
 {
@@ -38,7 +38,7 @@ fn other_language<'a>(languages: &[&'a str]) -> Option<&'a str>
     None
 }
 
-// Refuses a language beside C.
+// Refuses a language other than C (E23).
 fn refuse_other<T: Tree, O: Outputs>(
     caller: &Caller<'_, T, O>,
     language: Option<&str>,
@@ -63,7 +63,7 @@ fn warn<T: Tree, O: Outputs>(caller: &mut Caller<'_, T, O>, names: &[String]) ->
     Ok(())
 }
 
-// The line of the log that warns of a name.
+// Returns the log line that warns of a name.
 fn warning_of(alloc: Global, name: &str) -> Result<String, AllocError>
     ensures { IfOk result (λ line. string_bytes line ≡ (codes "WARNING: unknown option " ++ name.now) ++ codes "\n") }
 {
@@ -73,7 +73,7 @@ fn warning_of(alloc: Global, name: &str) -> Result<String, AllocError>
     Ok(line)
 }
 
-// The options with their values, or the stop of the first fault of one, where the option file has this path.
+// Returns the options with their values, or stops with the first fault of a value, where `path` is the path of the option file.
 fn settle<T: Tree, O: Outputs>(
     caller: &Caller<'_, T, O>,
     path: &str,
@@ -108,7 +108,7 @@ fn text_or_undefined(value: &Value) -> &str
     }
 }
 
-// What the arguments, the options and the programs say of the project.
+// Returns the facts of the project: from the arguments, the options and the programs.
 fn facts_of(
     alloc: Global,
     arguments: &Arguments,
@@ -135,7 +135,7 @@ fn facts_of(
     })
 }
 
-// Warns, asks for the programs, sets the options, and begins the project.
+// Writes the warnings, requests the programs, sets the options, and begins the project.
 fn begin<T: Tree, O: Outputs>(
     caller: &mut Caller<'_, T, O>,
     arguments: &Arguments,
@@ -155,7 +155,7 @@ fn begin<T: Tree, O: Outputs>(
     caller.begin(facts)
 }
 
-// The values of a dictionary of defaults, as they are printed, or a refusal by the name of the first that can't be.
+// Returns the printed values of a dictionary of defaults, or refuses with the name of the first that cannot be printed.
 fn print_defaults<T: Tree, O: Outputs>(
     caller: &Caller<'_, T, O>,
     arguments: &Arguments,
@@ -173,7 +173,7 @@ fn print_defaults<T: Tree, O: Outputs>(
     }
 }
 
-// Refuses a project of no language, and languages other than C.
+// Refuses a project without a language, and languages other than C.
 fn require_c<T: Tree, O: Outputs>(
     caller: &Caller<'_, T, O>,
     arguments: &Arguments,
@@ -196,7 +196,8 @@ fn check_languages<T: Tree, O: Outputs>(
     }
 }
 
-/// `project(name, language.., version:, license:, default_options:, meson_version:)`: a later call is refused, whatever it is given.
+/// Runs `project(name, language.., version:, license:, default_options:, meson_version:)`. A second call is refused, whatever its arguments
+/// are.
 pub fn project<T: Tree, O: Outputs>(
     caller: &mut Caller<'_, T, O>,
     arguments: &Arguments,

@@ -1,4 +1,4 @@
-//! What the options of a project come to.
+//! Determines the values of a project's options.
 ghost use Rattle.std.specs.Prelude.{◌≡◌, IfOk, map};
 ghost use Rattle.build.specs.edge.Texts.{texts};
 ghost use Rattle.machine.specs.machine_file.Questions.{answer_to, plain};
@@ -29,14 +29,14 @@ fn row_names(alloc: Global, rows: &[BuiltIn]) -> Result<Vec<String>, AllocError>
     Ok(names)
 }
 
-// The names of the options that every project has, in their order.
+// Returns the names of the built-in options, in order.
 fn built_in_names(alloc: Global) -> Result<Vec<String>, AllocError>
     ensures { IfOk result (λ v. texts v.items ≡ built_in_names) }
 {
     row_names(alloc, built_ins())
 }
 
-// The names of the options that are declared, in the order of their calls.
+// Returns the names of the declared options, in the order of their calls.
 fn declared_names(alloc: Global, declared: &Declared) -> Result<Vec<String>, AllocError>
     ensures { IfOk result (λ v. texts v.items ≡ declared_names (declared_in declared.now)) }
 {
@@ -57,7 +57,7 @@ fn options_topic(alloc: Global, declared: &Declared) -> Result<Topic, AllocError
     Ok(Topic::Options(built_in, declared_names(alloc, declared)?))
 }
 
-// Asks the machine file for values of the options, of which these are declared.
+// Asks the machine file for the values of the options, of which these are declared.
 fn ask_options<T: Tree, O: Outputs>(
     caller: &mut Caller<'_, T, O>,
     declared: &Declared,
@@ -70,7 +70,7 @@ fn ask_options<T: Tree, O: Outputs>(
     caller.ask(Question::plain(caller.alloc, topic))
 }
 
-// What the options come to by what the machine file says, which was asked.
+// Returns the values of the options, given the machine file, which was already asked.
 fn resolve_by(
     alloc: Global,
     arguments: &Arguments,
@@ -94,8 +94,8 @@ fn resolve_by(
     )
 }
 
-/// What the options come to, of which these are declared, by the defaults of the call, the machine file, which is asked, and the words of
-/// the command line.
+/// Returns the values of the built-in options and these declared ones: from the defaults of the call, the machine file, which is asked, and
+/// the arguments of the command line.
 pub fn resolution<T: Tree, O: Outputs>(
     caller: &mut Caller<'_, T, O>,
     arguments: &Arguments,

@@ -1,4 +1,4 @@
-//! The rows of the functions: what each takes.
+//! Defines the rows of `project` and `get_option`: the arguments that each takes.
 ghost use Rattle.std.specs.Prelude.{◌≡◌};
 ghost use Rattle.arguments.specs.RowView.{row_data};
 ghost use Rattle.calls.specs.project_calls.Rows.{get_option_row, project_row};
@@ -12,14 +12,14 @@ const PROJECT: &[Keyword] = &[
     Keyword::Optional("meson_version", Kind::Any),
 ];
 
-/// A name and languages.
+/// Returns the row of `project`: a name and languages.
 pub fn project_row() -> Row
     ensures { row_data result ≡ project_row }
 {
     Row::of(&[Kind::Text], 1, &[PROJECT]).with_others(Kind::Texts)
 }
 
-/// The name of an option.
+/// Returns the row of `get_option`: the name of an option.
 pub fn get_option_row() -> Row
     ensures { row_data result ≡ get_option_row }
 {

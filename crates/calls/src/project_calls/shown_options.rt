@@ -1,4 +1,4 @@
-//! Options as they are listed.
+//! Lists options with their types and values.
 ghost use Rattle.std.specs.Prelude.{◌≡◌, IfOk, map};
 ghost use Rattle.machine.specs.option_values.View.{value_in};
 ghost use Rattle.machine.specs.option_values.SettingsView.{options_in};
@@ -59,7 +59,7 @@ fn entry_of(alloc: Global, name: &str, value: &OptionValue) -> Result<OptionEntr
     })
 }
 
-/// Every option as it is listed: built in, then declared.
+/// Returns all options as they are listed: built-in ones first, then declared ones.
 pub fn option_entries(alloc: Global, options: &Options) -> Result<Vec<OptionEntry>, AllocError>
     ensures { IfOk result (λ es. map option_entry_view es.items ≡ entries_in (options_in options.now)) }
 {

@@ -1,16 +1,16 @@
--- A fault of a machine file, and how a run tells it.
+-- Defines a fault of a machine file, and how a run reports it.
 use Rattle.std.specs.Prelude.{ℕ, List, codes}
 use Rattle.support.specs.Faults.{FaultData}
 use Rattle.support.specs.declared.faults.refusal.Refusal.{Refusal}
 use Rattle.support.specs.declared.faults.refusal.Refusal.TheVariants as refusals
 
--- what is refused, the line, and what that is about
+-- What is refused, the line, and the details.
 pub record MachineFaultData : Type 0 where
   pub refusal : Refusal
   pub line : ℕ
   pub detail : List ℕ
 
--- a line that may not stand where it does
+-- Returns the fault of a line that is not allowed where it is.
 abbrev pub bad_line : ℕ → List ℕ → MachineFaultData
 bad_line line detail = record { refusal = refusals.MachineFile; line = line; detail = detail }
 

@@ -1,4 +1,4 @@
--- What the lines of a machine file say.
+-- Defines what the lines of a machine file say.
 use Rattle.std.specs.Prelude.{ℕ, suc, Bool, false, not, ◌&&◌, List, [], ◌∷◌, ◌++◌, Option, Some, None, Result, Ok, Err, codes}
 use Rattle.std.specs.Prelude.{if◌then◌else◌, bytes_eq}
 use Rattle.std.specs.List.{list_any}
@@ -15,29 +15,30 @@ use Rattle.machine.specs.machine_file.Misfits.{refused, NoSection, SectionTwice,
 use Rattle.machine.specs.declared.machine_file.section.SectionKind.{SectionKind}
 use Rattle.machine.specs.declared.machine_file.section.SectionKind.TheVariants as Kinds
 
--- a key, its value, and the line that gives it
+-- A key, its value, and the line that gives it.
 pub record Entry : Type 0 where
   pub key : List ℕ
   pub value : Value
   pub line : ℕ
 
--- a section: its name and its entries, in the order of their lines
+-- A section: its name and its entries, in the order of their lines.
 pub record Section : Type 0 where
   pub name : List ℕ
   pub entries : List Entry
 
--- a section that further lines may add to, and its line
+-- A section that further lines may add to, and its line.
 pub record Open : Type 0 where
   pub name : List ℕ
   pub kind : SectionKind
   pub line : ℕ
   pub entries : List Entry
 
--- what the lines up to some place say: the sections that have ended, and the one that the next line belongs to
+-- What the lines up to some place say: the sections that have ended, and the one to which the next line belongs.
 pub record Said : Type 0 where
   pub ended : List Section
   pub open_section : Option Open
 
+-- Returns what no lines say.
 abbrev pub nothing_said : Said
 nothing_said = record { ended = []; open_section = None }
 
@@ -47,25 +48,25 @@ has_key key entries = list_any (λ e. bytes_eq key e.key) entries
 abbrev pub has_name : List ℕ → List Section → Bool
 has_name name sections = list_any (λ s. bytes_eq name s.name) sections
 
--- a dependency that has no version
+-- Returns whether the section is a dependency without a version.
 abbrev pub lacks_version : SectionKind → List Entry → Bool
 lacks_version Kinds.Dependency entries = not (has_key (codes "version") entries)
 lacks_version _ entries = false
 
--- a dependency without a version has the version `unknown`, at the line of its section
+-- Returns the version `unknown`, at the line of the section, for a dependency without a version.
 abbrev pub default_entries : SectionKind → ℕ → List Entry → List Entry
 default_entries kind line entries =
     if lacks_version kind entries then record { key = codes "version"; value = Text (codes "unknown"); line = line } ∷ [] else []
 
--- a section at its end
+-- Returns a section at its end.
 abbrev pub closed : Open → Section
 closed o = record { name = o.name; entries = o.entries ++ default_entries o.kind o.line o.entries }
 
--- all sections, at the end of what was said
+-- Returns all sections, at the end of the lines.
 abbrev pub sections_said : Said → List Section
 sections_said s = s.ended ++ option_to_list (option_map closed s.open_section)
 
--- a section begins on this line; its name has to be one that there is, and new
+-- Begins a section on this line. Its name has to be known and new.
 abbrev pub with_section : Said → ℕ → List ℕ → Option SectionKind → Result Said (List ℕ)
 with_section s line name None = refused (NoSection name)
 with_section s line name (Some kind) =
@@ -75,59 +76,62 @@ with_section s line name (Some kind) =
       open_section = Some (record { name = name; kind = kind; line = line; entries = [] });
     })
 
--- a key and its value, without blanks at their ends, as a section of this kind cuts them
+-- Returns a key and its value, without blanks at their ends. The kind of section decides at which `=` they are cut.
 abbrev pub cut_pair : SectionKind → List ℕ → Option Parts
 cut_pair kind text =
     option_map (λ parts. (trimmed blanks.All parts.0, trimmed blanks.All parts.1))
     (if cuts_last kind then cut_last equals text else cut_first equals text)
 
--- whether a section of this kind with these entries takes this value at this key: it knows the key and its value, and the key is new
+-- Returns whether a section of this kind with these entries takes this value at this key: it knows the key and the value, and the key is
+-- new.
 abbrev pub takes : SectionKind → List Entry → List ℕ → Value → Bool
 takes kind entries key v = knows kind key v && not (has_key key entries)
 
--- the entries of a section of this name and kind, and one more
+-- Appends a value to the entries of a section of this name and kind.
 abbrev pub with_value : List ℕ → SectionKind → List Entry → ℕ → List ℕ → Option Value → Result (List Entry) (List ℕ)
 with_value section kind entries line key None = refused (NoValue section key)
 with_value section kind entries line key (Some v) =
     if takes kind entries key v then Ok (entries ++ record { key = key; value = v; line = line } ∷ [])
     else refused (misfit_of section kind key v)
 
+-- Appends a key and a value to the entries, or refuses a line without `=`.
 abbrev pub with_parts : List ℕ → SectionKind → List Entry → ℕ → Option Parts → Result (List Entry) (List ℕ)
 with_parts section kind entries line None = refused (NoSign section)
 with_parts section kind entries line (Some parts) = with_value section kind entries line parts.0 (value_of parts.1)
 
--- the entries of a section of this name and kind, and the key and value that a line gives
+-- Appends the key and value of a line to the entries of a section of this name and kind.
 unfoldable pub with_pair : List ℕ → SectionKind → List Entry → ℕ → List ℕ → Result (List Entry) (List ℕ)
 with_pair section kind entries line text = with_parts section kind entries line (cut_pair kind text)
 
--- what is said once the open section has these entries
+-- Replaces the entries of the open section.
 abbrev pub with_entries : Said → Open → List Entry → Said
 with_entries s o entries = record s { open_section = Some (record o { entries = entries }) }
 
--- a key and its value on this line; a section has to be open
+-- Reads a key and its value on this line. A section has to be open.
 abbrev pub in_section : Said → ℕ → List ℕ → Option Open → Result Said (List ℕ)
 in_section s line text None = refused Outside
 in_section s line text (Some o) = result_map_both (with_entries s o) (λ detail. detail) (with_pair o.name o.kind o.entries line text)
 
+-- Reads one more line of this form.
 abbrev pub after_form : Said → ℕ → Form → Result Said (List ℕ)
 after_form s line Nothing = Ok s
 after_form s line (Header name) = with_section s line name (kind_of name)
 after_form s line (Pair text) = in_section s line text s.open_section
 
--- what is said after one more line, of this number and without blanks at its ends, or why it may not stand there
+-- Reads one more line, which has this number and no blanks at its ends, or returns why it is not allowed there.
 unfoldable pub after : Said → ℕ → List ℕ → Result Said (List ℕ)
 after s line text = after_form s line (form_of text)
 
--- the rest of the lines, or the first one that may not stand where it does
+-- Continues with the rest of the lines, or returns the first line that is not allowed where it is.
 abbrev pub go_on : (Said → Result Said MachineFaultData) → ℕ → Result Said (List ℕ) → Result Said MachineFaultData
 go_on rest line (Err detail) = Err (bad_line line detail)
 go_on rest line (Ok s) = rest s
 
--- what is said after these lines, which follow line number n
+-- Reads these lines, which follow line number n.
 unfoldable pub said_from : List (List ℕ) → ℕ → Said → Result Said MachineFaultData
 said_from [] n s = Ok s
 said_from (l ∷ ls) n s = go_on (said_from ls (suc n)) (suc n) (after s (suc n) l)
 
--- the sections of a machine file of these lines, or the first line up to which they begin no machine file
+-- Returns the sections of a machine file with these lines, or the first line up to which they begin no machine file.
 unfoldable pub machine_of : List (List ℕ) → Result (List Section) MachineFaultData
 machine_of ls = result_map_both sections_said (λ fault. fault) (said_from ls 0 nothing_said)

@@ -1,4 +1,4 @@
--- Why a line may not stand where it does, without where that lies in memory.
+-- Defines why a line is not allowed, without its place in memory.
 use Rattle.machine.specs.machine_file.Misfits as plain
 use Rattle.machine.specs.machine_file.View.{value_in}
 use Rattle.machine.specs.declared.machine_file.misfit.Misfit.{Misfit}

@@ -1,4 +1,4 @@
--- Why a line may not stand where it does, and the words that say so.
+-- Defines in words why a line is not allowed where it is.
 use Rattle.std.specs.Prelude.{ℕ, List, [], ◌∷◌, ◌++◌, Option, Some, None, Result, Err, codes, if◌then◌else◌}
 use Rattle.machine.specs.machine_file.Sections.{expected, fits}
 use Rattle.machine.specs.machine_file.Values.{Value, Text, Integer, Boolean, Texts}
@@ -7,23 +7,23 @@ use Rattle.machine.specs.declared.machine_file.section.Expected.TheVariants as W
 use Rattle.machine.specs.declared.machine_file.section.SectionKind.{SectionKind}
 
 pub data MisfitData : Type 0 where
-  -- there is no section of this name, or one began before
+  -- No section has this name, or one with it began before.
   NoSection : (name : List ℕ) → MisfitData
   SectionTwice : (name : List ℕ) → MisfitData
-  -- no section is open
+  -- No section is open.
   Outside : MisfitData
-  -- a line of the section of this name has no `=`
+  -- A line of the section of this name has no `=`.
   NoSign : (section : List ℕ) → MisfitData
-  -- what stands behind the key is no value
+  -- The text after the key is no value.
   NoValue : (section key : List ℕ) → MisfitData
-  -- the section knows no such key
+  -- The section knows no such key.
   NoKey : (section key : List ℕ) → MisfitData
-  -- the key wants this, and has a value of another type
+  -- The key takes this type, and the value has another.
   OtherValue : (section key : List ℕ) → Expected → Value → MisfitData
-  -- the key was given before in the section
+  -- The key was given before in the section.
   KeyTwice : (section key : List ℕ) → MisfitData
 
--- of a key with a value that a section does not take: what is wrong with it, by what the key wants
+-- Returns what is wrong with a key and value that a section refuses, given what the key takes.
 abbrev pub misfit_by : List ℕ → List ℕ → Value → Option Expected → MisfitData
 misfit_by section key v None = NoKey section key
 misfit_by section key v (Some want) = if fits want v then KeyTwice section key else OtherValue section key want v
@@ -33,7 +33,7 @@ misfit_of section kind key v = misfit_by section key v (expected kind key)
 
 -- ---- in words
 
--- what a key takes
+-- Returns the words for what a key takes.
 abbrev pub expected_words : Expected → List ℕ
 expected_words Wants.Any = codes "a value"
 expected_words Wants.Words = codes "a text or texts"
@@ -42,7 +42,7 @@ expected_words Wants.Texts = codes "a list of texts"
 expected_words Wants.Boolean = codes "a truth value"
 expected_words Wants.Integer = codes "an integer"
 
--- what it got
+-- Returns the words for a value that was given.
 abbrev pub value_words : Value → List ℕ
 value_words (Text text) = codes "a text"
 value_words (Integer number) = codes "an integer"
@@ -50,15 +50,15 @@ value_words (Boolean boolean) = codes "a truth value"
 value_words (Texts []) = codes "an empty list"
 value_words (Texts (item ∷ items)) = codes "a list of texts"
 
--- of a section this is so
+-- Returns the text that says these words of a section.
 abbrev pub section_is : List ℕ → List ℕ → List ℕ
 section_is name words = codes "section '" ++ (name ++ (codes "': " ++ words))
 
--- of a key of a section this is so
+-- Returns the text that says these words of a key in a section.
 abbrev pub key_is : List ℕ → List ℕ → List ℕ → List ℕ
 key_is section key words = codes "[" ++ (section ++ (codes "] key '" ++ (key ++ (codes "': " ++ words))))
 
--- one value is taken, and this one was given
+-- Returns the words that name the expected type and the given value.
 abbrev pub takes_words : Expected → Value → List ℕ
 takes_words want v = codes "takes " ++ (expected_words want ++ (codes ", and got " ++ value_words v))
 
@@ -72,6 +72,6 @@ words_of (NoKey section key) = key_is section key (codes "there is none")
 words_of (OtherValue section key want v) = key_is section key (takes_words want v)
 words_of (KeyTwice section key) = key_is section key (codes "stands twice")
 
--- it may not stand there, for this reason
+-- Refuses for this reason.
 abbrev pub refused : {A : Type 0} → MisfitData → Result A (List ℕ)
 refused m = Err (words_of m)

@@ -1,13 +1,13 @@
--- The integers that 64 bits hold.
+-- Defines the integers of 64 bits.
 use Rattle.std.specs.Prelude.{ℕ, ◌-◌, ◌^◌, ℤ, pos, neg_ℤ, Bool, Option, Some, None, nat_le, if◌then◌else◌}
 
--- the greatest magnitude of an integer of 64 bits, negative or not
+-- Returns the greatest magnitude of an integer of 64 bits with this sign.
 unfoldable pub greatest : Bool → ℕ
 greatest negative = if negative then 2 ^ 63 else 2 ^ 63 - 1
 
 abbrev pub signed : Bool → ℕ → ℤ
 signed negative n = if negative then neg_ℤ (pos n) else pos n
 
--- the integer, if 64 bits hold it
+-- Returns the integer, if it fits in 64 bits.
 abbrev pub integer_of : Bool → ℕ → Option ℤ
 integer_of negative n = if nat_le n (greatest negative) then Some (signed negative n) else None

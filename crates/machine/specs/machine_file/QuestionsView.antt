@@ -1,4 +1,4 @@
--- What the questions of the code stand for.
+-- Defines the questions of the code, without their place in memory.
 use Rattle.std.specs.Prelude.{List, map, string_bytes}
 use Rattle.machine.specs.machine_file.Questions as plain
 use Rattle.machine.specs.machine_file.View.{strings_in}

@@ -1,4 +1,4 @@
--- What a value of a machine file is, by its type.
+-- Defines what a value of a machine file is, by its type.
 use Rattle.std.specs.Prelude.{ℕ, ℤ, Bool, List, [], ◌∷◌, Option, Some, None}
 use Rattle.machine.specs.machine_file.Values.{Value, Text, Integer, Boolean, Texts}
 
@@ -26,7 +26,7 @@ texts_said (Integer number) = None
 texts_said (Boolean boolean) = None
 texts_said (Texts items) = Some items
 
--- the words of a program: a text is one, and a list has several
+-- Returns the words of a program: a text is one, and a list has several.
 abbrev pub words_said : Value → List (List ℕ)
 words_said (Text text) = text ∷ []
 words_said (Integer number) = []

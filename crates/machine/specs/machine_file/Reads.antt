@@ -1,4 +1,4 @@
--- What a machine file says, as a relation by the form of each line.
+-- Defines what a machine file says, as a relation by the form of each line.
 use Rattle.std.specs.Prelude.{◌≡◌, ℕ, suc, true, false, List, [], ◌∷◌, ◌++◌, Some}
 use Rattle.machine.specs.declared.machine_file.section.SectionKind.{SectionKind}
 use Rattle.machine.specs.machine_file.Files.{Section, Open, Said, nothing_said, sections_said, has_key, has_name, cut_pair}
@@ -6,21 +6,21 @@ use Rattle.machine.specs.machine_file.Lines.{Nothing, Header, Pair, form_of}
 use Rattle.machine.specs.machine_file.Sections.{kind_of, knows}
 use Rattle.machine.specs.machine_file.Values.{Value, value_of}
 
--- a section of this name begins on this line, and the one before it ends
+-- Begins a section of this name on this line, and ends the one before it.
 abbrev pub with_begun : Said → ℕ → List ℕ → SectionKind → Said
 with_begun s line name kind = record {
   ended = sections_said s;
   open_section = Some (record { name = name; kind = kind; line = line; entries = [] });
 }
 
--- this line gives the open section a value at a key
+-- Adds a value at a key of the open section on this line.
 abbrev pub with_given : Said → ℕ → Open → List ℕ → Value → Said
 with_given s line o key v =
     record s { open_section = Some (record o { entries = o.entries ++ record { key = key; value = v; line = line } ∷ [] }) }
 
--- Where the first n lines have said one thing, another is said once these lines have followed them. An empty line or a
--- comment says nothing. A section has a name that there is, and that no section before it has. A key stands in a section
--- that knows it and its value, and no line before it in that section has the same key.
+-- Relates what the first n lines have said to what is said after these further lines. An empty line or a comment says nothing. A section
+-- has a known name that no earlier section has. A key is in a section that knows it and its value, and no earlier line in that section has
+-- the same key.
 pub data Says : Said → ℕ → List (List ℕ) → Said → Type 0 where
   end : (s : Said) (n : ℕ) → Says s n [] s
   nothing : (s t : Said) (n : ℕ) (l : List ℕ) (ls : List (List ℕ)) → form_of l ≡ Nothing → Says s (suc n) ls t → Says s n (l ∷ ls) t
@@ -32,7 +32,7 @@ pub data Says : Said → ℕ → List (List ℕ) → Said → Type 0 where
       → knows o.kind key v ≡ true → has_key key o.entries ≡ false
       → Says (with_given s (suc n) o key v) (suc n) ls t → Says s n (l ∷ ls) t
 
--- the lines are a machine file that has these sections
+-- The lines are a machine file with these sections.
 pub record AreSections (ls : List (List ℕ)) (sections : List Section) : Type 0 where
   pub said : Said
   pub reads : Says nothing_said 0 ls said

@@ -1,4 +1,4 @@
--- The sections of a machine file, and which keys and values each knows.
+-- Defines the sections of a machine file, and which keys and values each accepts.
 use Rattle.std.specs.Prelude.{ℕ, Bool, true, false, ◌&&◌, List, [], ◌∷◌, length, Option, Some, None, nat_eq, nat_lt, codes, if◌then◌else◌}
 use Rattle.std.specs.Prelude.{bytes_eq}
 use Rattle.std.specs.Option.{option_and_then}
@@ -12,11 +12,11 @@ use Rattle.machine.specs.declared.machine_file.section.SectionKind.TheVariants a
 use Rattle.machine.specs.declared.machine_file.section.Expected.{Expected}
 use Rattle.machine.specs.declared.machine_file.section.Expected.TheVariants as Wants
 
--- `dependency`, a space and a name
+-- Returns whether this is `dependency`, a space and a name.
 abbrev pub is_dependency : List ℕ → Bool
 is_dependency name = starts_with nat_eq name (codes "dependency ") && nat_lt 11 (length name)
 
--- the sections that there are, by their names
+-- Returns the kind of the section with this name, if there is one.
 unfoldable pub kind_of : List ℕ → Option SectionKind
 kind_of name =
     if bytes_eq name (codes "binaries") then Some Kinds.Binaries
@@ -28,36 +28,39 @@ kind_of name =
     else (if is_dependency name then Some Kinds.Dependency
     else None))))))
 
+-- Returns what a key of `[host_machine]` takes.
 abbrev pub of_host_machine : List ℕ → Option Expected
 of_host_machine key =
     if is_among (codes "system" ∷ codes "cpu_family" ∷ codes "cpu" ∷ codes "endian" ∷ []) key then Some Wants.Text else None
 
+-- Returns what a key of `[compiler]` takes.
 abbrev pub of_compiler : List ℕ → Option Expected
 of_compiler key = if is_among (codes "id" ∷ codes "version" ∷ []) key then Some Wants.Text else None
 
+-- Returns what a key of a dependency's section takes.
 abbrev pub of_dependency : List ℕ → Option Expected
 of_dependency key =
     if bytes_eq key (codes "version") then Some Wants.Text
     else (if is_among (codes "compile_args" ∷ codes "link_args" ∷ []) key then Some Wants.Texts
     else None)
 
--- the checks of the compiler that are true or false
+-- Returns whether a check of the compiler has a boolean answer.
 unfoldable pub true_or_false : List ℕ → Bool
 true_or_false = is_among (codes "has_header" ∷ codes "check_header" ∷ codes "has_function" ∷ codes "has_type" ∷ codes "has_argument"
     ∷ codes "has_link_argument" ∷ codes "has_member" ∷ codes "has_header_symbol" ∷ codes "find_library" ∷ [])
 
--- what a check of the compiler answers, if there is such a check
+-- Returns the type of the answer to a check of the compiler, if there is such a check.
 abbrev pub of_method : List ℕ → Option Expected
 of_method method =
     if true_or_false method then Some Wants.Boolean
     else (if is_among (codes "sizeof" ∷ codes "alignment" ∷ []) method then Some Wants.Integer
     else None)
 
--- a check: a method, a space and its arguments
+-- Returns the type of the answer to a check, given its key: a method, a space and its arguments.
 abbrev pub of_check : List ℕ → Option Expected
 of_check key = option_and_then (λ parts. of_method parts.0) (cut_first space key)
 
--- what value a key of a section wants, where the section knows the key
+-- Returns what a key of a section takes, if the section knows the key.
 abbrev pub expected : SectionKind → List ℕ → Option Expected
 expected Kinds.Binaries key = Some Wants.Words
 expected Kinds.Options key = Some Wants.Any
@@ -67,7 +70,7 @@ expected Kinds.Dependency key = of_dependency key
 expected Kinds.Checks key = of_check key
 expected Kinds.Properties key = Some Wants.Any
 
--- whether a value is of the type that is wanted; the words of a program are a text, or a list of at least one
+-- Returns whether a value has the type that is taken. The words of a program are a text, or a list with at least one.
 abbrev pub fits : Expected → Value → Bool
 fits Wants.Any v = true
 fits Wants.Words (Text text) = true
@@ -86,11 +89,11 @@ abbrev pub knows_as : Option Expected → Value → Bool
 knows_as None v = false
 knows_as (Some want) v = fits want v
 
--- whether a section knows the key and takes the value there
+-- Returns whether a section knows the key and takes the value.
 unfoldable pub knows : SectionKind → List ℕ → Value → Bool
 knows kind key v = knows_as (expected kind key) v
 
--- whether a section's keys are cut from their values at the last equals sign of the line, and not at the first
+-- Returns whether a section's keys are cut from their values at the last equals sign of the line, and not at the first.
 abbrev pub cuts_last : SectionKind → Bool
 cuts_last Kinds.Checks = true
 cuts_last _ = false

@@ -1,4 +1,4 @@
--- What the text of a value says, by its tokens.
+-- Defines the value of a text, by its tokens.
 use Rattle.std.specs.Prelude.{ℕ, ℤ, Bool, true, false, List, [], ◌∷◌, Option, Some, None, Result, Ok, Err, if◌then◌else◌}
 use Rattle.std.specs.Option.{option_map, option_and_then}
 use Rattle.syntax.specs.declared.lexer.token.Kind.TheVariants as Kinds
@@ -10,35 +10,35 @@ use Rattle.syntax.specs.lexer.Texts.{text_of}
 use Rattle.syntax.specs.lexer.Numerals.{magnitude}
 use Rattle.machine.specs.machine_file.Numbers.{integer_of}
 
--- a value of a machine file
+-- A value of a machine file.
 pub data Value : Type 0 where
   Text : (text : List ℕ) → Value
   Integer : (number : ℤ) → Value
   Boolean : (boolean : Bool) → Value
   Texts : (items : List (List ℕ)) → Value
 
--- the text of a plain string, after its escapes
+-- Returns the text of a plain string, after its escapes.
 abbrev pub plain_text : Lexeme → Option (List ℕ)
 plain_text t = if is t.kind Kinds.String then Some (text_of t.kind t.text) else None
 
--- a text in front of a list
+-- Puts a text before a list.
 abbrev pub with_item : Option (List ℕ) → Option (List (List ℕ)) → Option (List (List ℕ))
 with_item item items = option_and_then (λ first. option_map (λ others. first ∷ others) items) item
 
--- a closing bracket as the last token: no further items
+-- Returns no further items, if a closing bracket is the last token.
 abbrev pub closing : List Lexeme → Option (List (List ℕ))
 closing [] = None
 closing (t ∷ []) = if is t.kind Kinds.CloseBracket then Some [] else None
 closing (t ∷ u ∷ ts) = None
 
--- The items of a list of plain strings, from behind its opening bracket or a comma on: none up to the closing bracket, or
--- one, and then a comma and what follows it, or the closing bracket.
+-- Returns the items of a list of plain strings, from after its opening bracket or a comma on. There is none up to the closing bracket, or
+-- there is one, followed by a comma and more, or by the closing bracket.
 unfoldable pub items_of : List Lexeme → Option (List (List ℕ))
 items_of [] = None
 items_of (t ∷ []) = closing (t ∷ [])
 items_of (t ∷ mark ∷ ts) = with_item (plain_text t) (if is mark.kind Kinds.Comma then items_of ts else closing (mark ∷ ts))
 
--- a value that is one token
+-- Returns the value of one token.
 abbrev pub of_word : Lexeme → Option Value
 of_word t =
     if is t.kind Kinds.True then Some (Boolean true)
@@ -46,12 +46,12 @@ of_word t =
     else (if is t.kind Kinds.Number then option_map Integer (integer_of false (magnitude t.text))
     else option_map Text (plain_text t)))
 
--- the number behind a minus, the last token
+-- Returns the negative number of the last token, after a minus.
 abbrev pub negative_of : Lexeme → List Lexeme → Option Value
 negative_of t [] = if is t.kind Kinds.Number then option_map Integer (integer_of true (magnitude t.text)) else None
 negative_of t (u ∷ ts) = None
 
--- A plain string, a number, a minus and a number, a boolean, or a list of plain strings.
+-- Returns the value of these tokens: a plain string, a number, a minus and a number, a boolean, or a list of plain strings.
 abbrev pub of_tokens : List Lexeme → Option Value
 of_tokens [] = None
 of_tokens (t ∷ []) = of_word t
@@ -59,11 +59,11 @@ of_tokens (t ∷ u ∷ ts) =
     if is t.kind Kinds.OpenBracket then option_map Texts (items_of (u ∷ ts))
     else (if is t.kind Kinds.Minus then negative_of u ts else None)
 
--- what a text that is these tokens says; comments are between tokens
+-- Returns the value of a text with these tokens. Comments are between tokens.
 abbrev pub of_lexed : Result (List Lexeme) SyntaxFault → Option Value
 of_lexed (Ok ts) = of_tokens ts
 of_lexed (Err f) = None
 
--- the value that a text is, if it is one
+-- Returns the value of a text, if it has one.
 unfoldable pub value_of : List ℕ → Option Value
 value_of text = of_lexed (lexed text)

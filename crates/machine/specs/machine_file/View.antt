@@ -1,4 +1,4 @@
--- What the code's own types stand for.
+-- Defines the plain values of the code's types.
 use Rattle.std.specs.Prelude.{ℕ, List, map, Option, Result, string_bytes, String}
 use Rattle.std.specs.Option.{option_map}
 use Rattle.std.specs.Result.{result_map_both}
@@ -31,14 +31,14 @@ value_in (given.Texts items) = Texts (strings_in items.items)
 abbrev pub entry_in : String Global × Entry → file.Entry
 entry_in e = record { key = string_bytes e.0; value = value_in e.1.value; line = e.1.line }
 
--- a key that is shown with what it has
+-- Returns a key with its entry, as both are shown.
 abbrev pub shown_in : Bor (List ℕ) × Bor Entry → file.Entry
 shown_in e = record { key = e.0.now; value = value_in e.1.now.value; line = e.1.now.line }
 
 abbrev pub entries_in : List (String Global × Entry) → List file.Entry
 entries_in entries = map entry_in entries
 
--- the entries of a section, in the order of their lines; a dependency's version that no line gives stands last
+-- Returns the entries of a section, in the order of their lines. The default version of a dependency is last.
 abbrev pub entries_of : Section → List file.Entry
 entries_of section = entries_in section.entries.entries
 
@@ -48,11 +48,11 @@ section_in s = record { name = string_bytes s.0; entries = entries_of s.1 }
 abbrev pub sections_in : List (String Global × Section) → List file.Section
 sections_in sections = map section_in sections
 
--- a section that is shown with its name
+-- Returns a section with its name, as both are shown.
 abbrev pub shown_section_in : Bor (List ℕ) × Bor Section → file.Section
 shown_section_in s = record { name = s.0.now; entries = entries_of s.1.now }
 
--- the sections of a machine file, in the order of their lines
+-- Returns the sections of a machine file, in the order of their lines.
 abbrev pub machine_in : Machine → List file.Section
 machine_in machine = sections_in machine.sections.entries
 
@@ -70,11 +70,11 @@ said_by ended current = record { ended = sections_in ended; open_section = optio
 abbrev pub said_in : Reading → file.Said
 said_in reading = said_by reading.ended.entries reading.current
 
--- what is said with one more line, or why it may not stand there
+-- Returns what is said after one more line, or why it is not allowed there.
 abbrev pub more_in : Result Reading (String Global) → Result file.Said (List ℕ)
 more_in more = result_map_both said_in string_bytes more
 
--- these entries, or why there are no more
+-- Returns these entries, or why there are no more.
 abbrev pub added_in : List file.Entry → Result (Unit {0}) (String Global) → Result (List file.Entry) (List ℕ)
 added_in entries added = result_map_both (λ u. entries) string_bytes added
 

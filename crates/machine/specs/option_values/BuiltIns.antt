@@ -1,11 +1,11 @@
--- The options that every project has.
+-- Defines the options that every project has.
 use Rattle.std.specs.Prelude.{ℕ, Bool, true, false, List, [], ◌∷◌, map, Option, Some, None, codes, if◌then◌else◌, bytes_eq}
 use Rattle.std.specs.List.{list_any}
 use Rattle.machine.specs.declared.option_values.kind.FeatureState.TheVariants as feature
 use Rattle.machine.specs.option_values.Kinds as kind
 use Rattle.machine.specs.option_values.Values as value
 
--- an option: its name, what it takes, and the value that it has where none is given
+-- An option: its name, what it takes, and its default value.
 pub record BuiltIn : Type 0 where
   pub name : List ℕ
   pub kind : kind.Kind
@@ -23,29 +23,29 @@ combo name choices default = record { name = name; kind = kind.Combo choices; va
 abbrev pub words : List ℕ → BuiltIn
 words name = record { name = name; kind = kind.Words; value = value.Array [] }
 
--- the types of a build
+-- Returns the types of a build (`buildtype`).
 abbrev pub build_types : List (List ℕ)
 build_types = codes "plain" ∷ codes "debug" ∷ codes "debugoptimized" ∷ codes "release" ∷ codes "minsize" ∷ []
 
--- the levels of optimization
+-- Returns the levels of optimization.
 abbrev pub levels : List (List ℕ)
 levels = codes "plain" ∷ codes "0" ∷ codes "g" ∷ codes "1" ∷ codes "2" ∷ codes "3" ∷ codes "s" ∷ []
 
--- the levels of warnings
+-- Returns the levels of warnings.
 abbrev pub warnings : List (List ℕ)
 warnings = codes "0" ∷ codes "1" ∷ codes "2" ∷ codes "3" ∷ []
 
--- the standards of C
+-- Returns the standards of C.
 abbrev pub standards : List (List ℕ)
 standards =
     codes "none" ∷ codes "c89" ∷ codes "c99" ∷ codes "c11" ∷ codes "c17"
     ∷ codes "gnu89" ∷ codes "gnu99" ∷ codes "gnu11" ∷ codes "gnu17" ∷ []
 
--- what a library is where nothing says which
+-- Returns the kinds of a library that declares none.
 abbrev pub libraries : List (List ℕ)
 libraries = codes "shared" ∷ codes "static" ∷ []
 
--- the options of every project, in their order
+-- Returns the options of every project, in their order.
 unfoldable pub built_ins : List BuiltIn
 built_ins =
     text (codes "prefix") (codes "/usr/local")
@@ -67,11 +67,11 @@ built_ins =
     ∷ record { name = codes "auto_features"; kind = kind.Feature; value = value.Feature feature.Auto }
     ∷ []
 
--- whether every project has an option of this name
+-- Returns whether every project has an option of this name.
 unfoldable pub is_built_in : List ℕ → Bool
 is_built_in name = list_any (λ b. bytes_eq name b.name) built_ins
 
--- an option with what it takes
+-- An option with what it takes.
 pub record NamedKind : Type 0 where
   pub name : List ℕ
   pub kind : kind.Kind
@@ -79,7 +79,7 @@ pub record NamedKind : Type 0 where
 unfoldable pub built_in_kinds : List NamedKind
 built_in_kinds = map (λ b. record { name = b.name; kind = b.kind }) built_ins
 
--- the kinds after an option's was put there: it keeps its place, and a new one stands last
+-- Records the kind of an option. A known option keeps its place, and a new one is last.
 abbrev pub put_kind : NamedKind → List NamedKind → List NamedKind
 put_kind k [] = k ∷ []
 put_kind k (l ∷ ls) = if bytes_eq k.name l.name then record l { kind = k.kind } ∷ ls else l ∷ put_kind k ls
@@ -88,10 +88,10 @@ abbrev pub kind_among : List NamedKind → List ℕ → Option kind.Kind
 kind_among [] name = None
 kind_among (k ∷ ks) name = if bytes_eq name k.name then Some k.kind else kind_among ks name
 
--- what the option of this name takes, where every project has it
+-- Returns what the option with this name takes, if every project has it.
 unfoldable pub built_in_kind : List ℕ → Option kind.Kind
 built_in_kind name = kind_among built_in_kinds name
 
--- one more row of the table
+-- Adds one more row of the table.
 abbrev pub add_kind : List NamedKind → BuiltIn → List NamedKind
 add_kind ks b = put_kind (record { name = b.name; kind = b.kind }) ks

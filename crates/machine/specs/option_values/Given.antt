@@ -1,4 +1,4 @@
--- Which value of an option a list is, and a value of a machine file.
+-- Defines which value a list and a value of a machine file give an option.
 use Rattle.std.specs.Prelude.{ℕ, Bool, true, false, codes, List, [], ◌∷◌, ◌++◌, Option, Some}
 use Rattle.std.specs.Fmt.{signed_decimal}
 use Rattle.machine.specs.machine_file.Values as machine
@@ -6,17 +6,17 @@ use Rattle.machine.specs.option_values.Kinds as kind
 use Rattle.machine.specs.option_values.Values as value
 use Rattle.machine.specs.option_values.Texts.{array_of, value_of}
 
--- texts in single quotes, in which nothing is escaped, each behind the first separator or a comma and a space
+-- Returns texts in single quotes, in which nothing is escaped, with the separator before the first and a comma and a space before each
+-- other one.
 abbrev pub quoted : List ℕ → List (List ℕ) → List ℕ
 quoted separator [] = []
 quoted separator (item ∷ items) = separator ++ (codes "'" ++ (item ++ (codes "'" ++ quoted (codes ", ") items)))
 
--- a list as it is printed
+-- Returns a list in printed form.
 abbrev pub printed : List (List ℕ) → List ℕ
 printed items = codes "[" ++ (quoted [] items ++ codes "]")
 
--- the value of an option of this kind that a list of texts is: its items where the option takes a list, and else what it is
--- printed as
+-- Returns the value that a list of texts gives an option of this kind: its items if the option takes a list, and else its printed form.
 abbrev pub value_of_items : kind.Kind → List (List ℕ) → Option value.Value
 value_of_items (kind.Array choices) items = array_of choices items
 value_of_items kind.Words items = Some (value.Array items)
@@ -26,7 +26,7 @@ abbrev pub boolean_text : Bool → List ℕ
 boolean_text true = codes "true"
 boolean_text false = codes "false"
 
--- the value of an option of this kind that a value of a machine file is: what it is printed as, but for lists
+-- Returns the value that a value of a machine file gives an option of this kind: its printed form, except for lists.
 abbrev pub value_of_given : kind.Kind → machine.Value → Option value.Value
 value_of_given k (machine.Text text) = value_of k text
 value_of_given k (machine.Integer number) = value_of k (signed_decimal number)

@@ -1,4 +1,4 @@
--- Texts that give the items of a list.
+-- Defines texts that give the items of a list.
 use Rattle.std.specs.Prelude.{ℕ, Bool, true, false, ◌==◌, List, [], ◌∷◌, map, Option, Some, None, if◌then◌else◌}
 use Rattle.std.specs.List.{list_all, slice_split}
 use Rattle.syntax.specs.lexer.Bytes.{comma, open_bracket}
@@ -8,16 +8,16 @@ use Rattle.machine.specs.machine_file.Texts.{trimmed}
 use Rattle.machine.specs.machine_file.Values as machine
 use Rattle.machine.specs.option_values.Words.{words_of}
 
--- each item is one of the choices, where there are choices
+-- Returns whether each item is one of the choices, if there are choices.
 abbrev pub are_among : Option (List (List ℕ)) → List (List ℕ) → Bool
 are_among None items = true
 are_among (Some choices) items = list_all (is_among choices) items
 
--- a text without spaces at its ends; other blanks stay
+-- Returns a text without spaces at its ends. Other blanks stay.
 abbrev pub without_spaces : List ℕ → List ℕ
 without_spaces text = trimmed blanks.Spaces text
 
--- the parts between commas, without spaces at their ends; none of an empty text
+-- Returns the parts between commas, without spaces at their ends. An empty text has none.
 abbrev pub parts_of : List ℕ → List (List ℕ)
 parts_of [] = []
 parts_of (b ∷ bs) = map without_spaces (slice_split (λ c. c == comma) (b ∷ bs))
@@ -30,14 +30,14 @@ abbrev pub items_in : Option machine.Value → Option (List (List ℕ))
 items_in (Some (machine.Texts items)) = Some items
 items_in _ = None
 
--- the items of a list literal of plain strings, as a machine file has it
+-- Returns the items of a list literal of plain strings, as a machine file has it.
 abbrev pub listed : List ℕ → Option (List (List ℕ))
 listed text = items_in (machine.value_of text)
 
--- the items of an array: a list literal, or parts between commas
+-- Returns the items of an array: a list literal, or parts between commas.
 abbrev pub items_of : List ℕ → Option (List (List ℕ))
 items_of text = if begins_list text then listed text else Some (parts_of text)
 
--- the items of words: a list literal, or words
+-- Returns the items of words: a list literal, or words.
 abbrev pub word_items_of : List ℕ → Option (List (List ℕ))
 word_items_of text = if begins_list text then listed text else words_of text

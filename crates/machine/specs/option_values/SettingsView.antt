@@ -1,4 +1,4 @@
--- Options, each with a value, without where they lie in memory.
+-- Defines options with their values, without their place in memory.
 use Rattle.std.specs.Prelude.{ℕ, List, map, string_bytes, String}
 use Rattle.std.specs.declared.alloc.Global.{Global}
 use denote.Ref.{Bor}
@@ -9,7 +9,7 @@ use Rattle.machine.specs.declared.option_values.settings.Setting.{Setting}
 use Rattle.machine.specs.declared.option_values.settings.Options.{Options}
 use Rattle.machine.specs.option_values.Settings as plain
 
--- an option with its name
+-- Returns an option with its name.
 abbrev pub setting_in : List ℕ → Setting → plain.Setting
 setting_in name s = record { name = name; value = value_in s.value; given = s.given }
 
@@ -19,10 +19,10 @@ entry_in e = setting_in (string_bytes e.0) e.1
 abbrev pub settings_in : List (String Global × Setting) → List plain.Setting
 settings_in entries = map entry_in entries
 
--- the options, in their order
+-- Returns the options, in their order.
 abbrev pub options_in : Options → List plain.Setting
 options_in options = settings_in options.settings.entries
 
--- an option that is shown with its name
+-- Returns an option with its name, as both are shown.
 abbrev pub shown_in : Bor (List ℕ) × Bor OptionValue → List ℕ × Value
 shown_in e = (e.0.now, value_in e.1.now)

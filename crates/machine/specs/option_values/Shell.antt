@@ -1,4 +1,4 @@
--- How words are written, as a relation by the pieces of a text.
+-- Defines how words are written, as a relation by the pieces of a text.
 use Rattle.std.specs.Prelude.{◌≡◌, ℕ, Bool, true, false, not, ◌||◌, ◌==◌, List, [], ◌∷◌, ◌++◌, Option, Some, None}
 use Rattle.std.specs.Char.{encode_utf8}
 use Rattle.std.specs.Str.{encode_utf8_all}
@@ -6,14 +6,14 @@ use Rattle.std.specs.List.{list_all}
 use Rattle.syntax.specs.lexer.Bytes.{backslash, quote}
 use Rattle.machine.specs.option_values.Words.{double_quote, parts_words, is_escapable}
 
--- a character that stands for itself outside quotes
+-- Returns whether the character is itself outside quotes.
 abbrev pub is_bare : ℕ → Bool
 is_bare c = not (parts_words c || ((c == backslash) || ((c == quote) || (c == double_quote))))
 
 abbrev pub is_no_quote : ℕ → Bool
 is_no_quote c = not (c == quote)
 
--- What stands between double quotes, and the text that it gives: a backslash before a double quote or a backslash is dropped.
+-- Relates the characters between double quotes to their text. A backslash before a double quote or a backslash is dropped.
 pub data Inside : List ℕ → List ℕ → Type 0 where
   nothing : Inside [] []
   plain : (c : ℕ) (cs text : List ℕ) → is_escapable c ≡ false → Inside cs text → Inside (c ∷ cs) (encode_utf8 c ++ text)
@@ -21,15 +21,15 @@ pub data Inside : List ℕ → List ℕ → Type 0 where
   kept : (c : ℕ) (cs text : List ℕ) → is_escapable c ≡ false → Inside cs text
       → Inside (backslash ∷ c ∷ cs) (encode_utf8 backslash ++ (encode_utf8 c ++ text))
 
--- a piece of a word, and the text that it gives
+-- Relates a piece of a word to its text.
 pub data Piece : List ℕ → List ℕ → Type 0 where
   bare : (c : ℕ) → is_bare c ≡ true → Piece (c ∷ []) (encode_utf8 c)
   escaped : (c : ℕ) → Piece (backslash ∷ c ∷ []) (encode_utf8 c)
   single : (cs : List ℕ) → list_all is_no_quote cs ≡ true → Piece (quote ∷ (cs ++ quote ∷ [])) (encode_utf8_all cs)
   double : (cs text : List ℕ) → Inside cs text → Piece (double_quote ∷ (cs ++ double_quote ∷ [])) text
 
--- The words that the rest of a text gives, where what stands before it ends between words, or in a word that has this text so
--- far. Blanks and newlines part words; pieces with nothing between them are one word.
+-- Relates the rest of a text to its words, if what comes before ends between words, or in a word with this text so far. Blanks and newlines
+-- separate words. Pieces with nothing between them are one word.
 pub data Reads : Option (List ℕ) → List ℕ → List (List ℕ) → Type 0 where
   end : Reads None [] []
   blank : (c : ℕ) (cs : List ℕ) (words : List (List ℕ)) → parts_words c ≡ true → Reads None cs words → Reads None (c ∷ cs) words
@@ -40,6 +40,6 @@ pub data Reads : Option (List ℕ) → List ℕ → List (List ℕ) → Type 0 w
       → Reads (Some word) (c ∷ cs) (word ∷ words)
   last : (word : List ℕ) → Reads (Some word) [] (word ∷ [])
 
--- the characters are these words
+-- Holds if the characters are these words.
 abbrev pub AreWords : List ℕ → List (List ℕ) → Type 0
 AreWords cs words = Reads None cs words

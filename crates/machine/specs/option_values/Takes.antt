@@ -1,10 +1,10 @@
--- What an option takes, in words.
+-- Defines in words what an option takes.
 use Rattle.std.specs.Prelude.{ℕ, ℤ, List, [], ◌∷◌, ◌++◌, Option, Some, None, codes}
 use Rattle.std.specs.Fmt.{signed_decimal}
 use Rattle.machine.specs.option_values.Given.{quoted}
 use Rattle.machine.specs.option_values.Kinds.{Kind, Text, Boolean, Combo, Integer, Array, Words, Feature}
 
--- choices between single quotes
+-- Returns the choices in single quotes.
 abbrev pub choice_words : List (List ℕ) → List ℕ
 choice_words [] = codes "nothing"
 choice_words (choice ∷ choices) = quoted [] (choice ∷ choices)
@@ -21,7 +21,7 @@ abbrev pub array_words : Option (List (List ℕ)) → List ℕ
 array_words None = codes "a list of texts"
 array_words (Some choices) = codes "a list of " ++ choice_words choices
 
--- what an option of this kind takes: its choices and bounds
+-- Returns what an option of this kind takes, with its choices and bounds.
 abbrev pub kind_words : Kind → List ℕ
 kind_words Text = codes "a text"
 kind_words Boolean = codes "true or false"

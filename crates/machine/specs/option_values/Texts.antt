@@ -1,4 +1,4 @@
--- Which value of an option a text is.
+-- Defines which value a text gives an option.
 use Rattle.std.specs.Prelude.{ℕ, Bool, true, false, codes, bytes_eq, List, Option, Some, None, if◌then◌else◌}
 use Rattle.std.specs.Option.{option_map, option_and_then}
 use Rattle.machine.specs.declared.option_values.kind.FeatureState.{FeatureState}
@@ -22,15 +22,15 @@ state_of text =
     else (if bytes_eq text (codes "auto") then Some feature.Auto
     else None))
 
--- one of these texts
+-- Returns a text as the value of a combo, if it is one of the choices.
 abbrev pub choice_of : List (List ℕ) → List ℕ → Option value.Value
 choice_of choices text = if is_among choices text then Some (value.Combo text) else None
 
--- a list of these items, if the choices allow them
+-- Returns a list of these items, if the choices allow them.
 abbrev pub array_of : Option (List (List ℕ)) → List (List ℕ) → Option value.Value
 array_of choices items = if are_among choices items then Some (value.Array items) else None
 
--- the value of an option of this kind that a text is, if it is one
+-- Returns the value that a text gives an option of this kind, if the option takes it.
 abbrev pub value_of : kind.Kind → List ℕ → Option value.Value
 value_of kind.Text text = Some (value.Text text)
 value_of kind.Boolean text = option_map value.Boolean (boolean_of text)

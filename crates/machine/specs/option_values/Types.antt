@@ -1,9 +1,9 @@
--- The types of options.
+-- Defines the types of options.
 use Rattle.std.specs.Prelude.{ℕ, List, Option, Some, None, codes, bytes_eq, if◌then◌else◌}
 use Rattle.machine.specs.declared.option_values.kind.OptionType.{OptionType}
 use Rattle.machine.specs.declared.option_values.kind.OptionType.TheVariants as types
 
--- the types that there are
+-- Returns the type with this name, if there is one.
 unfoldable pub type_named : List ℕ → Option OptionType
 type_named name =
     if bytes_eq name (codes "string") then Some types.Text

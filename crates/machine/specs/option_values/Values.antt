@@ -1,4 +1,4 @@
--- The values that options have.
+-- Defines the values of options.
 use Rattle.std.specs.Prelude.{ℕ, ℤ, Bool, List}
 use Rattle.machine.specs.declared.option_values.kind.FeatureState.{FeatureState}
 

@@ -1,4 +1,4 @@
--- What the code's own types stand for.
+-- Defines the plain values of the code's types.
 pub use Rattle.machine.specs.machine_file.View.{strings_in}
 use Rattle.std.specs.Prelude.{◌≡◌, ℕ, List, [], map, string_bytes, String, Option}
 use Rattle.std.specs.Option.{option_map}
@@ -18,7 +18,7 @@ use Rattle.machine.specs.option_values.BuiltIns as built
 use Rattle.machine.specs.option_values.Kinds as kind
 use Rattle.machine.specs.option_values.Values as value
 
--- choices, in their order
+-- Returns the choices, in their order.
 abbrev pub texts_of : Choices → List (List ℕ)
 texts_of choices = strings_in choices.texts.items
 
@@ -50,7 +50,7 @@ named_kind_in e = record { name = string_bytes e.0; kind = kind_in e.1 }
 abbrev pub kinds_in : List (String Global × OptionKind) → List built.NamedKind
 kinds_in entries = map named_kind_in entries
 
--- these are the options that every project has, with what each takes
+-- Holds if these are the options that every project has, with what each takes.
 abbrev pub AreBuiltIns : List (String Global × OptionKind) → Type 0
 AreBuiltIns entries = kinds_in entries ≡ built.built_in_kinds
 
@@ -75,6 +75,6 @@ form_value (form.Combo choices text) = value.Combo text.now
 form_value form.Words = value.Array []
 form_value form.Feature = value.Feature feature.Auto
 
--- a row of the table of options that every project has
+-- Returns a row of the table of options that every project has.
 abbrev pub row_in : BuiltIn → built.BuiltIn
 row_in b = record { name = b.name.now; kind = form_kind b.form; value = form_value b.form }

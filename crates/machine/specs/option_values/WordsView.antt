@@ -1,4 +1,4 @@
--- What a text in cutting stands for.
+-- Defines the state of cutting a text, without its place in memory.
 use Rattle.std.specs.Prelude.{string_bytes}
 use Rattle.machine.specs.declared.option_values.words.Cutting.{Cutting}
 use Rattle.machine.specs.option_values.View.{strings_in}

@@ -1,4 +1,4 @@
-//! Why bytes are no machine file.
+//! Says why bytes are no machine file.
 
 ghost use Rattle.std.specs.Prelude.{◌≡◌, IfOk};
 ghost use Rattle.support.specs.View.{fault_view};
@@ -9,19 +9,19 @@ use std::alloc::{AllocError, Global};
 use support::faults::{Fault, Refusal};
 use thiserror::Error;
 
-/// What is wrong with a machine file, and the line, from 1: E1, where the bytes are no UTF-8, or E16, where the lines up to this
-/// one begin no machine file.
+/// Holds what is wrong with a machine file, and the line, from 1. It is E1 if the bytes are not UTF-8, and E16 if no machine file begins
+/// with the lines up to this one.
 #[derive(Debug, Drop, Error)]
 #[error("line {line}: {refusal}{}{detail}", if .detail.is_empty() {""} else {": "})]
 pub struct MachineFault {
     pub refusal: Refusal,
     pub line: usize,
-    /// What it is about, in words; empty of E1.
+    /// The details, in words. They are empty for E1.
     pub detail: String,
 }
 
 impl MachineFault {
-    /// The fault as a run tells it: its file is `<machine file>`.
+    /// Returns the fault in the form that a run reports. Its file is `<machine file>`.
     pub fn tell(&self, alloc: Global) -> Result<Fault, AllocError>
         ensures { IfOk result (λ fault. fault_view fault ≡ told (fault_in self.now)) }
     {

@@ -1,4 +1,4 @@
-//! The lines of a machine file.
+//! Reads the forms of the lines of a machine file.
 
 ghost use Rattle.std.specs.Prelude.{◌≡◌};
 ghost use Rattle.std.specs.Option.{option_map};
@@ -9,18 +9,18 @@ ghost use Rattle.machine.specs.machine_file.View.{form_in};
 use crate::machine_file::section::SectionKind;
 use crate::machine_file::text::{Blanks, before_last_byte, cut_first, cut_last, trim};
 
-/// What a line is, without blanks at its ends.
+/// Names the form of a line, without blanks at its ends.
 #[derive(Clone, Copy)]
 pub enum Form<'a> {
-    /// Nothing, or a comment.
+    /// An empty line or a comment.
     Nothing,
     /// `[name]`
     Header(&'a str),
-    /// It has to be a key with its value.
+    /// A line that must be a key with its value.
     Pair(&'a str),
 }
 
-/// The form of a line.
+/// Returns the form of a line.
 pub fn form_of(line: &str) -> Form<'_>
     ensures { form_in result ≡ form_of line.now }
 {
@@ -37,7 +37,8 @@ pub fn form_of(line: &str) -> Form<'_>
     }
 }
 
-/// A key and its value, without blanks at their ends, as a section of this kind cuts them.
+/// Returns a key and its value, without blanks at their ends. The kind of section decides at which `=` they are cut. Returns `None` if
+/// there is no `=`.
 pub fn cut_pair(kind: SectionKind, text: &str) -> Option<(&str, &str)>
     ensures { option_map (λ parts. (parts.0.now, parts.1.now)) result ≡ cut_pair kind text.now }
 {

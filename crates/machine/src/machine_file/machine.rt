@@ -1,4 +1,4 @@
-//! What a machine file says.
+//! Holds what a machine file says.
 
 ghost use Rattle.std.specs.Prelude.{◌≡◌, ◌==◌, [], IfOk, length, map, slice_get};
 ghost use Rattle.std.specs.Option.{option_map};
@@ -12,14 +12,14 @@ use support::faults::Refusal;
 use support::tables::{SipMap, new_map};
 use syntax::lexer::newlines;
 
-/// What a key has: a value, and the line, from 1, that gives it.
+/// Holds the value of a key, and the line, from 1, that gives it.
 #[derive(Drop)]
 pub struct Entry {
     pub value: MachineValue,
     pub line: usize,
 }
 
-/// The keys of a section, in the order of their lines.
+/// Holds the keys of a section, in the order of their lines.
 pub struct Section {
     pub(crate) entries: SipMap<String, Entry>,
 }
@@ -30,7 +30,7 @@ impl Drop for Section {
     }
 }
 
-/// What a machine file says, by section and key.
+/// Holds what a machine file says, by section and key.
 pub struct Machine {
     pub(crate) sections: SipMap<String, Section>,
 }
@@ -45,21 +45,21 @@ impl Section {
     ghost use Rattle.machine.specs.machine_file.Lookups.{entry_at};
     ghost use Rattle.machine.specs.machine_file.View.{shown_in, entries_of, value_in};
 
-    /// How many keys the section has.
+    /// Returns the number of keys in the section.
     pub fn len(&self) -> usize
         ensures { result ≡ length (entries_of self.now) }
     {
         self.entries.len()
     }
 
-    /// Whether the section has no key.
+    /// Returns whether the section has no key.
     pub fn is_empty(&self) -> bool
         ensures { result ≡ (length (entries_of self.now) == 0) }
     {
         self.entries.is_empty()
     }
 
-    /// The i-th key, in the order of lines, and what it has. A version that a dependency does not give stands last.
+    /// Returns key number `i`, from 0, in the order of lines, and its entry. The default version of a dependency is last.
     pub fn at(&self, i: usize) -> Option<(&str, &Entry)>
         ensures { option_map shown_in result ≡ slice_get (entries_of self.now) i }
     {
@@ -67,7 +67,7 @@ impl Section {
         Some((key.as_str(), entry))
     }
 
-    /// The value that the section has at a key. It takes no memory and never fails.
+    /// Returns the value of a key in the section. It does not allocate.
     pub fn get(&self, key: &str) -> Option<&MachineValue>
         ensures { option_map (λ v. value_in v.now) result ≡ option_map (λ e. e.value) (entry_at (entries_of self.now) key.now) }
     {
@@ -83,7 +83,7 @@ impl Machine {
     ghost use Rattle.machine.specs.machine_file.Lookups.{entries_at, value_at, text_or, dependency_at, check_at};
     ghost use Rattle.machine.specs.machine_file.View.{value_in, entries_of, machine_in, read_in, shown_section_in};
 
-    /// What no file says: nothing.
+    /// Returns a machine file without sections.
     pub fn empty(alloc: Global) -> Machine
         ensures { machine_in result ≡ [] }
     {
@@ -92,8 +92,10 @@ impl Machine {
         }
     }
 
-    /// What these bytes say, or the fault that they have: the Meson manual's page "Machine files", without sections of
-    /// constants and paths, and with sections of this project's own for what Meson asks the machine.
+    /// Returns what these bytes say, or their fault.
+    ///
+    /// The format is that of the Meson manual's page "Machine files", without sections of constants and paths. This project adds sections
+    /// of its own for what Meson asks the machine.
     pub fn read(alloc: Global, bytes: &[u8]) -> Result<Result<Machine, MachineFault>, AllocError>
         // The answer is what the lines say, or a fault at its line.
         ensures answer { IfOk result (Answers bytes.now) }
@@ -115,21 +117,21 @@ impl Machine {
         read_lines(alloc, text)
     }
 
-    /// How many sections there are.
+    /// Returns the number of sections.
     pub fn len(&self) -> usize
         ensures { result ≡ length (machine_in self.now) }
     {
         self.sections.len()
     }
 
-    /// Whether there is no section.
+    /// Returns whether there is no section.
     pub fn is_empty(&self) -> bool
         ensures { result ≡ (length (machine_in self.now) == 0) }
     {
         self.sections.is_empty()
     }
 
-    /// The i-th section, in the order of lines, and its name.
+    /// Returns section number `i`, from 0, in the order of lines, and its name.
     pub fn at(&self, i: usize) -> Option<(&str, &Section)>
         ensures { option_map shown_section_in result ≡ slice_get (machine_in self.now) i }
     {
@@ -137,14 +139,14 @@ impl Machine {
         Some((name.as_str(), section))
     }
 
-    /// The section with this name, as `dependency zlib`.
+    /// Returns the section with this name, such as `dependency zlib`.
     pub fn section(&self, name: &str) -> Option<&Section>
         ensures { option_map (λ s. entries_of s.now) result ≡ entries_at (machine_in self.now) name.now }
     {
         self.sections.get(name)
     }
 
-    /// The value that a section has at a key. It takes no memory and never fails.
+    /// Returns the value of a key in a section. It does not allocate.
     pub fn get(&self, section: &str, key: &str) -> Option<&MachineValue>
         ensures { option_map (λ v. value_in v.now) result ≡ value_at (machine_in self.now) section.now key.now }
     {
@@ -152,7 +154,7 @@ impl Machine {
         section.get(key)
     }
 
-    /// The text that a section has at a key, or else this one.
+    /// Returns the text of a key in a section, or else `default`.
     pub fn text_or<'m>(&'m self, section: &str, key: &str, default: &'m str) -> &'m str
         ensures { result.now ≡ text_or (machine_in self.now) section.now key.now default.now }
     {
@@ -162,7 +164,7 @@ impl Machine {
         }
     }
 
-    /// What `[dependency NAME]` says of the dependency of this name, where the section is there.
+    /// Returns the section `[dependency NAME]` of this name, if the file has it.
     pub fn dependency(&self, alloc: Global, name: &str) -> Result<Option<&Section>, AllocError>
         ensures { IfOk result (λ s. option_map (λ section. entries_of section.now) s ≡ dependency_at (machine_in self.now) name.now) }
     {
@@ -171,8 +173,7 @@ impl Machine {
         Ok(self.section(section.as_str()))
     }
 
-    /// What the compiler answers to a check, where the machine file says so: a boolean, or the integer of `sizeof` and
-    /// `alignment`.
+    /// Returns the answer to a check of the compiler, if the machine file has it: a boolean, or the integer of `sizeof` and `alignment`.
     pub fn check(
         &self,
         alloc: Global,

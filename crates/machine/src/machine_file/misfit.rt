@@ -1,4 +1,4 @@
-//! Why a line may not stand where it does, and the words that say so.
+//! Says in words why a line is not allowed where it is.
 
 ghost use Rattle.std.specs.Prelude.{◌≡◌, IfOk, string_bytes};
 ghost use Rattle.machine.specs.machine_file.MisfitView.{misfit_in};
@@ -10,7 +10,7 @@ use crate::machine_file::section::{Expected, SectionKind};
 use crate::machine_file::value::MachineValue;
 use std::alloc::{AllocError, Global};
 
-/// What is wrong with a line; a section is told by its name.
+/// Says what is wrong with a line. It refers to a section by its name.
 #[derive(Clone, Copy)]
 pub enum Misfit<'m> {
     /// There is no section of this name.
@@ -21,17 +21,17 @@ pub enum Misfit<'m> {
     Outside,
     /// A line of this section has no `=`.
     NoSign(&'m str),
-    /// What stands behind this key of this section is no value.
+    /// The text after this key of this section is no value.
     NoValue(&'m str, &'m str),
     /// This section knows no such key.
     NoKey(&'m str, &'m str),
-    /// This key of this section takes this, and something else was given.
+    /// This key of this section takes this type, and the value has another.
     OtherValue(&'m str, &'m str, Expected, &'m MachineValue),
     /// This key was given before in this section.
     KeyTwice(&'m str, &'m str),
 }
 
-// What a key takes.
+// Returns the words for what a key takes.
 fn expected_words(expected: Expected) -> &'static str
     ensures { result.now ≡ expected_words expected }
 {
@@ -45,7 +45,7 @@ fn expected_words(expected: Expected) -> &'static str
     }
 }
 
-// What it got.
+// Returns the words for a value that was given.
 fn value_words(value: &MachineValue) -> &'static str
     ensures { result.now ≡ value_words (value_in value.now) }
 {
@@ -63,21 +63,21 @@ fn value_words(value: &MachineValue) -> &'static str
     }
 }
 
-// Of a section this is so.
+// Returns the text that says these words of a section.
 fn section_is(alloc: Global, name: &str, words: &str) -> Result<String, AllocError>
     ensures { IfOk result (λ text. string_bytes text ≡ section_is name.now words.now) }
 {
     format!(in alloc; "section '{name}': {words}")
 }
 
-// Of a key of a section this is so.
+// Returns the text that says these words of a key in a section.
 fn key_is(alloc: Global, section: &str, key: &str, words: &str) -> Result<String, AllocError>
     ensures { IfOk result (λ text. string_bytes text ≡ key_is section.now key.now words.now) }
 {
     format!(in alloc; "[{section}] key '{key}': {words}")
 }
 
-// One value is taken, and this one was given.
+// Returns the words that name the expected type and the given value.
 fn takes_words(
     alloc: Global,
     expected: Expected,
@@ -90,7 +90,7 @@ fn takes_words(
     format!(in alloc; "takes {expected}, and got {got}")
 }
 
-// A key of a section takes one value, and this one was given.
+// Returns the text for a key of a section with a value of the wrong type.
 fn key_takes(
     alloc: Global,
     section: &str,
@@ -104,7 +104,7 @@ fn key_takes(
     key_is(alloc, section, key, &words)
 }
 
-// A line of a section has no `=`.
+// Returns the text for a line of a section without `=`.
 fn without_sign(alloc: Global, section: &str) -> Result<String, AllocError>
     ensures { IfOk result (λ text. string_bytes text ≡ words_of (NoSign section.now)) }
 {
@@ -112,7 +112,7 @@ fn without_sign(alloc: Global, section: &str) -> Result<String, AllocError>
 }
 
 impl<'m> Misfit<'m> {
-    /// What is wrong with a key and a value that a section of this name and kind does not take.
+    /// Returns what is wrong with a key and a value that a section of this name and kind refuses.
     pub fn of_value(
         section: &'m str,
         kind: SectionKind,
@@ -133,7 +133,7 @@ impl<'m> Misfit<'m> {
         }
     }
 
-    /// What it is about.
+    /// Returns the details in words.
     pub fn words(self, alloc: Global) -> Result<String, AllocError>
         ensures { IfOk result (λ text. string_bytes text ≡ words_of (misfit_in self.entry)) }
     {

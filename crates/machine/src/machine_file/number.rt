@@ -1,4 +1,4 @@
-//! Integers of 64 bits.
+//! Computes integers of 64 bits.
 
 ghost use Rattle.std.specs.Prelude.{◌≡◌};
 ghost use Rattle.syntax.specs.lexer.Numerals.{magnitude};
@@ -6,7 +6,7 @@ ghost use Rattle.machine.specs.machine_file.Numbers.{integer_of, greatest};
 
 use syntax::lexer::magnitude;
 
-/// The integer of a magnitude, behind a minus or not, if 64 bits hold it.
+/// Returns the integer with this magnitude and sign, or `None` if it does not fit in 64 bits.
 #[tactic(auto, unfolding(crate::specs::machine_file::Numbers::greatest))]
 pub fn integer_of(negative: bool, magnitude: u128) -> Option<i64>
     ensures { result ≡ integer_of negative magnitude }
@@ -16,7 +16,7 @@ pub fn integer_of(negative: bool, magnitude: u128) -> Option<i64>
     i64::try_from(number).ok()
 }
 
-/// The integer of a number token, behind a minus or not, if 64 bits hold it.
+/// Returns the integer of a number token with this sign, or `None` if it does not fit in 64 bits.
 pub fn integer(negative: bool, text: &str) -> Option<i64>
     ensures { result ≡ integer_of negative (magnitude text.now) }
 {

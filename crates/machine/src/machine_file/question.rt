@@ -1,4 +1,4 @@
-//! What a run asks a machine file.
+//! Describes what a run asks a machine file.
 
 ghost use Rattle.std.specs.Prelude.{◌≡◌, IfOk, map, string_bytes};
 ghost use Rattle.machine.specs.machine_file.Lookups.{check_key};
@@ -7,13 +7,13 @@ ghost use Rattle.machine.specs.machine_file.QuestionsView.{question_in, topic_in
 
 use std::alloc::{AllocError, Global};
 
-/// What is asked for.
+/// Names what is asked for.
 pub enum Topic {
-    /// The value at a key of a section, as `[checks]` has `has_function fsync`.
+    /// The value of a key in a section, such as `has_function fsync` in `[checks]`.
     Key(String, String),
-    /// All that a section says, as `[dependency zlib]`.
+    /// A whole section, such as `[dependency zlib]`.
     Whole(String),
-    /// What the sections of options give: the names of the options that are built in, and of those that the project declares.
+    /// The sections of options: the names of the built-in options, and of those that the project declares.
     Options(Vec<String>, Vec<String>),
 }
 
@@ -27,14 +27,14 @@ impl Drop for Topic {
     }
 }
 
-/// What a call said beside a question, which changes no answer: the name of a keyword, and its texts.
+/// Holds something else that the call states, which changes no answer: the name of a keyword, and its texts.
 #[derive(Drop)]
 pub struct Aside {
     pub name: String,
     pub texts: Vec<String>,
 }
 
-/// A question, and what the call that asks it said beside it.
+/// Holds a question, and what else the call states.
 #[derive(Drop)]
 pub struct Question {
     pub topic: Topic,
@@ -42,7 +42,7 @@ pub struct Question {
 }
 
 impl Topic {
-    /// The value at a key of a section.
+    /// Returns the topic of a key in a section.
     pub fn key(alloc: Global, section: &str, key: &str) -> Result<Topic, AllocError>
         ensures { IfOk result (λ t. topic_in t ≡ Key section.now key.now) }
     {
@@ -50,7 +50,7 @@ impl Topic {
         Ok(Topic::Key(section, String::from_str(alloc, key)?))
     }
 
-    /// A check of the compiler: its method and its arguments.
+    /// Returns the topic of a check of the compiler, given its method and its arguments.
     pub fn check(alloc: Global, method: &str, arguments: &[&str]) -> Result<Topic, AllocError>
         ensures { IfOk result (λ t. topic_in t ≡ check_topic method.now (map (λ a. a.now) arguments.now)) }
     {
@@ -58,7 +58,7 @@ impl Topic {
         Ok(Topic::Key(section, check_key(alloc, method, arguments)?))
     }
 
-    /// The dependency of a name.
+    /// Returns the topic of the dependency with this name.
     pub fn dependency(alloc: Global, name: &str) -> Result<Topic, AllocError>
         ensures { IfOk result (λ t. topic_in t ≡ dependency_topic name.now) }
     {
@@ -69,7 +69,7 @@ impl Topic {
 }
 
 impl Question {
-    /// A question beside which nothing is said.
+    /// Returns a question whose call states nothing else.
     pub fn plain(alloc: Global, topic: Topic) -> Question
         ensures { question_in result ≡ plain (topic_in topic) }
     {
@@ -80,7 +80,7 @@ impl Question {
     }
 }
 
-// The key of a check: the method, and each argument behind a space.
+// Returns the key of a check: the method, and each argument after a space.
 pub(crate) fn check_key(
     alloc: Global,
     method: &str,

@@ -23,7 +23,7 @@ use std::alloc::{AllocError, Global};
 use support::faults::Refusal;
 use support::tables::{SipMap, new_map};
 
-// Puts a value at a key that is new.
+// Adds a value under a new key.
 fn put<V: Drop>(map: &mut SipMap<String, V>, key: String, value: V) -> Result<(), AllocError>
     requires { is_some (get_by_text map.old (string_bytes key)) ≡ false }
     ensures { OnOk result (map.new.entries ≡ map.old.entries ++ (key, value) ∷ []) }
@@ -32,14 +32,14 @@ fn put<V: Drop>(map: &mut SipMap<String, V>, key: String, value: V) -> Result<()
     Ok(())
 }
 
-// Whether there is an entry with this key.
+// Returns whether there is an entry with this key.
 fn has_key(entries: &SipMap<String, Entry>, key: &str) -> bool
     ensures { result ≡ has_key key.now (entries_in entries.now.entries) }
 {
     entries.contains_key(key)
 }
 
-// Whether a section of this kind with these entries takes this value at this key.
+// Returns whether a section of this kind with these entries takes this value at this key.
 fn takes(
     kind: SectionKind,
     entries: &SipMap<String, Entry>,
@@ -51,7 +51,7 @@ fn takes(
     kind.knows(key, value) && !has_key(entries, key)
 }
 
-// Puts the entry that a line gives behind those of a section, or says why the line may not stand there.
+// Appends the entry of a line to a section, or returns why the line is not allowed there.
 fn add_pair(
     alloc: Global,
     heading: Heading<'_>,
@@ -77,14 +77,14 @@ fn add_pair(
     Ok(Ok(()))
 }
 
-// Whether this is a dependency that has no version.
+// Returns whether this is a dependency without a version.
 fn lacks_version(kind: SectionKind, entries: &SipMap<String, Entry>) -> bool
     ensures { result ≡ lacks_version kind (entries_in entries.now.entries) }
 {
     kind == SectionKind::Dependency && !has_key(entries, "version")
 }
 
-// Puts the version of a section that ends and began on this line, where it is a dependency without one: an unknown version.
+// Adds the version `unknown` to a dependency without a version, when its section ends. The entry has the section's first line.
 fn put_default(
     alloc: Global,
     kind: SectionKind,
@@ -103,14 +103,14 @@ fn put_default(
     Ok(())
 }
 
-// Whether there is a section with this name.
+// Returns whether there is a section with this name.
 fn has_name(sections: &SipMap<String, Section>, name: &str) -> bool
     ensures { result ≡ has_name name.now (sections_in sections.now.entries) }
 {
     sections.contains_key(name)
 }
 
-// Puts a section that ends behind the others.
+// Ends a section and appends it to the others.
 fn put_closed(
     alloc: Global,
     ended: &mut SipMap<String, Section>,
@@ -125,7 +125,7 @@ fn put_closed(
     Ok(())
 }
 
-// All sections, the open one too, which ends.
+// Returns all sections, and ends the open one.
 fn all_sections(alloc: Global, reading: Reading) -> Result<SipMap<String, Section>, AllocError>
     ensures { IfOk result (λ sections. sections_in sections.entries ≡ sections_said (said_in reading)) }
 {
@@ -137,14 +137,14 @@ fn all_sections(alloc: Global, reading: Reading) -> Result<SipMap<String, Sectio
     Ok(ended)
 }
 
-// A line may not stand where it does, for this reason.
+// Refuses a line for this reason.
 fn refuse(alloc: Global, misfit: Misfit<'_>) -> Result<Result<Reading, String>, AllocError>
     ensures { IfOk result (λ more. more_in more ≡ refused (misfit_in misfit.entry)) }
 {
     Ok(Err(misfit.words(alloc)?))
 }
 
-// A section begins on this line, if there is such a section, and none of this name before.
+// Begins a section on this line, if its name is known and new.
 fn with_section(
     alloc: Global,
     reading: Reading,
@@ -172,7 +172,7 @@ fn with_section(
     }))
 }
 
-// Puts the entry that a line gives behind those of the open section, or says why the line may not stand there.
+// Appends the entry of a line to the open section, or returns why the line is not allowed there.
 fn add_line(
     alloc: Global,
     section: &mut OpenSection,
@@ -190,7 +190,7 @@ fn add_line(
     add_pair(alloc, heading, &mut section.entries, line, text)
 }
 
-// A key and its value on this line, if a section is open that takes them.
+// Reads a key and its value on this line, if an open section takes them.
 fn in_section(
     alloc: Global,
     mut reading: Reading,
@@ -208,7 +208,7 @@ fn in_section(
     }
 }
 
-// What is said after one more line, or why the line may not stand there.
+// Reads one more line, or returns why it is not allowed there.
 #[tactic(auto, unfolding(crate::specs::machine_file::Files::after))]
 fn after(
     alloc: Global,
@@ -225,7 +225,7 @@ fn after(
     }
 }
 
-/// What the lines of a text say, or the first line up to which they begin no machine file.
+/// Returns what the lines of a text say, or the fault of the first line up to which they begin no machine file.
 pub fn read_lines(alloc: Global, text: &str) -> Result<Result<Machine, MachineFault>, AllocError>
     ensures { IfOk result (λ read. read_in read ≡ machine_of (file_lines text.now)) }
 {

@@ -1,4 +1,4 @@
-//! The sections of a machine file, and what each knows.
+//! Defines the sections of a machine file, and what each accepts.
 
 ghost use Rattle.std.specs.Prelude.{◌≡◌};
 ghost use Rattle.machine.specs.machine_file.Sections.{kind_of, is_dependency, of_host_machine, of_compiler, of_dependency, true_or_false};
@@ -10,30 +10,30 @@ use crate::machine_file::text::cut_first;
 use crate::machine_file::value::MachineValue;
 use support::text_lists::is_among;
 
-/// A kind of section.
+/// Names a kind of section.
 #[derive(Clone, Copy, PartialEq, Eq)]
 pub enum SectionKind {
-    /// `[binaries]`: programs, each as a word or as words.
+    /// `[binaries]`: programs, each as one word or several.
     Binaries,
     /// `[built-in options]` and `[project options]`: values of options.
     Options,
     /// `[host_machine]`: the machine that the project is built for.
     HostMachine,
-    /// `[compiler]`: which compiler it is.
+    /// `[compiler]`: the identity of the compiler.
     Compiler,
-    /// `[dependency NAME]`: a dependency that is there.
+    /// `[dependency NAME]`: a dependency that is found.
     Dependency,
-    /// `[checks]`: what the compiler's checks answer.
+    /// `[checks]`: the answers to the compiler's checks.
     Checks,
-    /// `[properties]`: values that the project asks for.
+    /// `[properties]`: values that the project queries.
     Properties,
 }
 
-/// What a key takes.
+/// Says what a key takes.
 #[derive(Clone, Copy)]
 pub enum Expected {
     Any,
-    /// A text, or at least one text in a list.
+    /// A text, or a list with at least one text.
     Words,
     Text,
     Texts,
@@ -42,7 +42,7 @@ pub enum Expected {
 }
 
 impl SectionKind {
-    // The kind of the section with this name, if there is such a section.
+    // Returns the kind of the section with this name, if there is such a section.
     #[tactic(auto, unfolding(crate::specs::machine_file::Sections::kind_of))]
     pub(crate) fn of(name: &str) -> Option<SectionKind>
         ensures { result ≡ kind_of name.now }
@@ -59,14 +59,14 @@ impl SectionKind {
         }
     }
 
-    // Whether the value stands behind the last equals sign of its line, and not behind the first.
+    // Returns whether the value follows the last equals sign of its line, and not the first.
     pub(crate) fn cuts_last(self) -> bool
         ensures { result ≡ cuts_last self }
     {
         self == SectionKind::Checks
     }
 
-    // What a key of this section takes, if the section knows it.
+    // Returns what a key of this section takes, or `None` if the section does not know the key.
     pub(crate) fn expects(self, key: &str) -> Option<Expected>
         ensures { result ≡ expected self key.now }
     {
@@ -80,7 +80,7 @@ impl SectionKind {
         }
     }
 
-    // Whether this section knows the key and takes the value there.
+    // Returns whether this section knows the key and takes the value.
     #[tactic(auto, unfolding(crate::specs::machine_file::Sections::knows))]
     pub(crate) fn knows(self, key: &str, value: &MachineValue) -> bool
         ensures { result ≡ knows self key.now (value_in value.now) }
@@ -92,7 +92,7 @@ impl SectionKind {
     }
 }
 
-// Whether this is `dependency`, a space and a name.
+// Returns whether this is `dependency`, a space and a name.
 fn is_dependency(name: &str) -> bool
     ensures { result ≡ is_dependency name.now }
 {
@@ -128,7 +128,7 @@ fn of_dependency(key: &str) -> Option<Expected>
     }
 }
 
-// Whether a method of the compiler is a check that is true or false.
+// Returns whether a method of the compiler is a check with a boolean answer.
 #[tactic(auto, unfolding(crate::specs::machine_file::Sections::true_or_false))]
 fn is_true_or_false(method: &str) -> bool
     ensures { result ≡ true_or_false method.now }
@@ -147,7 +147,7 @@ fn is_true_or_false(method: &str) -> bool
     is_among(&methods, method)
 }
 
-// What a check answers: the method before the first space says so.
+// Returns the type of a check's answer, which the method before the first space decides.
 fn of_check(key: &str) -> Option<Expected>
     ensures { result ≡ of_check key.now }
 {
@@ -162,7 +162,7 @@ fn of_check(key: &str) -> Option<Expected>
 }
 
 impl Expected {
-    // Whether a value is of the type that is taken.
+    // Returns whether a value has the type that is taken.
     pub(crate) fn fits(self, value: &MachineValue) -> bool
         ensures { result ≡ fits self (value_in value.now) }
     {

@@ -1,4 +1,4 @@
-//! What the lines of a machine file have said so far.
+//! Holds what the lines of a machine file have said so far.
 
 ghost use Rattle.std.specs.Prelude.{◌≡◌, false, is_some, string_bytes};
 ghost use Rattle.std.specs.Option.{ForSome};
@@ -8,7 +8,7 @@ use crate::machine_file::machine::{Entry, Section};
 use crate::machine_file::section::SectionKind;
 use support::tables::SipMap;
 
-/// A section that further lines may add to, and the line that it begins on.
+/// Holds a section that further lines may add to, and its first line.
 pub struct OpenSection {
     pub name: String,
     pub kind: SectionKind,
@@ -28,7 +28,7 @@ impl Drop for OpenSection {
 }
 
 impl OpenSection {
-    /// Its name, and its entries at its end.
+    /// Returns the section's name, and the section as it ended.
     pub fn into_ended(self) -> (String, Section)
         ensures { result ≡ (self.name, record { entries = self.entries }) }
     {
@@ -42,14 +42,14 @@ impl OpenSection {
     }
 }
 
-/// A section by its name, and its kind.
+/// Holds the name of a section, and its kind.
 #[derive(Clone, Copy)]
 pub struct Heading<'a> {
     pub name: &'a str,
     pub kind: SectionKind,
 }
 
-/// The sections that have ended, and the one that the next line belongs to.
+/// Holds the sections that have ended, and the one to which the next line belongs.
 #[derive(Drop)]
 pub struct Reading {
     pub ended: SipMap<String, Section>,
@@ -58,7 +58,7 @@ pub struct Reading {
 }
 
 impl Reading {
-    /// The sections that have ended, and the open one.
+    /// Returns the sections that have ended, and the open one.
     pub fn into_sections(self) -> (SipMap<String, Section>, Option<OpenSection>)
         ensures { result ≡ (self.ended, self.current) }
     {

@@ -1,10 +1,10 @@
-//! Texts without blanks at their ends, without a last character, and cut in two.
+//! Removes blanks at the ends of texts, and cuts texts in two.
 
 ghost use Rattle.std.specs.Prelude.{◌≡◌, ◌<◌};
 ghost use Rattle.std.specs.Option.{option_map};
 ghost use Rattle.machine.specs.machine_file.Texts.{is_blank, from_word, to_word, trimmed, before_last_byte, cut_first, cut_last};
 
-/// What is dropped at the ends of a text.
+/// Says which blanks are removed at the ends of a text.
 #[derive(Clone, Copy)]
 pub enum Blanks {
     Spaces,
@@ -21,7 +21,7 @@ fn is_blank(blanks: Blanks, byte: u8) -> bool
     }
 }
 
-// A text from its first byte on that is no blank.
+// Returns a text from its first byte that is no blank.
 fn from_word(blanks: Blanks, text: &str) -> &str
     ensures { result.now ≡ from_word blanks text.now }
 {
@@ -34,7 +34,7 @@ fn from_word(blanks: Blanks, text: &str) -> &str
     words
 }
 
-// A text up to its last byte that is no blank.
+// Returns a text up to its last byte that is no blank.
 fn to_word(blanks: Blanks, text: &str) -> &str
     ensures { result.now ≡ to_word blanks text.now }
 {
@@ -47,14 +47,14 @@ fn to_word(blanks: Blanks, text: &str) -> &str
     words
 }
 
-/// A text without blanks at its ends.
+/// Returns a text without blanks at its ends.
 pub fn trim(blanks: Blanks, text: &str) -> &str
     ensures { result.now ≡ trimmed blanks text.now }
 {
     to_word(blanks, from_word(blanks, text))
 }
 
-/// What stands in front of the last character, if it is this one of ASCII.
+/// Returns the text before its last character, if that is this ASCII character.
 pub fn before_last_byte(text: &str, last: char) -> Option<&str>
     requires { last < 128 }
     ensures { option_map (λ t. t.now) result ≡ before_last_byte last text.now }
@@ -62,7 +62,7 @@ pub fn before_last_byte(text: &str, last: char) -> Option<&str>
     text.strip_suffix(last)
 }
 
-/// The parts before and behind the first such character of ASCII.
+/// Returns the parts before and after the first such ASCII character.
 pub fn cut_first(text: &str, at: char) -> Option<(&str, &str)>
     requires { at < 128 }
     ensures { option_map (λ parts. (parts.0.now, parts.1.now)) result ≡ cut_first at text.now }
@@ -70,7 +70,7 @@ pub fn cut_first(text: &str, at: char) -> Option<(&str, &str)>
     text.split_once(at)
 }
 
-/// The parts before and behind the last such character of ASCII.
+/// Returns the parts before and after the last such ASCII character.
 pub fn cut_last(text: &str, at: char) -> Option<(&str, &str)>
     requires { at < 128 }
     ensures { option_map (λ parts. (parts.0.now, parts.1.now)) result ≡ cut_last at text.now }

@@ -1,4 +1,4 @@
-//! Values of a machine file.
+//! Reads the values of a machine file.
 
 ghost use Rattle.std.specs.Prelude.{◌≡◌, [], is_some, IfOk, string_bytes};
 ghost use Rattle.std.specs.Option.{option_map};
@@ -12,7 +12,7 @@ use syntax::lexer::fault::SyntaxError;
 use syntax::lexer::token::{Kind, Token};
 use syntax::lexer::{text_of, tokens};
 
-/// A value of a machine file.
+/// Holds a value of a machine file.
 #[derive(Drop)]
 pub enum MachineValue {
     Text(String),
@@ -24,7 +24,7 @@ pub enum MachineValue {
 impl MachineValue {
     ghost use Rattle.machine.specs.machine_file.Readers.{text_said, integer_said, boolean_said, texts_said};
 
-    /// The text that the value is, if it is one.
+    /// Returns the text, if the value is one.
     pub fn text(&self) -> Option<&str>
         ensures { option_map (λ t. t.now) result ≡ text_said (value_in self.now) }
     {
@@ -34,7 +34,7 @@ impl MachineValue {
         }
     }
 
-    /// The integer that the value is, if it is one.
+    /// Returns the integer, if the value is one.
     pub fn integer(&self) -> Option<i64>
         ensures { result ≡ integer_said (value_in self.now) }
     {
@@ -44,7 +44,7 @@ impl MachineValue {
         }
     }
 
-    /// The boolean that the value is, if it is one.
+    /// Returns the boolean, if the value is one.
     pub fn boolean(&self) -> Option<bool>
         ensures { result ≡ boolean_said (value_in self.now) }
     {
@@ -54,7 +54,7 @@ impl MachineValue {
         }
     }
 
-    /// The texts of the list that the value is, if it is one.
+    /// Returns the texts, if the value is a list.
     pub fn texts(&self) -> Option<&[String]>
         ensures { option_map (λ items. strings_in items.now) result ≡ texts_said (value_in self.now) }
     {
@@ -65,7 +65,7 @@ impl MachineValue {
     }
 }
 
-// The text of a plain string.
+// Returns the text of a token, if it is a plain string.
 fn plain_text(alloc: Global, token: &Token<'_>) -> Result<Option<String>, AllocError>
     ensures { IfOk result (λ text. option_map string_bytes text ≡ plain_text (lexeme_of token.now)) }
 {
@@ -75,14 +75,14 @@ fn plain_text(alloc: Global, token: &Token<'_>) -> Result<Option<String>, AllocE
     Ok(Some(text_of(alloc, token)?))
 }
 
-// Whether these tokens are a closing bracket, and no more.
+// Returns whether these tokens are one closing bracket.
 fn closes(tokens: &[Token<'_>]) -> bool
     ensures { result ≡ is_some (closing (lexemes tokens.now)) }
 {
     tokens.len() == 1 && tokens[0].is(Kind::CloseBracket)
 }
 
-// The items of a list of plain strings, from behind its opening bracket on.
+// Returns the items of a list of plain strings, from after its opening bracket on.
 fn items_of(alloc: Global, tokens: &[Token<'_>]) -> Result<Option<Vec<String>>, AllocError>
     ensures { IfOk result (λ items. option_map (λ v. strings_in v.items) items ≡ items_of (lexemes tokens.now)) }
 {
@@ -101,7 +101,7 @@ fn items_of(alloc: Global, tokens: &[Token<'_>]) -> Result<Option<Vec<String>>, 
     Ok(closes(rest).then_some(items))
 }
 
-// A value that is one token.
+// Returns the value of one token, if it is a value.
 fn of_word(alloc: Global, token: &Token<'_>) -> Result<Option<MachineValue>, AllocError>
     ensures { IfOk result (λ value. option_map value_in value ≡ of_word (lexeme_of token.now)) }
 {
@@ -117,7 +117,7 @@ fn of_word(alloc: Global, token: &Token<'_>) -> Result<Option<MachineValue>, All
     Ok(plain_text(alloc, token)?.map(MachineValue::Text))
 }
 
-// The number that stands behind a minus.
+// Returns the negative number of the token after a minus.
 fn negative_of(token: &Token<'_>) -> Option<MachineValue>
     ensures { option_map value_in result ≡ negative_of (lexeme_of token.now) [] }
 {
@@ -128,7 +128,7 @@ fn negative_of(token: &Token<'_>) -> Option<MachineValue>
     }
 }
 
-// A value of these tokens.
+// Returns the value of these tokens, if they are a value.
 fn of_tokens(alloc: Global, tokens: &[Token<'_>]) -> Result<Option<MachineValue>, AllocError>
     ensures { IfOk result (λ value. option_map value_in value ≡ of_tokens (lexemes tokens.now)) }
 {
@@ -147,8 +147,10 @@ fn of_tokens(alloc: Global, tokens: &[Token<'_>]) -> Result<Option<MachineValue>
     Ok(None)
 }
 
-/// The value that a text is, if it is one: a plain string, a number of 64 bits, a boolean or a list of plain strings,
-/// and then at most a comment. They are written as in a definition file (the Meson manual's page "Syntax").
+/// Returns the value of a text, or `None` if it is no value.
+///
+/// A value is a plain string, a number of 64 bits, a boolean or a list of plain strings, optionally followed by a comment. They are written
+/// as in a definition file (Meson manual, page "Syntax").
 #[tactic(auto, unfolding(crate::specs::machine_file::Values::value_of))]
 pub fn read_value(alloc: Global, text: &str) -> Result<Option<MachineValue>, AllocError>
     ensures { IfOk result (λ value. option_map value_in value ≡ value_of text.now) }

@@ -1,4 +1,4 @@
-//! The options that every project has.
+//! Lists the options that every project has.
 
 ghost use Rattle.std.specs.Prelude.{◌≡◌, IfOk, map, OnOk};
 ghost use Rattle.machine.specs.option_values.BuiltIns.{built_ins, is_built_in, put_kind, add_kind};
@@ -11,7 +11,7 @@ use std::alloc::{AllocError, Global};
 use support::tables::{SipMap, new_map};
 use support::text_lists::strings;
 
-/// The choices of a combo.
+/// Names the choices of a combo.
 #[derive(Clone, Copy)]
 pub enum ChoiceList {
     BuildTypes,
@@ -21,19 +21,19 @@ pub enum ChoiceList {
     Libraries,
 }
 
-/// What an option takes, and the value that it has where none is given.
+/// Says what an option takes, and its default value.
 #[derive(Clone, Copy)]
 pub enum Form {
     Text(&'static str),
     Boolean(bool),
     Combo(ChoiceList, &'static str),
-    /// Words, at first none.
+    /// Words, by default none.
     Words,
-    /// A feature that is `auto` at first.
+    /// A feature, by default `auto`.
     Feature,
 }
 
-/// An option that every project has.
+/// Describes an option that every project has.
 #[derive(Clone, Copy)]
 pub struct BuiltIn {
     pub name: &'static str,
@@ -111,7 +111,7 @@ const BUILT_INS: &[BuiltIn] = &[
     },
 ];
 
-/// The options in their order, as the Meson manual's page "Built-in options" has them.
+/// Returns these options in the order of the Meson manual's page "Built-in options".
 #[tactic(auto, unfolding(crate::specs::option_values::BuiltIns::built_ins))]
 pub fn built_ins() -> &'static [BuiltIn]
     ensures { map row_in result.now ≡ built_ins }
@@ -119,7 +119,7 @@ pub fn built_ins() -> &'static [BuiltIn]
     BUILT_INS
 }
 
-/// Whether every project has an option of this name.
+/// Returns whether every project has an option of this name.
 pub fn is_built_in(name: &str) -> bool
     ensures { result ≡ is_built_in name.now }
 {
@@ -146,7 +146,7 @@ fn to_list(alloc: Global, choices: ChoiceList) -> Result<Vec<String>, AllocError
     }
 }
 
-// What an option of this form takes.
+// Returns what an option of this form takes.
 fn kind_of(alloc: Global, form: Form) -> Result<OptionKind, AllocError>
     ensures { IfOk result (λ k. kind_in k ≡ form_kind form) }
 {
@@ -162,7 +162,7 @@ fn kind_of(alloc: Global, form: Form) -> Result<OptionKind, AllocError>
     }
 }
 
-/// The value that an option of this form has where none is given.
+/// Returns the default value of an option of this form.
 pub fn built_in_value(alloc: Global, form: Form) -> Result<OptionValue, AllocError>
     ensures { IfOk result (λ v. value_in v ≡ form_value form) }
 {
@@ -175,7 +175,7 @@ pub fn built_in_value(alloc: Global, form: Form) -> Result<OptionValue, AllocErr
     }
 }
 
-// An option of this name takes this.
+// Records what the option of this name takes.
 fn put_kind(
     alloc: Global,
     kinds: &mut SipMap<String, OptionKind>,
@@ -190,7 +190,7 @@ fn put_kind(
     Ok(())
 }
 
-// The option of a row of the table takes what stands there.
+// Records what the option of a row of the table takes.
 fn put_kind_of(
     alloc: Global,
     kinds: &mut SipMap<String, OptionKind>,
@@ -202,7 +202,7 @@ fn put_kind_of(
     put_kind(alloc, kinds, row.name, kind)
 }
 
-/// The options with what each takes.
+/// Returns what each of these options takes.
 pub fn built_in_kinds(alloc: Global) -> Result<SipMap<String, OptionKind>, AllocError>
     ensures { IfOk result (λ kinds. AreBuiltIns kinds.entries) }
 {

@@ -1,4 +1,4 @@
-//! The choices of an option.
+//! Holds the choices of an option.
 
 ghost use Rattle.std.specs.Prelude.{◌≡◌, ℕ, List, IfOk};
 ghost use Rattle.support.specs.Among.{is_among};
@@ -7,8 +7,7 @@ ghost use Rattle.machine.specs.machine_file.View.{strings_in};
 use std::alloc::{AllocError, Global};
 use support::tables::{SipSet, new_set};
 
-/// The texts that an option takes, in their order; one may stand there twice. A look-up takes the same time however many they
-/// are.
+/// Holds the texts that an option takes, in their order. A text may occur twice. The time of a look-up does not depend on their number.
 pub struct Choices {
     texts: Vec<String>,
     known: SipSet<String>,
@@ -21,7 +20,7 @@ impl Drop for Choices {
     }
 }
 
-// Each of the texts, once.
+// Returns the set of the texts.
 fn set_of(alloc: Global, texts: &[String]) -> Result<SipSet<String>, AllocError>
     ensures { (text : List ℕ) → IfOk result (λ known. is_among (strings_in known.keys) text ≡ is_among (strings_in texts.now) text) }
 {
@@ -36,7 +35,7 @@ fn set_of(alloc: Global, texts: &[String]) -> Result<SipSet<String>, AllocError>
 impl Choices {
     ghost use Rattle.machine.specs.option_values.View.{texts_of};
 
-    /// These texts.
+    /// Returns these texts as choices.
     pub fn new(alloc: Global, texts: Vec<String>) -> Result<Choices, AllocError>
         ensures { IfOk result (λ choices. texts_of choices ≡ strings_in texts.items) }
     {
@@ -44,14 +43,14 @@ impl Choices {
         Ok(Choices { texts, known })
     }
 
-    /// The texts, in their order.
+    /// Returns the texts, in their order.
     pub fn texts(&self) -> &[String]
         ensures { strings_in result.now ≡ texts_of self.now }
     {
         &self.texts
     }
 
-    /// Whether the text is one of these.
+    /// Returns whether the text is one of the choices.
     pub fn has(&self, text: &str) -> bool
         ensures { result ≡ is_among (texts_of self.now) text.now }
     {

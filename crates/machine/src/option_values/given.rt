@@ -1,4 +1,4 @@
-//! Which value of an option a list is, and a value of a machine file.
+//! Converts lists and values of a machine file to values of options.
 
 ghost use Rattle.std.specs.Prelude.{◌≡◌, ◌++◌, [], IfOk, OnOk, string_bytes};
 ghost use Rattle.std.specs.Option.{option_map};
@@ -14,7 +14,7 @@ use itoa::Buffer;
 use std::alloc::{AllocError, Global};
 use support::text_lists::copies;
 
-/// Puts texts in single quotes behind a text, with a comma and a space between each two; nothing in them is escaped.
+/// Appends the items in single quotes, separated by a comma and a space. Nothing in them is escaped.
 pub fn push_quoted(text: &mut String, items: &[String]) -> Result<(), AllocError>
     ensures { OnOk result (string_bytes text.new ≡ string_bytes text.old ++ quoted [] (strings_in items.now)) }
 {
@@ -29,7 +29,7 @@ pub fn push_quoted(text: &mut String, items: &[String]) -> Result<(), AllocError
     Ok(())
 }
 
-// A list as it is printed.
+// Returns a list in printed form.
 fn print(alloc: Global, items: &[String]) -> Result<String, AllocError>
     ensures { IfOk result (λ text. string_bytes text ≡ printed (strings_in items.now)) }
 {
@@ -39,7 +39,7 @@ fn print(alloc: Global, items: &[String]) -> Result<String, AllocError>
     Ok(text)
 }
 
-// The value that the printed list is.
+// Returns the value that the printed list gives an option of this kind.
 fn value_of_printed(
     alloc: Global,
     kind: &OptionKind,
@@ -51,10 +51,10 @@ fn value_of_printed(
     value_of_text(alloc, kind, text.as_str())
 }
 
-/// The value of an option of this kind that a list of texts is, if it is one.
+/// Returns the value that a list of texts gives an option of this kind, or `None` if the option does not take it.
 ///
-/// An array takes the items, each of which is one of its choices, and words take them as they are. For every other option the
-/// list is the text that it is printed as, as `['a', 'b']`.
+/// An array takes the items, if each is one of its choices, and words take them unchanged. For every other option the list counts as its
+/// printed text, such as `['a', 'b']`.
 pub fn value_of_items(
     alloc: Global,
     kind: &OptionKind,
@@ -75,8 +75,9 @@ fn boolean_text(boolean: bool) -> &'static str
     if boolean { "true" } else { "false" }
 }
 
-/// The value of an option of this kind that a value of a machine file is, if it is one: the one that its printed text is, and
-/// of a list its items, as [`value_of_items`] has them.
+/// Returns the value that a value of a machine file gives an option of this kind, or `None` if the option does not take it.
+///
+/// A value counts as its printed text, and a list as its items, as for [`value_of_items`].
 pub fn value_of_given(
     alloc: Global,
     kind: &OptionKind,

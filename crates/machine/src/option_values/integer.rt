@@ -1,9 +1,9 @@
-//! Texts that spell integers.
+//! Reads texts that spell integers.
 
 ghost use Rattle.std.specs.Prelude.{◌≡◌};
 ghost use Rattle.machine.specs.option_values.Integers.{integer_of, integer_within, is_no_greater, is_no_less, is_within};
 
-// The integer that a text spells, if 64 bits hold it: digits, with at most a minus sign in front.
+// Returns the integer that a text spells, or `None` if it does not fit in 64 bits. The text is digits after at most one minus sign.
 fn integer_of(text: &str) -> Option<i64>
     ensures { result ≡ integer_of text.now }
 {
@@ -31,14 +31,14 @@ fn is_no_greater(greatest: Option<i64>, number: i64) -> bool
     }
 }
 
-/// Whether a number lies between bounds, of which each may be absent.
+/// Returns whether a number is within bounds. Each bound may be absent.
 pub fn is_within(least: Option<i64>, greatest: Option<i64>, number: i64) -> bool
     ensures { result ≡ is_within least greatest number }
 {
     is_no_less(least, number) && is_no_greater(greatest, number)
 }
 
-/// The integer between these bounds that a text spells.
+/// Returns the integer that a text spells, if it is within these bounds.
 pub fn integer_within(least: Option<i64>, greatest: Option<i64>, text: &str) -> Option<i64>
     ensures { result ≡ integer_within least greatest text.now }
 {

@@ -1,24 +1,24 @@
-//! Kinds of options, their types, and their values.
+//! Defines kinds of options, their types, and their values.
 
 ghost use Rattle.std.specs.Prelude.{◌≡◌};
 ghost use Rattle.machine.specs.option_values.Types.{type_named};
 
 use crate::option_values::choices::Choices;
 
-/// What an option takes.
+/// Says what an option takes.
 pub enum OptionKind {
     /// Any text.
     Text,
     Boolean,
     /// One of these texts.
     Combo(Choices),
-    /// An integer that is no less than `min` and no greater than `max`.
+    /// An integer of at least `min` and at most `max`.
     Integer { min: Option<i64>, max: Option<i64> },
-    /// A list of texts, each one of these where there are such choices.
+    /// A list of texts. If there are choices, each is one of them.
     Array(Option<Choices>),
     /// A list of texts that a text gives as a shell's words: `c_args` and `c_link_args`.
     Words,
-    /// Enabled, disabled, or as other options say.
+    /// Enabled, disabled, or as `auto_features` says.
     Feature,
 }
 
@@ -36,7 +36,7 @@ impl Drop for OptionKind {
     }
 }
 
-/// A value that an option has. Options of each type have values of a form of their own, so the value tells the type.
+/// Holds the value of an option. Options of each type have values of their own form, so a value shows the type.
 #[derive(Drop)]
 pub enum OptionValue {
     Text(String),
@@ -48,16 +48,16 @@ pub enum OptionValue {
     Feature(FeatureState),
 }
 
-/// What a feature option says of its feature.
+/// Says what a feature option says of its feature.
 #[derive(Clone, Copy)]
 pub enum FeatureState {
     Enabled,
     Disabled,
-    /// As `auto_features` says; else where it can be had.
+    /// As `auto_features` says. If that is `auto` too, enabled if available.
     Auto,
 }
 
-/// The type of an option, as the Meson manual's page "Build options" has them.
+/// Lists the types of options (Meson manual, page "Build options").
 #[derive(Clone, Copy)]
 pub enum OptionType {
     Text,
@@ -69,7 +69,7 @@ pub enum OptionType {
 }
 
 impl OptionType {
-    /// The type of this name, if there is one: `string`, `boolean`, `combo`, `integer`, `array` or `feature`.
+    /// Returns the type with this name: `string`, `boolean`, `combo`, `integer`, `array` or `feature`.
     #[tactic(auto, unfolding(crate::specs::option_values::Types::type_named))]
     pub fn from_name(name: &str) -> Option<OptionType>
         ensures { result ≡ type_named name.now }

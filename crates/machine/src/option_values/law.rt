@@ -1,8 +1,9 @@
-//! What holds of every text.
+//! States what holds of every text, as a function that does nothing and whose contract holds.
 ghost use Rattle.machine.specs.option_values.Laws.{TextsAreCut};
 
-/// A text is written as one list of words, or as no words. That is what the definition `words_of` gives of it, by which contracts speak of
-/// the words of an option's text.
+/// Proves that a text is written as exactly one list of words, or as no words.
+///
+/// The definition `words_of` returns that list. Contracts use it to describe the words of an option's text.
 pub fn texts_are_cut()
     ensures { TextsAreCut }
 {}

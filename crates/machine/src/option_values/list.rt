@@ -1,4 +1,4 @@
-//! Texts that give the items of a list.
+//! Reads texts that give the items of a list.
 
 ghost use Rattle.std.specs.Prelude.{◌≡◌, IfOk};
 ghost use Rattle.std.specs.Option.{option_map};
@@ -10,14 +10,14 @@ use crate::option_values::choices::Choices;
 use crate::option_values::words::words_of;
 use std::alloc::{AllocError, Global};
 
-// Whether each item is one of the choices.
+// Returns whether each item is one of the choices.
 fn all_among(choices: &Choices, items: &[String]) -> bool
     ensures { result ≡ are_among (Some (texts_of choices.now)) (strings_in items.now) }
 {
     items.iter().all(|item| choices.has(item.as_str()))
 }
 
-/// Whether each item is one of the choices, where there are choices.
+/// Returns whether each item is one of the choices, if there are choices.
 pub fn are_among(choices: &Option<Choices>, items: &[String]) -> bool
     ensures { result ≡ are_among (choices_in choices.now) (strings_in items.now) }
 {
@@ -27,7 +27,7 @@ pub fn are_among(choices: &Option<Choices>, items: &[String]) -> bool
     }
 }
 
-// The parts between commas, without spaces at their ends; none of an empty text.
+// Returns the parts between commas, without spaces at their ends. An empty text has none.
 fn parts_of(alloc: Global, text: &str) -> Result<Vec<String>, AllocError>
     ensures { IfOk result (λ parts. strings_in parts.items ≡ parts_of text.now) }
 {
@@ -48,7 +48,7 @@ fn begins_list(text: &str) -> bool
     !bytes.is_empty() && bytes[0] == b'['
 }
 
-// The items of a list literal of plain strings.
+// Returns the items of a list literal of plain strings, or `None` if the text is none.
 fn to_list(alloc: Global, text: &str) -> Result<Option<Vec<String>>, AllocError>
     ensures { IfOk result (λ items. option_map (λ i. strings_in i.items) items ≡ listed text.now) }
 {
@@ -58,7 +58,7 @@ fn to_list(alloc: Global, text: &str) -> Result<Option<Vec<String>>, AllocError>
     }
 }
 
-/// The items of an array: a list literal, or the parts between commas.
+/// Returns the items of an array: a list literal, or the parts between commas.
 pub fn items_of(alloc: Global, text: &str) -> Result<Option<Vec<String>>, AllocError>
     ensures { IfOk result (λ items. option_map (λ i. strings_in i.items) items ≡ items_of text.now) }
 {
@@ -68,7 +68,7 @@ pub fn items_of(alloc: Global, text: &str) -> Result<Option<Vec<String>>, AllocE
     Ok(Some(parts_of(alloc, text)?))
 }
 
-/// The items of words: a list literal, or words.
+/// Returns the items of words: a list literal, or words.
 pub fn word_items_of(alloc: Global, text: &str) -> Result<Option<Vec<String>>, AllocError>
     ensures { IfOk result (λ items. option_map (λ i. strings_in i.items) items ≡ word_items_of text.now) }
 {

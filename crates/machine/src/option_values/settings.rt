@@ -1,4 +1,4 @@
-//! Options, each with a value.
+//! Holds options, each with a value.
 
 ghost use Rattle.std.specs.Prelude.{◌≡◌, ◌==◌, length, slice_get};
 ghost use Rattle.std.specs.Option.{option_map};
@@ -6,16 +6,16 @@ ghost use Rattle.std.specs.Option.{option_map};
 use crate::option_values::kind::OptionValue;
 use support::tables::SipMap;
 
-/// The value of an option.
+/// Holds the value of an option.
 #[derive(Drop)]
 pub struct Setting {
     pub value: OptionValue,
-    /// Whether `default_options`, the machine file or a word gives it.
+    /// Whether `default_options`, the machine file or the command line gives it.
     pub given: bool,
 }
 
-/// The options of a project and their values: those that every project has, in the order of the Meson manual's page
-/// "Built-in options" as far as they are built in here, and then the declared ones in the order of their declarations.
+/// Holds the options of a project and their values: first the built-in ones, in the order of the Meson manual's page "Built-in options",
+/// then the declared ones in the order of their declarations.
 pub struct Options {
     settings: SipMap<String, Setting>,
 }
@@ -31,28 +31,28 @@ impl Options {
     ghost use Rattle.machine.specs.option_values.Settings.{named_value, value_named};
     ghost use Rattle.machine.specs.option_values.SettingsView.{options_in, settings_in, shown_in};
 
-    /// Options with these values, by their names.
+    /// Returns options with these values, by their names.
     pub fn new(settings: SipMap<String, Setting>) -> Options
         ensures { options_in result ≡ settings_in settings.entries }
     {
         Options { settings }
     }
 
-    /// How many options there are.
+    /// Returns the number of options.
     pub fn len(&self) -> usize
         ensures { result ≡ length (options_in self.now) }
     {
         self.settings.len()
     }
 
-    /// Whether there is no option.
+    /// Returns whether there is no option.
     pub fn is_empty(&self) -> bool
         ensures { result ≡ (length (options_in self.now) == 0) }
     {
         self.settings.is_empty()
     }
 
-    /// The value of the option of this name; it tells the option's type too. It takes no memory and never fails.
+    /// Returns the value of the option with this name, which also shows its type. It does not allocate.
     pub fn get(&self, name: &str) -> Option<&OptionValue>
         ensures { option_map (λ v. value_in v.now) result ≡ value_named (options_in self.now) name.now }
     {
@@ -62,7 +62,7 @@ impl Options {
         }
     }
 
-    /// The i-th option: its name and its value, which tells its type too. It takes no memory and never fails.
+    /// Returns option number `i`, from 0: its name and its value, which also shows its type. It does not allocate.
     pub fn at(&self, i: usize) -> Option<(&str, &OptionValue)>
         ensures { option_map shown_in result ≡ option_map named_value (slice_get (options_in self.now) i) }
     {

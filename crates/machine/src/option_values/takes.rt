@@ -1,4 +1,4 @@
-//! What an option takes, in words.
+//! Says in words what an option takes.
 
 ghost use Rattle.std.specs.Prelude.{◌≡◌, IfOk, string_bytes};
 ghost use Rattle.machine.specs.option_values.Kinds.{Integer};
@@ -11,7 +11,7 @@ use crate::option_values::kind::OptionKind;
 use itoa::Buffer;
 use std::alloc::{AllocError, Global};
 
-// Choices between single quotes.
+// Returns the choices in single quotes.
 fn choice_words(alloc: Global, choices: &[String]) -> Result<String, AllocError>
     ensures { IfOk result (λ text. string_bytes text ≡ choice_words (strings_in choices.now)) }
 {
@@ -51,7 +51,7 @@ fn greatest_words(alloc: Global, greatest: Option<i64>) -> Result<String, AllocE
     }
 }
 
-// An integer between bounds.
+// Returns the words for an integer within bounds.
 fn integer_words(
     alloc: Global,
     least: Option<i64>,
@@ -76,7 +76,7 @@ fn array_words(alloc: Global, choices: &Option<Choices>) -> Result<String, Alloc
     }
 }
 
-/// What an option of this kind takes, in words: `one of 'a', 'b'`, `an integer from 1 to 9`.
+/// Returns what an option of this kind takes, in words, such as `one of 'a', 'b'` or `an integer from 1 to 9`.
 pub fn kind_words(alloc: Global, kind: &OptionKind) -> Result<String, AllocError>
     ensures { IfOk result (λ text. string_bytes text ≡ kind_words (kind_in kind.now)) }
 {

@@ -1,4 +1,4 @@
-//! Which value of an option a text is.
+//! Converts texts to values of options.
 
 ghost use Rattle.std.specs.Prelude.{◌≡◌, IfOk, Some};
 ghost use Rattle.std.specs.Option.{option_and_then, option_map};
@@ -41,7 +41,7 @@ fn text_of(alloc: Global, text: &str) -> Result<OptionValue, AllocError>
     Ok(OptionValue::Text(String::from_str(alloc, text)?))
 }
 
-// One of these texts.
+// Returns a text as the value of a combo, if it is one of the choices.
 fn choice_of(
     alloc: Global,
     choices: &Choices,
@@ -56,7 +56,7 @@ fn choice_of(
     Ok(Some(OptionValue::Combo(choice)))
 }
 
-/// A list of these items, if the choices allow them.
+/// Returns a list of these items, if the choices allow them.
 pub fn array_of(choices: &Option<Choices>, items: Vec<String>) -> Option<OptionValue>
     ensures { option_map value_in result ≡ array_of (choices_in choices.now) (strings_in items.items) }
 {
@@ -67,7 +67,7 @@ pub fn array_of(choices: &Option<Choices>, items: Vec<String>) -> Option<OptionV
     }
 }
 
-// A list that a text gives, if the choices allow its items.
+// Returns the list that a text gives, if the choices allow its items.
 fn array_of_text(
     alloc: Global,
     choices: &Option<Choices>,
@@ -111,12 +111,13 @@ fn state_of_text(text: &str) -> Option<OptionValue>
     Some(OptionValue::Feature(state))
 }
 
-/// The value of an option of this kind that a text is, if it is one.
+/// Returns the value that a text gives an option of this kind, or `None` if the option does not take it.
 ///
-/// A text and a combo's choice stand for themselves; a boolean is `true` or `false`, a feature `enabled`, `disabled` or
-/// `auto`, an integer has 64 bits and is digits with at most a minus sign in front. A list is a list literal of plain strings
-/// where the text begins with `[`; else an array's items stand between commas, without spaces at their ends, and words are cut
-/// as a shell cuts them. No list has an item that is none of its choices.
+/// A string and a combo's choice are the text itself. A boolean is `true` or `false`, a feature `enabled`, `disabled` or `auto`. An integer
+/// has 64 bits and is digits after at most one minus sign.
+///
+/// A text that begins with `[` is a list literal of plain strings. Otherwise the items of an array are the parts between commas, without
+/// spaces at their ends, and words are cut as a shell cuts them. If a list has choices, each item must be one of them.
 pub fn value_of_text(
     alloc: Global,
     kind: &OptionKind,

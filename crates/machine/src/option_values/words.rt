@@ -1,4 +1,4 @@
-//! A text cut into words, as a shell cuts it.
+//! Cuts a text into words, as a shell does.
 
 ghost use Rattle.std.specs.Prelude.{◌≡◌, ◌↔◌, ℕ, List, IfOk};
 ghost use Rattle.std.specs.Str.{chars};
@@ -11,24 +11,24 @@ ghost use Rattle.machine.specs.option_values.WordsView.{cut_in};
 
 use std::alloc::{AllocError, Global};
 
-/// Where a character stands.
+/// Says where a character is.
 #[derive(Clone, Copy)]
 pub enum Place {
     /// Between words.
     Between,
     /// In a word, outside quotes.
     Bare,
-    /// Behind a backslash, outside quotes.
+    /// After a backslash, outside quotes.
     Escaped,
     /// Between single quotes.
     Single,
     /// Between double quotes.
     Double,
-    /// Behind a backslash, between double quotes.
+    /// After a backslash, between double quotes.
     DoubleEscaped,
 }
 
-/// The place of the next character, the word that it may belong to, and the words before.
+/// Holds the place of the next character, the word to which it may belong, and the words before it.
 #[derive(Drop)]
 pub struct Cutting {
     place: Place,
@@ -36,14 +36,14 @@ pub struct Cutting {
     words: Vec<String>,
 }
 
-// Whether a character parts words: a blank or a newline.
+// Returns whether a character separates words: a blank or a newline.
 fn parts_words(character: char) -> bool
     ensures { result ≡ parts_words character }
 {
     matches!(character, ' ' | '\t' | '\r' | '\n')
 }
 
-// Whether a backslash may stand before this character between double quotes.
+// Returns whether a backslash escapes this character between double quotes.
 fn is_escapable(character: char) -> bool
     ensures { result ≡ is_escapable character }
 {
@@ -71,7 +71,7 @@ fn move_on(cutting: Cutting, place: Place) -> Cutting
     Cutting { place, word, words }
 }
 
-// The character belongs to the word.
+// Adds the character to the word.
 fn grow(cutting: Cutting, place: Place, character: char) -> Result<Cutting, AllocError>
     ensures { IfOk result (λ more. cut_in more ≡ grown (cut_in cutting) place character) }
 {
@@ -84,7 +84,7 @@ fn grow(cutting: Cutting, place: Place, character: char) -> Result<Cutting, Allo
     Ok(Cutting { place, word, words })
 }
 
-// The word has ended.
+// Ends the word.
 fn part(alloc: Global, cutting: Cutting) -> Result<Cutting, AllocError>
     ensures { IfOk result (λ more. cut_in more ≡ parted (cut_in cutting)) }
 {
@@ -101,7 +101,7 @@ fn part(alloc: Global, cutting: Cutting) -> Result<Cutting, AllocError>
     })
 }
 
-// After a character that begins a word or goes on with it, outside quotes.
+// Continues after a character outside quotes that begins or continues a word.
 fn bare(cutting: Cutting, character: char) -> Result<Cutting, AllocError>
     ensures { IfOk result (λ more. cut_in more ≡ bare (cut_in cutting) character) }
 {
@@ -113,7 +113,7 @@ fn bare(cutting: Cutting, character: char) -> Result<Cutting, AllocError>
     }
 }
 
-// After a character between double quotes.
+// Continues after a character between double quotes.
 fn double(cutting: Cutting, character: char) -> Result<Cutting, AllocError>
     ensures { IfOk result (λ more. cut_in more ≡ after_at Place.Double (cut_in cutting) character) }
 {
@@ -124,7 +124,7 @@ fn double(cutting: Cutting, character: char) -> Result<Cutting, AllocError>
     }
 }
 
-// After a character behind a backslash, between double quotes.
+// Continues after a character that follows a backslash between double quotes.
 fn double_escaped(cutting: Cutting, character: char) -> Result<Cutting, AllocError>
     ensures { IfOk result (λ more. cut_in more ≡ after_at Place.DoubleEscaped (cut_in cutting) character) }
 {
@@ -135,7 +135,7 @@ fn double_escaped(cutting: Cutting, character: char) -> Result<Cutting, AllocErr
     grow(cutting, Place::Double, character)
 }
 
-// After a character at this place.
+// Continues after a character at this place.
 fn after_at(
     alloc: Global,
     place: Place,
@@ -156,7 +156,7 @@ fn after_at(
     }
 }
 
-// After one more character.
+// Continues after one more character.
 fn after(alloc: Global, cutting: Cutting, character: char) -> Result<Cutting, AllocError>
     ensures { IfOk result (λ more. cut_in more ≡ after (cut_in cutting) character) }
 {
@@ -164,7 +164,7 @@ fn after(alloc: Global, cutting: Cutting, character: char) -> Result<Cutting, Al
     after_at(alloc, place, cutting, character)
 }
 
-// The words at the end of the text, unless a quote is open or a backslash has nothing behind it.
+// Returns the words at the end of the text, or `None` if a quote is open or nothing follows a backslash.
 fn end(cutting: Cutting) -> Result<Option<Vec<String>>, AllocError>
     ensures { IfOk result (λ words. option_map (λ w. strings_in w.items) words ≡ ended (cut_in cutting)) }
 {
@@ -183,15 +183,14 @@ fn end(cutting: Cutting) -> Result<Option<Vec<String>>, AllocError>
     }
 }
 
-/// The words of a text, in the way of a shell.
+/// Returns the words of a text, cut as a shell cuts them, or `None` if a quote is not closed or a backslash is the last character.
 ///
-/// Runs of blanks and newlines part them. Outside quotes a backslash gives the character behind it. Single quotes keep all
-/// between them, and so do double quotes, where `\"` and `\\` give their second character. There are none where a quote is
-/// not closed, or a backslash is the last character.
+/// Blanks and newlines separate words. Outside quotes a backslash yields the character after it. Single quotes keep everything between
+/// them. So do double quotes, but there `\"` and `\\` yield their second character.
 pub fn words_of(alloc: Global, text: &str) -> Result<Option<Vec<String>>, AllocError>
     ensures value { IfOk result (λ words. option_map (λ w. strings_in w.items) words ≡ words_of text.now) }
 
-    // These are the words as which the text is written, and where there are none it is written as no words.
+    // These are the words as which the text is written. If there are none, the text is written as no words.
     ensures written { (given : List (List ℕ)) → IfOk result (λ words.
         (option_map (λ w. strings_in w.items) words ≡ Some given) ↔ AreWords (chars text.now) given) }
 {

@@ -1,4 +1,4 @@
--- The objects that `dependency` and `find_program` give.
+-- Defines the objects that `dependency` and `find_program` return.
 use Rattle.std.specs.Prelude.{ℕ, Bool, true, false, ◌&&◌, nat_le, List, [], ◌∷◌, length, Result, Ok, Err, codes, if◌then◌else◌}
 use Rattle.values.specs.declared.object.Dependency.{Dependency}
 use Rattle.values.specs.declared.refusal.Refusal.{Refusal}
@@ -7,24 +7,25 @@ use Rattle.values.specs.Limits.{within_bytes}
 use Rattle.support.specs.Limits.{items, is_short}
 
 infixl 10 ◌>>=◌
+-- Runs a step after another, unless that was refused.
 abbrev pub ◌>>=◌ : {A B : Type 0} → Result A Refusal → (A → Result B Refusal) → Result B Refusal
 Ok x >>= f = f x
 Err e >>= f = Err e
 
--- each text is within the limit
+-- Holds if each text is within the limit.
 abbrev pub are_short : List (List ℕ) → Bool
 are_short [] = true
 are_short (t ∷ ts) = is_short t && are_short ts
 
--- texts within the limit, or the refusal
+-- Returns texts that are within the limit, and otherwise the refusal.
 abbrev pub short_texts : List (List ℕ) → Result (List (List ℕ)) Refusal
 short_texts ts = if are_short ts then Ok ts else Err refusal.Limit
 
--- texts within the limits of a list and of a text, or the refusal
+-- Returns texts that are within the limits of a list and of a text, and otherwise the refusal.
 abbrev pub within_texts : List (List ℕ) → Result (List (List ℕ)) Refusal
 within_texts ts = if nat_le (length ts) items then short_texts ts else Err refusal.Limit
 
--- a dependency with arguments for the compiler and the linker alone
+-- Returns a dependency that has only arguments for the compiler and the linker.
 abbrev pub of_arguments : List ℕ → List ℕ → List (List ℕ) → List (List ℕ) → Dependency
 of_arguments name version compile_args link_args = record {
   is_found = true;
@@ -37,7 +38,7 @@ of_arguments name version compile_args link_args = record {
   sources = [];
 }
 
--- the dependency of a name and a version, with its arguments
+-- Returns the dependency with this name, version and arguments, or the refusal if one is too large.
 abbrev pub found : (name version : List ℕ) (compile_args link_args : List (List ℕ)) → Result Dependency Refusal
 found name version compile_args link_args = do
   its_name ← within_bytes name
@@ -46,7 +47,7 @@ found name version compile_args link_args = do
   to_link ← within_texts link_args
   Ok (of_arguments its_name its_version to_compile to_link)
 
--- a dependency that isn't found has a name, and nothing else
+-- Returns a dependency that was not found, which has only a name.
 abbrev pub absent : List ℕ → Dependency
 absent name = record {
   is_found = false;
@@ -59,6 +60,7 @@ absent name = record {
   sources = [];
 }
 
+-- Returns the dependency with this name that was not found, or the refusal if the name is too long.
 abbrev pub missing : List ℕ → Result Dependency Refusal
 missing name = do
   its_name ← within_bytes name

@@ -1,4 +1,4 @@
--- `declare_dependency`: a dependency with those that it depends on.
+-- Defines how `declare_dependency` joins a dependency with those that it depends on.
 use Rattle.std.specs.Prelude.{Bool, ◌&&◌, nat_le, List, [], ◌∷◌, ◌++◌, length, Result, Ok, Err, if◌then◌else◌}
 use Rattle.values.specs.Data.{Data, list, object, Items, no_items, item}
 use Rattle.values.specs.declared.object.Dependency.{Dependency}
@@ -8,11 +8,12 @@ use Rattle.values.specs.declared.refusal.Refusal.{Refusal}
 use Rattle.values.specs.declared.refusal.Refusal.TheVariants as refusal
 use Rattle.support.specs.Limits.{items}
 
+-- Returns a dependency in a list, and nothing for any other object.
 abbrev pub if_dependency : Object → List Dependency
 if_dependency (objects.Dependency d) = d ∷ []
 if_dependency _ = []
 
--- the dependencies in a value, in order, with all lists opened
+-- Returns the dependencies in a value, in order, with all lists flattened.
 abbrev mutual
   pub dependencies_in : Data → List Dependency
   dependencies_in (object o) = if_dependency o
@@ -23,12 +24,13 @@ abbrev mutual
   dependencies_of no_items = []
   dependencies_of (item d ds) = dependencies_in d ++ dependencies_of ds
 
--- no list has too many items
+-- Holds if no list has too many items.
 abbrev pub is_within : Dependency → Bool
 is_within d =
     nat_le (length d.include_directories) items && (nat_le (length d.compile_args) items
     && (nat_le (length d.link_args) items && (nat_le (length d.link_with) items && nat_le (length d.sources) items)))
 
+-- Returns a dependency with the lists of another appended to its own.
 abbrev pub with_all_lists : Dependency → Dependency → Dependency
 with_all_lists d other = record {
   is_found = d.is_found;
@@ -41,18 +43,19 @@ with_all_lists d other = record {
   sources = d.sources ++ other.sources;
 }
 
--- with the lists of another behind its own, where that is found
+-- Returns a dependency with the lists of another appended to its own, if that one was found.
 abbrev pub with_lists : Dependency → Dependency → Dependency
 with_lists d other = if other.is_found then with_all_lists d other else d
 
--- with the lists of others, in order
+-- Returns a dependency with the lists of others appended, in order.
 abbrev pub with_all : Dependency → List Dependency → Dependency
 with_all d [] = d
 with_all d (o ∷ os) = with_all (with_lists d o) os
 
--- the same within the limits, or the refusal
+-- Returns a dependency that is within the limits, and otherwise the refusal.
 abbrev pub within_limits : Dependency → Result Dependency Refusal
 within_limits d = if is_within d then Ok d else Err refusal.Limit
 
+-- Returns a dependency with the lists of others appended, or the refusal if a list is too long.
 abbrev pub joined : Dependency → List Dependency → Result Dependency Refusal
 joined d others = within_limits (with_all d others)

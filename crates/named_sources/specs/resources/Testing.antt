@@ -1,4 +1,4 @@
--- What `test` is given.
+-- Defines the arguments of `test`.
 use Rattle.std.specs.Prelude.{ℕ, ◌^◌, ℤ, pos, negsuc, Bool, nat_lt, List, [], ◌∷◌, ◌++◌, ◌==◌, Option, Some, Result, Ok, Err, codes}
 use Rattle.std.specs.Prelude.{if◌then◌else◌}
 use Rattle.std.specs.List.{list_any}
@@ -13,20 +13,22 @@ use Rattle.arguments.specs.declared.rule.Rule.TheVariants as rules
 
 -- ---- seconds
 
--- from -2^63 to 2^63 - 1: `pos n` is n, and `negsuc n` is -(n + 1)
+-- Holds if an integer is from -2^63 to 2^63 - 1. Here `pos n` is n, and `negsuc n` is -(n + 1).
 abbrev pub is_in_64_bits : ℤ → Bool
 is_in_64_bits (pos n) = nat_lt n (2 ^ 63)
 is_in_64_bits (negsuc n) = nat_lt n (2 ^ 63)
 
+-- Returns the seconds of a timeout, or E7 if they do not fit in 64 bits.
 abbrev pub seconds_of : ℤ → Result ℤ Refusal
 seconds_of timeout = if is_in_64_bits timeout then Ok timeout else Err refusal.Range
 
--- ---- variables of the environment
+-- ---- environment variables
 
+-- Returns a name and a value as `NAME=VALUE`.
 abbrev pub assignment : (name value : List ℕ) → List ℕ
 assignment name value = name ++ (codes "=" ++ value)
 
--- assignments, and behind them those of names and values; a value that is no text breaks a rule by its name
+-- Returns assignments followed by those of names and values. A value that is no text breaks a rule, and the detail is its name.
 abbrev pub assigned_behind : List (List ℕ) → (names : List (List ℕ)) → (values : Items) → Said (List (List ℕ))
 assigned_behind ts [] ds = Ok ts
 assigned_behind ts (n ∷ ns) no_items = Ok ts
@@ -34,21 +36,22 @@ assigned_behind ts (n ∷ ns) (item d ds) = do
   t ← found (text_in d) rules.TakesText n
   assigned_behind (ts ++ assignment n t ∷ []) ns ds
 
--- the text says a name and a value, either of which may be empty
+-- Holds if a text has a name and a value, either of which may be empty.
 abbrev pub is_assignment : List ℕ → Bool
 is_assignment text = list_any (λ b. b == 61) text
 
--- the first text that says no name and value breaks a rule
+-- Checks that each text has a name and a value. The first one that has none breaks a rule.
 abbrev pub are_assignments : List (List ℕ) → Said (Unit {0})
 are_assignments [] = Ok tt
 are_assignments (t ∷ ts) = if is_assignment t then are_assignments ts else Err (breaks rules.IsAssignment t)
 
+-- Returns the variables of a dictionary, and otherwise those of the texts.
 abbrev pub environment_by : Option Data → List (List ℕ) → Said (List (List ℕ))
 environment_by (Some (dictionary es)) ts = assigned_behind [] (keys_in es) (entry_values es)
 environment_by _ ts = do
   _ ← are_assignments ts
   Ok ts
 
--- the variables that the keyword `env` gives, as texts `NAME=VALUE`: a dictionary of texts, or such texts
+-- Returns the variables of the keyword `env`, as texts `NAME=VALUE`, given as a dictionary of texts or as such texts.
 abbrev pub environment : ArgumentsData → Said (List (List ℕ))
 environment a = environment_by (keyword (codes "env") a) (texts (codes "env") a)

@@ -1,8 +1,8 @@
--- Strings without where they lie in memory.
+-- Defines the view of strings.
 use Rattle.std.specs.Prelude.{ℕ, List, map, String, string_bytes}
 use Rattle.std.specs.declared.alloc.Global.{Global}
 use Rattle.std.specs.declared.vec.Vec.{Vec}
 
--- the bytes of each string
+-- Returns the bytes of each string.
 abbrev pub strings_of : Vec (String Global) Global → List (List ℕ)
 strings_of strings = map string_bytes strings.items

@@ -1,4 +1,4 @@
-//! What a call says beside a question that it asks of the machine file.
+//! Collects what a question to the machine file carries besides its topic: what the call says.
 
 ghost use Rattle.std.specs.Prelude.{◌≡◌, ◌++◌, IfOk, OnOk, map};
 ghost use Rattle.arguments.specs.Arguments.{arguments_data};
@@ -15,7 +15,7 @@ use machine::machine_file::{Aside, Question, Topic};
 use std::alloc::{AllocError, Global};
 use values::{Feature, Object, Value, open_up};
 
-// The keywords that say how a check is made, which dependency is wanted, and whether it has to be there.
+// The keywords that say how a check is made, which dependency is wanted, and whether it is required.
 const BESIDE: [&str; 6] = [
     "prefix",
     "args",
@@ -25,7 +25,7 @@ const BESIDE: [&str; 6] = [
     "required",
 ];
 
-// The name of a feature's state.
+// Returns the name of a feature's state.
 fn state_word(feature: Feature) -> &'static str
     ensures { result.now ≡ state_word feature }
 {
@@ -36,7 +36,7 @@ fn state_word(feature: Feature) -> &'static str
     }
 }
 
-// Puts the words that an object tells behind others.
+// Appends the words for an object.
 fn put_object(alloc: Global, words: &mut Vec<String>, thing: &Object) -> Result<(), AllocError>
     ensures { OnOk result (strings_in words.new.items ≡ strings_in words.old.items ++ words_of (object thing.now)) }
 {
@@ -48,7 +48,7 @@ fn put_object(alloc: Global, words: &mut Vec<String>, thing: &Object) -> Result<
     }
 }
 
-// Puts the words that a value tells behind others.
+// Appends the words for a value.
 fn put_words(alloc: Global, words: &mut Vec<String>, value: &Value) -> Result<(), AllocError>
     ensures { OnOk result (strings_in words.new.items ≡ strings_in words.old.items ++ words_of (data_of value.now)) }
 {
@@ -60,7 +60,7 @@ fn put_words(alloc: Global, words: &mut Vec<String>, value: &Value) -> Result<()
     }
 }
 
-// The words that some values tell.
+// Returns the words for some values.
 fn words_in(alloc: Global, values: &[&Value]) -> Result<Vec<String>, AllocError>
     ensures { IfOk result (λ ws. strings_in ws.items ≡ words_in (map (λ v. data_of v.now) values.now)) }
 {
@@ -71,7 +71,7 @@ fn words_in(alloc: Global, values: &[&Value]) -> Result<Vec<String>, AllocError>
     Ok(words)
 }
 
-// Puts what the value of a keyword tells behind other asides, where it is given.
+// Appends the words for the value of a keyword, if it is given.
 fn put_aside(
     alloc: Global,
     asides: &mut Vec<Aside>,
@@ -104,8 +104,8 @@ fn asides_named(
     Ok(asides)
 }
 
-/// A question of a call with these arguments, and what they say beside it: the words of the keywords that say how a check is made, which
-/// dependency is wanted, and whether it has to be there. They change no answer.
+/// Returns the question of a call with these arguments. The question carries the words of the keywords that say how a check is made, which
+/// dependency is wanted, and whether it is required. They change no answer.
 pub fn call_question(
     alloc: Global,
     topic: Topic,

@@ -1,4 +1,4 @@
-//! The dependency that a machine file has: <https://mesonbuild.com/Reference-manual_functions.html#dependency>.
+//! Finds the dependency that a machine file has: <https://mesonbuild.com/Reference-manual_functions.html#dependency>.
 ghost use Rattle.std.specs.Prelude.{◌≡◌, codes, option_map, IfOk};
 ghost use Rattle.machine.specs.machine_file.Questions.{Key, answer_to, dependency_topic};
 ghost use Rattle.machine.specs.machine_file.View.{entries_of, machine_in, strings_in, value_in};
@@ -13,7 +13,7 @@ use std::alloc::{AllocError, Global};
 use values::texts::version_compare;
 use values::{Dependency, Refusal, Texts};
 
-/// The version that the section of a dependency gives, `unknown` where it gives none.
+/// Returns the version in the section of a dependency, and `unknown` if it has none.
 pub fn said_version(section: &Section) -> &str
     ensures { result.now ≡ said_version (entries_of section.now) }
 {
@@ -23,7 +23,7 @@ pub fn said_version(section: &Section) -> &str
     }
 }
 
-// Whether a version meets all conditions.
+// Returns whether a version meets all conditions.
 fn conditions_hold(version: &str, conditions: &[String]) -> bool
     ensures { result ≡ conditions_hold version.now (strings_in conditions.now) }
 {
@@ -35,7 +35,7 @@ fn conditions_hold(version: &str, conditions: &[String]) -> bool
     true
 }
 
-// The texts that the section of a dependency gives at a key.
+// Returns the texts that the section of a dependency has for a key.
 fn said_texts<'a>(section: &'a Section, key: &str) -> &'a [String]
     ensures { strings_in result.now ≡ said_texts key.now (entries_of section.now) }
 {
@@ -45,7 +45,7 @@ fn said_texts<'a>(section: &'a Section, key: &str) -> &'a [String]
     }
 }
 
-// The dependency that the section of a machine file says.
+// Returns the dependency that a section of the machine file describes, or `Refusal::Limit` if it is too large.
 fn said_dependency(
     alloc: Global,
     name: &str,
@@ -58,8 +58,8 @@ fn said_dependency(
     found_dependency(alloc, name, said_version(section), compile_args, link_args)
 }
 
-/// The dependency of a name, where the machine file has a section of it whose version meets all conditions; `Refusal::Limit` where what
-/// it says is too large for a value.
+/// Returns the dependency with a name if the machine file has a section for it whose version meets all conditions. Returns `Refusal::Limit`
+/// if it is too large for a value.
 pub fn dependency_that_fits(
     alloc: Global,
     machine: &Machine,
@@ -77,7 +77,7 @@ pub fn dependency_that_fits(
     }
 }
 
-// The words of a value of a machine file.
+// Returns the command in a value of a machine file, or `Refusal::Limit` if it is too large.
 fn words_within(alloc: Global, value: &MachineValue) -> Result<Result<Texts, Refusal>, AllocError>
     ensures { IfOk result (λ r. r ≡ within_texts (words_said (value_in value.now))) }
 {
@@ -92,8 +92,8 @@ fn words_within(alloc: Global, value: &MachineValue) -> Result<Result<Texts, Ref
     }
 }
 
-/// The words of the program that `[binaries]` of a machine file has at this name, or `Refusal::Limit` where they are too large for
-/// a value.
+/// Returns the command of the program that `[binaries]` of a machine file has for this name, or `Refusal::Limit` if it is too large for a
+/// value.
 pub fn program_words(
     alloc: Global,
     machine: &Machine,

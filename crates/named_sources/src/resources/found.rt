@@ -1,11 +1,11 @@
-//! The objects that `dependency` and `find_program` give.
+//! Makes the objects that `dependency` and `find_program` return.
 ghost use Rattle.std.specs.Prelude.{◌≡◌, map, string_bytes, codes, IfOk};
 ghost use Rattle.named_sources.specs.resources.Found.{found, missing, short_texts, within_texts};
 
 use std::alloc::{AllocError, Global};
 use values::{Dependency, Numbers, Refusal, Sources, Text, Texts};
 
-/// Texts of their own, or `Refusal::Limit` where one is longer than 16,777,216 bytes.
+/// Returns copies of strings as texts, or `Refusal::Limit` if one is longer than 16,777,216 bytes.
 pub fn short_texts(alloc: Global, strings: &[String]) -> Result<Result<Texts, Refusal>, AllocError>
     ensures { IfOk result (λ r. r ≡ short_texts (map string_bytes strings.now)) }
 {
@@ -19,7 +19,7 @@ pub fn short_texts(alloc: Global, strings: &[String]) -> Result<Result<Texts, Re
     Ok(Ok(texts))
 }
 
-/// The same, or `Refusal::Limit` where there are more than 65,536 of them.
+/// Returns copies of strings as texts, or `Refusal::Limit` if one is too long or there are more than 65,536.
 pub fn within_texts(alloc: Global, strings: &[String]) -> Result<Result<Texts, Refusal>, AllocError>
     ensures { IfOk result (λ r. r ≡ within_texts (map string_bytes strings.now)) }
 {
@@ -29,7 +29,7 @@ pub fn within_texts(alloc: Global, strings: &[String]) -> Result<Result<Texts, R
     short_texts(alloc, strings)
 }
 
-// A dependency with these arguments for the compiler and the linker, and with nothing else.
+// Returns a dependency that has only these arguments for the compiler and the linker.
 fn of_arguments(
     alloc: Global,
     name: Text,
@@ -51,8 +51,8 @@ fn of_arguments(
     }
 }
 
-/// The dependency of this name and version, with arguments for the compiler and the linker, or `Refusal::Limit` where these are too large
-/// for a value.
+/// Returns the dependency with this name, version, and arguments for the compiler and the linker, or `Refusal::Limit` if these are too
+/// large for a value.
 pub fn found_dependency(
     alloc: Global,
     name: &str,
@@ -81,7 +81,7 @@ pub fn found_dependency(
     Ok(Ok(of_arguments(alloc, name, version, compile_args, link_args)))
 }
 
-// A dependency that isn't found, with a name, a version and nothing else.
+// Returns a dependency that was not found, which has only a name and a version.
 fn absent(alloc: Global, name: Text, version: Text) -> Dependency
     requires { version ≡ codes "unknown" }
     ensures { result ≡ Rattle.named_sources.specs.resources.Found.absent name }
@@ -98,7 +98,8 @@ fn absent(alloc: Global, name: Text, version: Text) -> Dependency
     }
 }
 
-/// The dependency of this name that isn't found, whose version is `unknown`; or `Refusal::Limit` where the name is too long for a text.
+/// Returns the dependency with this name that was not found, whose version is `unknown`, or `Refusal::Limit` if the name is too long for a
+/// text.
 pub fn missing_dependency(
     alloc: Global,
     name: &str,

@@ -1,11 +1,11 @@
-//! Where installed files go: <https://mesonbuild.com/Reference-manual_functions.html#install_data> and its like.
+//! Decides where files are installed: <https://mesonbuild.com/Reference-manual_functions.html#install_data> and its like.
 ghost use Rattle.std.specs.Prelude.{◌≡◌, ◌<◌, option_map, IfOk, IfSome, string_bytes};
 ghost use Rattle.named_sources.specs.resources.Installs.{destination, headers_folder, last_digit, man_folder};
 
 use std::alloc::{AllocError, Global};
 use support::paths::path_below;
 
-/// The absolute path at which a file of this name is installed, in a folder that is relative to `prefix` or absolute itself.
+/// Returns the absolute path at which a file with this name is installed. `folder` is relative to `prefix` or absolute.
 pub fn destination(
     alloc: Global,
     prefix: &str,
@@ -18,14 +18,14 @@ pub fn destination(
     path_below(alloc, below.as_str(), name)
 }
 
-/// The folder of headers that are given none: `subdir` below `includedir`, an empty `subdir` being that folder itself.
+/// Returns the default directory of headers: `subdir` below `includedir`. An empty `subdir` gives that directory itself.
 pub fn headers_folder(alloc: Global, includedir: &str, subdir: &str) -> Result<String, AllocError>
     ensures { IfOk result (λ folder. string_bytes folder ≡ headers_folder includedir.now subdir.now) }
 {
     path_below(alloc, includedir, subdir)
 }
 
-// The last decimal digit of a name.
+// Returns the last decimal digit of a name.
 fn last_digit(name: &[u8]) -> Option<u8>
     ensures last { result ≡ last_digit name.now }
     ensures ascii { IfSome result (λ digit. digit < 128) }
@@ -39,7 +39,7 @@ fn last_digit(name: &[u8]) -> Option<u8>
     found
 }
 
-// The folder of the manual's section that a digit names.
+// Returns the directory of a digit's man section.
 #[tactic(auto, using(crate::proofs::Digits::section_bytes))]
 fn section_folder(alloc: Global, mandir: &str, digit: u8) -> Result<String, AllocError>
     requires { digit < 128 }
@@ -50,8 +50,8 @@ fn section_folder(alloc: Global, mandir: &str, digit: u8) -> Result<String, Allo
     path_below(alloc, mandir, section.as_str())
 }
 
-/// The folder of a man page of this name that is given none, in `mandir`: its section is the last digit of the name. None where the name
-/// has no digit.
+/// Returns the default directory of a man page with this name in `mandir`: its section is the last digit of the name. Returns `None` if the
+/// name has no digit.
 pub fn man_folder(alloc: Global, mandir: &str, name: &str) -> Result<Option<String>, AllocError>
     ensures { IfOk result (λ folder. option_map string_bytes folder ≡ man_folder mandir.now name.now) }
 {

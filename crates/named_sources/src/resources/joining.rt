@@ -1,4 +1,4 @@
-//! `declare_dependency`: <https://mesonbuild.com/Reference-manual_functions.html#declare_dependency>.
+//! Implements `declare_dependency`: <https://mesonbuild.com/Reference-manual_functions.html#declare_dependency>.
 ghost use Rattle.std.specs.Prelude.{◌≡◌, ◌++◌, ◌&&◌, map, IfOk, OnOk};
 ghost use Rattle.values.specs.Prelude.{data_of, items_of};
 ghost use Rattle.named_sources.specs.resources.Joined.{dependencies_in, dependencies_of, is_within, joined, with_lists};
@@ -6,7 +6,7 @@ ghost use Rattle.named_sources.specs.resources.Joined.{dependencies_in, dependen
 use std::alloc::{AllocError, Global};
 use values::{Dependency, Object, Refusal, Value};
 
-/// The dependencies that a value holds, in lists of any depth; anything else counts as none.
+/// Returns the dependencies in a value, with lists of any depth flattened. Any other value is skipped.
 pub fn dependencies_in(alloc: Global, value: &Value) -> Result<Vec<&Dependency>, AllocError>
     ensures { IfOk result (λ ds. map (λ d. d.now) ds.items ≡ dependencies_in (data_of value.now)) }
 {
@@ -42,7 +42,7 @@ fn collect_items<'v>(found: &mut Vec<&'v Dependency>, items: &'v [Value]) -> Res
     Ok(())
 }
 
-// Whether no list of a dependency has more than 65,536 items.
+// Returns whether no list of a dependency has more than 65,536 items.
 fn is_within(dependency: &Dependency) -> bool
     ensures { result ≡ is_within dependency.now }
 {
@@ -53,7 +53,7 @@ fn is_within(dependency: &Dependency) -> bool
         && dependency.sources.as_slice().len() <= support::limits::ITEMS
 }
 
-// Puts the lists of another dependency behind its own. Texts are shared, and no byte is copied.
+// Appends the lists of another dependency if it was found. Texts are shared, and no byte is copied.
 fn extend(both: &mut Dependency, other: &Dependency) -> Result<(), AllocError>
     ensures { OnOk result (both.new ≡ with_lists both.old other.now) }
 {
@@ -68,7 +68,7 @@ fn extend(both: &mut Dependency, other: &Dependency) -> Result<(), AllocError>
     Ok(())
 }
 
-// A dependency with the lists of another behind its own.
+// Returns a dependency with the lists of another appended.
 fn with_lists(dependency: Dependency, other: &Dependency) -> Result<Dependency, AllocError>
     ensures { IfOk result (λ d. d ≡ with_lists dependency other.now) }
 {
@@ -77,8 +77,8 @@ fn with_lists(dependency: Dependency, other: &Dependency) -> Result<Dependency, 
     Ok(both)
 }
 
-/// A dependency with the lists of others behind its own, in order, those that aren't found left out; or `Refusal::Limit` where one of
-/// the lists has more than 65,536 items then.
+/// Returns a dependency with the lists of others appended, in order; those that were not found are skipped. Returns `Refusal::Limit` if one
+/// of the lists then has more than 65,536 items.
 pub fn join(
     dependency: Dependency,
     others: &[&Dependency],

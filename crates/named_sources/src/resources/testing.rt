@@ -1,4 +1,4 @@
-//! What `test` is given: <https://mesonbuild.com/Reference-manual_functions.html#test>.
+//! Reads the arguments of `test`: <https://mesonbuild.com/Reference-manual_functions.html#test>.
 ghost use Rattle.std.specs.Prelude.{◌≡◌, IfOk, [], map, string_bytes};
 ghost use Rattle.arguments.specs.Arguments.{arguments_data};
 ghost use Rattle.arguments.specs.Refused.{answer_data, said_data};
@@ -11,7 +11,7 @@ use arguments::{Arguments, Refused, Rule};
 use std::alloc::{AllocError, Global};
 use values::{Refusal, Text, Value};
 
-/// The seconds that a test may run, or `Refusal::Range` where they need more than 64 bits. They may be zero or negative.
+/// Returns the seconds that a test may run, or `Refusal::Range` if they do not fit in 64 bits. They may be zero or negative.
 pub fn seconds_of(timeout: i128) -> Result<i64, Refusal>
     ensures { result ≡ seconds_of timeout }
 {
@@ -21,7 +21,7 @@ pub fn seconds_of(timeout: i128) -> Result<i64, Refusal>
     }
 }
 
-// A variable of the environment of a test and its value, as `NAME=VALUE`. The name may be empty.
+// Returns an environment variable of a test and its value, as `NAME=VALUE`. The name may be empty.
 fn assignment(alloc: Global, name: &str, value: &str) -> Result<String, AllocError>
     ensures { IfOk result (λ text. string_bytes text ≡ assignment name.now value.now) }
 {
@@ -31,7 +31,7 @@ fn assignment(alloc: Global, name: &str, value: &str) -> Result<String, AllocErr
     Ok(text)
 }
 
-// The variables that have these names and values, in order.
+// Returns the variables with these names and values, in order, or the refusal of a value that is no text.
 #[tactic(auto, using(crate::proofs::Assigned::assigned_cases))]
 fn assign(
     alloc: Global,
@@ -59,7 +59,7 @@ fn is_assignment(text: &str) -> bool
     text.as_bytes().contains(&b'=')
 }
 
-// The first text that says no name and value breaks a rule.
+// Checks that each text has a name and a value. The first one that has none breaks a rule.
 fn are_assignments(alloc: Global, texts: &[String]) -> Result<Result<(), Refused>, AllocError>
     ensures { IfOk result (λ r. answer_data r ≡ are_assignments (map string_bytes texts.now)) }
 {
@@ -71,8 +71,10 @@ fn are_assignments(alloc: Global, texts: &[String]) -> Result<Result<(), Refused
     Ok(Ok(()))
 }
 
-/// The variables of the environment that the keyword `env` gives, as texts `NAME=VALUE`. A value of a dictionary that is no text breaks
-/// `Rule::TakesText`, by its name, and a text without `=` breaks `Rule::IsAssignment`.
+/// Returns the environment variables of the keyword `env`, as texts `NAME=VALUE`.
+///
+/// A value of a dictionary that is no text breaks `Rule::TakesText`, and the detail is its name. A text without `=` breaks
+/// `Rule::IsAssignment`.
 pub fn environment(
     alloc: Global,
     arguments: &Arguments,

@@ -1,4 +1,4 @@
--- `configuration_data`.
+-- Defines `configuration_data`.
 use Rattle.std.specs.Prelude.{Option, Some}
 use Rattle.arguments.specs.Arguments.{ArgumentsData}
 use Rattle.arguments.specs.Given.{argument}
@@ -10,11 +10,11 @@ use Rattle.world.specs.Deed.{Deed, give, ◌>>=◌}
 use Rattle.world.specs.Fit.{passed}
 use Rattle.objects.specs.configuration_calls.Given.{data_given}
 
--- the data that the arguments describe: E9 where a key is no name, or a value no text, integer or truth value
+-- Returns the data that the arguments describe. Refuses with E9 a key that is no name, and a value that is no text, integer or boolean.
 unfoldable pub said_data : ArgumentsData → Deed Configuration
 said_data a = passed (data_given (argument 0 a))
 
--- `configuration_data(dictionary)`: data with the values of the dictionary, which may be left out
+-- Defines `configuration_data(dictionary)`: data with the values of the dictionary, which is optional.
 unfoldable pub configuration_data : ArgumentsData → Deed (Option Data)
 configuration_data a = do
   c ← said_data a

@@ -1,4 +1,4 @@
--- `configure_file`: a file that is made while the definition files are read.
+-- Defines `configure_file`, which makes a file while the build files are evaluated.
 use Rattle.std.specs.Prelude.{ℕ, Bool, true, false, [], Option, Some, None, codes, bytes_eq, option_map}
 use Rattle.arguments.specs.Arguments.{ArgumentsData}
 use Rattle.arguments.specs.Given.{keyword, text_given, text_of}
@@ -25,27 +25,29 @@ use Rattle.objects.specs.configuration_calls.Given.{GivenData, configuration_giv
 use Rattle.objects.specs.configuration_calls.Inputs.{input_named}
 use Rattle.objects.specs.configuration_calls.Written.{header_filling, template_at, template_filling}
 
--- ---- what the arguments say
+-- ---- the arguments
 
--- the format is `'meson'`, or is not given; another is left out
+-- Holds if a format is `'meson'`. Other formats are not supported.
 abbrev pub is_meson : Data → Bool
 is_meson (text t) = bytes_eq t (codes "meson")
 is_meson _ = false
 
+-- Holds if the format is absent or `'meson'`.
 abbrev pub fits_format : Option Data → Bool
 fits_format None = true
 fits_format (Some d) = is_meson d
 
+-- Holds if the call has no `format`, or the format `'meson'`.
 abbrev pub has_meson_format : ArgumentsData → Bool
 has_meson_format a = fits_format (keyword (codes "format") a)
 
--- the template: E9 where `input` names none
+-- Returns the path of the template, and refuses with E9 an `input` that names none.
 unfoldable pub input_given : ArgumentsData → Deed (Option Path)
 input_given a = do
   facts ← read
   passed (input_named facts.settings.source_root facts.folder a)
 
--- the values of `configuration`: E9 where they are no configuration data
+-- Returns the values of `configuration`, and refuses with E9 any value other than configuration data or a dictionary.
 unfoldable pub values_given : ArgumentsData → Deed GivenData
 values_given a = do
   facts ← read
@@ -53,18 +55,19 @@ values_given a = do
 
 -- ---- where the output is installed
 
--- the output, by its path in the build folder, goes to a folder below `prefix`, or to one that is absolute
+-- Returns where the output is installed, given its path in the build directory: in a directory below `prefix`, or in one that is absolute.
 abbrev pub install_at : Facts → (path : Path) (name : Text) (folder : Path) → InstallData
 install_at facts path name folder = record {
   source = path_below facts.settings.build_root path;
   destination = destination (option_text facts.options (codes "prefix")) folder name;
 }
 
+-- Records an installed file, if there is one.
 unfoldable pub noted : Option InstallData → Deed (Unit {0})
 noted None = give tt
 noted (Some install) = add_install install
 
--- the output is installed where `install_dir` says so
+-- Records that the output is installed if there is an `install_dir`.
 unfoldable pub installed : (path : Path) → ArgumentsData → Deed (Unit {0})
 installed path a = do
   facts ← read
@@ -72,39 +75,40 @@ installed path a = do
 
 -- ---- the call
 
--- no call changes the data from now on; a dictionary is none
+-- Freezes configuration data. A dictionary has nothing to freeze.
 unfoldable pub frozen_by : Option ℕ → Deed (Unit {0})
 frozen_by None = give tt
 frozen_by (Some number) = freeze_configured number
 
--- before the output is opened: its path is a text that is not too long (E22), and the data are frozen
+-- Runs before the output is opened: its path must be within the limit of a text (E22), and the data is frozen.
 unfoldable pub prepared : Path → Option ℕ → Deed Path
 prepared path number = do
   given ← answered (within_bytes path)
   _ ← frozen_by number
   give given
 
--- the output is made in the present folder (E21, E11), and its path given
+-- Makes the output in the present folder (E21, E11), and returns its path.
 unfoldable pub output_made : ArgumentsData → GivenData → Filling → Deed Path
 output_made a values filling = do
   facts ← read
   make facts.folder (text_of (codes "output") a) (prepared (path_in facts.folder (text_of (codes "output") a)) values.number) filling
 
--- and the call gives it as a file
+-- Makes the output, records its installation, and returns it as a file.
 unfoldable pub made : ArgumentsData → GivenData → Filling → Deed (Option Data)
 made a values filling = do
   path ← output_made a values filling
   _ ← installed path a
   give (Some (object (objects.File path true)))
 
--- with a template, or without one
+-- Makes the output with a template or without one.
 unfoldable pub configured : ArgumentsData → Option Path → GivenData → Deed (Option Data)
 configured a None values = made a values (header_filling values.entries)
 configured a (Some path) values = do
   bytes ← template_at path
   made a values (template_filling values.entries path bytes)
 
--- `configure_file()`: E9, E14, E21, E11; E19 or E22 at the template's first line that is refused, when the lines before it are written
+-- Defines `configure_file()`. Refuses with E9, E14, E21, E11. Refuses with E19 or E22 at the first bad line of the template, after the
+-- lines before it are written.
 unfoldable pub configure_file : ArgumentsData → Deed (Option Data)
 configure_file a = do
   _ ← need (has_meson_format a) refusals.LeftOut []

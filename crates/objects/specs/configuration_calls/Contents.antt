@@ -1,4 +1,4 @@
--- Values of the language in configuration data.
+-- Defines which values of the language configuration data can contain.
 use Rattle.std.specs.Prelude.{ℕ, ◌==◌, List, [], ◌∷◌, Option, Some, None, option_map, unwrap_or, Result, Ok, Err, if◌then◌else◌}
 use Rattle.arguments.specs.Said.{Said, ◌>>=◌, found, kept}
 use Rattle.arguments.specs.declared.rule.Rule.TheVariants as rules
@@ -12,7 +12,7 @@ use Rattle.template.specs.Line.{is_name}
 use Rattle.objects.specs.declared.configuration_calls.contents.Quotes.{Quotes}
 use Rattle.objects.specs.declared.configuration_calls.contents.Quotes.TheVariants as quotes
 
--- configuration data hold texts, integers and truth values
+-- Returns the content for a value: configuration data contains texts, integers and booleans.
 abbrev pub content_in : Data → Option Content
 content_in (boolean b) = Some (Flag b)
 content_in (integer z) = Some (Number z)
@@ -21,13 +21,13 @@ content_in _ = None
 
 -- ---- a dictionary as configuration data
 
--- what a name stands for: one that is no name breaks a rule, and one whose value is of another type
+-- Returns the content of a name. A bad name breaks a rule, and so does a value of another type.
 abbrev pub content_at : List ℕ → Data → Said Content
 content_at name d = do
   _ ← kept (is_name name) rules.IsValueName name
   found (content_in d) rules.IsSetting name
 
--- names with their values, set in turn behind what is there
+-- Returns entries followed by these names with their values.
 abbrev pub all_set : Entries → List (List ℕ) → Items → Said Entries
 all_set entries [] ds = Ok entries
 all_set entries (k ∷ ks) no_items = Ok entries
@@ -35,47 +35,48 @@ all_set entries (k ∷ ks) (item d ds) = do
   content ← content_at k d
   all_set (with_value entries k content) ks ds
 
--- a dictionary as configuration data, where its keys are names and its values texts, integers and truth values
+-- Returns a dictionary as configuration data. Its keys must be names, and its values texts, integers or booleans.
 abbrev pub entries_in : DictionaryEntries → Said Entries
 entries_in es = all_set [] (keys_in es) (entry_values es)
 
--- data with these values
+-- Returns configuration data with these entries.
 abbrev pub data_with : Said Entries → Said Configuration
 data_with said = do
   entries ← said
   Ok (unfrozen entries)
 
--- ---- what is asked of a name
+-- ---- the value of a name
 
--- what stands before a last quote
+-- Returns the text before a quote that is its last byte.
 abbrev pub before_quote : List ℕ → Option (List ℕ)
 before_quote [] = None
 before_quote (b ∷ []) = if b == 34 then Some [] else None
 before_quote (b ∷ c ∷ t) = option_map (λ u. b ∷ u) (before_quote (c ∷ t))
 
--- a text without a quote at its beginning and another one at its end, where both are there
+-- Returns a text without its first and last byte if both are quotes, and unchanged otherwise.
 abbrev pub unquoted_text : List ℕ → List ℕ
 unquoted_text [] = []
 unquoted_text (b ∷ t) = if b == 34 then unwrap_or (before_quote t) (b ∷ t) else b ∷ t
 
--- a text as it is given
+-- Returns a text with its quotes kept or removed.
 abbrev pub given_text : Quotes → List ℕ → List ℕ
 given_text quotes.Kept t = t
 given_text quotes.Cut t = unquoted_text t
 
+-- Returns the value of a content.
 abbrev pub given : Quotes → Content → Data
 given q (Flag b) = boolean b
 given q (Number z) = integer z
 given q (Bytes t) = text (given_text q t)
 
--- the fallback; E10 where there is none
+-- Returns the fallback, and refuses with E10 if there is none.
 abbrev pub fallback_given : Quotes → Option Data → Result Data Refusal
 fallback_given q None = Err refusal.Absent
 fallback_given quotes.Kept (Some d) = Ok d
 fallback_given quotes.Cut (Some (text t)) = within (text (unquoted_text t))
 fallback_given quotes.Cut (Some d) = Ok d
 
--- what a name stands for, or else the fallback
+-- Returns the value of a name, and otherwise the fallback.
 abbrev pub found_or : Quotes → Option Content → Option Data → Result Data Refusal
 found_or q (Some content) fallback = within (given q content)
 found_or q None fallback = fallback_given q fallback

@@ -1,4 +1,4 @@
--- Configuration data among arguments.
+-- Reads configuration data from arguments.
 use Rattle.std.specs.Prelude.{ℕ, [], Option, Some, None, Ok, Err, codes}
 use Rattle.arguments.specs.Arguments.{ArgumentsData}
 use Rattle.arguments.specs.Given.{keyword}
@@ -12,36 +12,37 @@ use Rattle.world.specs.Configuring.{configuration_at, no_values}
 use Rattle.world.specs.World.{Facts}
 use Rattle.objects.specs.configuration_calls.Contents.{data_with, entries_in}
 
--- the number of the configuration data that a value is
+-- Returns the number of the configuration data of a value.
 abbrev pub number_in : Data → Option ℕ
 number_in (object (objects.ConfigurationData number)) = Some number
 number_in _ = None
 
--- the values of the data with a number
+-- Returns the entries of the data with a number.
 abbrev pub entries_of : Facts → ℕ → Entries
 entries_of facts number = (configuration_at number facts.configurations).entries
 
--- values that are given to a call, and the number of the data that have them, where they are no dictionary's
+-- The values given to a call, and the number of the data that has them. A dictionary has no number.
 pub record GivenData : Type 0 where
   pub entries : Entries
   pub number : Option ℕ
 
--- those of a dictionary
+-- Returns the values of a dictionary.
 abbrev pub dictionary_given : Data → Said GivenData
 dictionary_given (dictionary es) = do
   entries ← entries_in es
   Ok (record { entries = entries; number = None })
 dictionary_given _ = Err (breaks rules.IsValueName [])
 
+-- Returns the values of the data with a number, and otherwise those of a dictionary.
 abbrev pub given_as : Option ℕ → Facts → Data → Said GivenData
 given_as (Some number) facts d = Ok (record { entries = entries_of facts number; number = Some number })
 given_as None facts d = dictionary_given d
 
--- those of data or of a dictionary
+-- Returns the values of configuration data or of a dictionary.
 abbrev pub given_by : Facts → Data → Said GivenData
 given_by facts d = given_as (number_in d) facts d
 
--- those of the keyword `configuration`
+-- Returns the values of the keyword `configuration`.
 abbrev pub configuration_given : Facts → ArgumentsData → Said GivenData
 configuration_given facts a = do
   d ← found (keyword (codes "configuration") a) rules.IsValueName []
@@ -49,11 +50,12 @@ configuration_given facts a = do
 
 -- ---- `configuration_data`
 
+-- Returns the configuration data of a dictionary, and refuses any other value.
 abbrev pub data_in : Data → Said Configuration
 data_in (dictionary es) = data_with (entries_in es)
 data_in _ = Err (breaks rules.IsValueName [])
 
--- data with the values of a dictionary, or with none
+-- Returns data with the values of a dictionary, and without values if there is none.
 abbrev pub data_given : Option Data → Said Configuration
 data_given None = Ok no_values
 data_given (Some d) = data_in d

@@ -1,4 +1,4 @@
--- The methods of configuration data: the type `cfg_data` of the page "Reference manual".
+-- Defines the methods of configuration data: the type `cfg_data` of the page "Reference manual".
 use Rattle.std.specs.Prelude.{ℕ, pos, Bool, false, List, [], Option, Some, None, is_some, ok_or, option_and_then}
 use Rattle.std.specs.Prelude.{if◌then◌else◌}
 use Rattle.arguments.specs.Arguments.{ArgumentsData}
@@ -22,17 +22,18 @@ use Rattle.values.specs.declared.language_names.object_methods.ConfigurationMeth
 use Rattle.values.specs.declared.language_names.object_methods.ConfigurationMethod.TheVariants as methods
 use Rattle.values.specs.language_names.ObjectMethods.{configuration_method_named}
 
+-- Holds if configuration data has a method with this name.
 abbrev pub has_method : List ℕ → Bool
 has_method name = is_some (configuration_method_named name)
 
--- the name that a call is given first: E9 where it is no name of configuration data
+-- Returns the first argument of a call, and refuses with E9 one that is no name of configuration data.
 unfoldable pub name_given : ArgumentsData → Deed (List ℕ)
 name_given a = do
   _ ← obeyed (is_name (text_at 0 a)) rules.IsValueName (text_at 0 a)
   give (text_at 0 a)
 
--- `get(name, fallback)`: E10 where the name stands for nothing and no fallback is given; `get_unquoted` gives the same, of a text without
--- the quotes at its ends
+-- Defines `get(name, fallback)`, which refuses with E10 if the name has no value and there is no fallback. `get_unquoted` returns the same,
+-- but removes the quotes at the ends of a text.
 unfoldable pub get : ℕ → Quotes → ArgumentsData → Deed (Option Data)
 get number q a = do
   name ← name_given a
@@ -40,25 +41,25 @@ get number q a = do
   d ← answered (found_or q (value_of (entries_of facts number) name) (argument 1 a))
   give (Some d)
 
--- `has(name)`: whether the name stands for anything
+-- Defines `has(name)`: whether the name has a value.
 unfoldable pub has : ℕ → ArgumentsData → Deed (Option Data)
 has number a = do
   name ← name_given a
   facts ← read
   give (Some (boolean (is_some (value_of (entries_of facts number) name))))
 
--- `keys()`: the names, by the order of their bytes
+-- Defines `keys()`: the names, sorted by bytes.
 unfoldable pub keys : ℕ → Deed (Option Data)
 keys number = do
   facts ← read
   d ← answered (text_list (names (entries_of facts number)))
   give (Some d)
 
--- the data that a call is given
+-- Returns the number of the data given to a call.
 unfoldable pub other_given : ArgumentsData → Deed ℕ
 other_given a = fitting (ok_or (option_and_then number_in (argument 0 a)) refusals.Arguments)
 
--- `merge_from(other)`: each name of the other data gets the value that it has there
+-- Defines `merge_from(other)`: sets each name of the other data to its value there.
 unfoldable pub merge_from : ℕ → ArgumentsData → Deed (Option Data)
 merge_from number a = do
   other ← other_given a
@@ -66,11 +67,11 @@ merge_from number a = do
   _ ← merge_configured number (configuration_at other facts.configurations)
   give None
 
--- what a call gives a name: a text, an integer or a truth value
+-- Returns the value that a call sets: a text, an integer or a boolean.
 unfoldable pub content_given : ArgumentsData → Deed Content
 content_given a = fitting (ok_or (option_and_then content_in (argument 1 a)) refusals.Arguments)
 
--- `set(name, value)`
+-- Defines `set(name, value)`.
 unfoldable pub set : ℕ → ArgumentsData → Deed (Option Data)
 set number a = do
   name ← name_given a
@@ -78,24 +79,25 @@ set number a = do
   _ ← set_configured number name content
   give None
 
+-- Returns 1 for true, and 0 for false.
 abbrev pub one_or_zero : Bool → Content
 one_or_zero is_so = Number (pos (if is_so then 1 else 0))
 
--- `set10(name, condition)`: 1 where it is true, else 0
+-- Defines `set10(name, condition)`: sets 1 if the condition is true, and 0 otherwise.
 unfoldable pub set10 : ℕ → ArgumentsData → Deed (Option Data)
 set10 number a = do
   name ← name_given a
   _ ← set_configured number name (one_or_zero (flag_at 1 false a))
   give None
 
--- `set_quoted(name, text)`
+-- Defines `set_quoted(name, text)`.
 unfoldable pub set_text_quoted : ℕ → ArgumentsData → Deed (Option Data)
 set_text_quoted number a = do
   name ← name_given a
   _ ← set_quoted number name (text_at 1 a)
   give None
 
--- what a method does with arguments that its row has let through; the changes are refused by E20 where the data are frozen
+-- Runs a method with arguments that its row has accepted. A change of frozen data is refused with E20.
 abbrev pub does : ConfigurationMethod → ℕ → ArgumentsData → Deed (Option Data)
 does methods.Get number a = get number quotes.Kept a
 does methods.GetUnquoted number a = get number quotes.Cut a
@@ -106,15 +108,17 @@ does methods.Set number a = set number a
 does methods.Set10 number a = set10 number a
 does methods.SetQuoted number a = set_text_quoted number a
 
+-- Checks the arguments of a method by its row, and then runs it.
 unfoldable pub fitting_does : ConfigurationMethod → ℕ → ArgumentsData → Deed (Option Data)
 fitting_does method number a = do
   _ ← fit (row_of method) a
   does method number a
 
+-- Runs a method, and refuses an unknown one with E8.
 abbrev pub does_if : Option ConfigurationMethod → ℕ → ArgumentsData → Deed (Option Data)
 does_if None number a = refuse refusals.UnknownFunction []
 does_if (Some method) number a = fitting_does method number a
 
--- a method of the data with a number on its arguments, which its row looks at first: it gives a value, or nothing
+-- Checks the arguments of a method of the data with a number by its row, and then runs it. It returns a value or nothing.
 unfoldable pub configuration_method : ℕ → List ℕ → ArgumentsData → Deed (Option Data)
 configuration_method number name a = does_if (configuration_method_named name) number a

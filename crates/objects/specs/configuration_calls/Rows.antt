@@ -1,4 +1,4 @@
--- The rows of the functions and of the methods: what each takes.
+-- Defines the rows of the functions and of the methods: the arguments that each takes.
 use Rattle.std.specs.Prelude.{List, [], ◌∷◌, codes}
 use Rattle.arguments.specs.declared.row.Kind.TheVariants as kinds
 use Rattle.arguments.specs.declared.row.Piece.TheVariants as pieces
@@ -6,11 +6,11 @@ use Rattle.arguments.specs.Row.{KeywordData, RowData, leaving_out, needed, optio
 use Rattle.values.specs.declared.language_names.object_methods.ConfigurationMethod.{ConfigurationMethod}
 use Rattle.values.specs.declared.language_names.object_methods.ConfigurationMethod.TheVariants as methods
 
--- `configuration_data(dictionary)`, which may be left out
+-- Returns the row of `configuration_data(dictionary)`, whose argument is optional.
 abbrev pub configuration_data_row : RowData
 configuration_data_row = row (kinds.Dictionary ∷ []) 0 []
 
--- a value of any type for `encoding` is read and dropped
+-- Returns the keywords of `configure_file`. A value of any type for `encoding` is accepted and ignored.
 abbrev pub file_keywords : List KeywordData
 file_keywords =
     needed (codes "output") kinds.Text
@@ -21,20 +21,21 @@ file_keywords =
     ∷ optional (codes "encoding") kinds.Any
     ∷ []
 
--- `configure_file()`: `command` and `copy` are left out
+-- Returns the row of `configure_file()`. The keywords `command` and `copy` are not supported.
 abbrev pub configure_file_row : RowData
 configure_file_row = leaving_out (codes "command" ∷ codes "copy" ∷ []) (row [] 0 file_keywords)
 
--- `configure_file()` with another `format` than `'meson'`, which is left out
+-- Returns the row of `configure_file()` with another `format` than `'meson'`, which is not supported.
 abbrev pub other_format_row : RowData
 other_format_row = leaving_out (codes "command" ∷ codes "copy" ∷ codes "format" ∷ []) (row [] 0 file_keywords)
 
 -- ---- methods
 
--- a value of any type for `description` is read and dropped
+-- Returns the keyword `description`. A value of any type is accepted and ignored.
 abbrev pub described : List KeywordData
 described = optional (codes "description") kinds.Any ∷ []
 
+-- Returns the row of a method.
 abbrev pub row_of : ConfigurationMethod → RowData
 -- `get(name, fallback)`
 row_of methods.Get = row (kinds.Text ∷ kinds.Any ∷ []) 1 []

@@ -1,4 +1,4 @@
--- What `configure_file` fills its output with.
+-- Defines what `configure_file` writes to its output.
 use Rattle.std.specs.Prelude.{◌≡◌, ℕ, List, [], Option, Some, None, Result, is_some, option_map, unwrap_or}
 use Rattle.build.specs.edge.Texts.{Path}
 use Rattle.support.specs.Faults.{FaultData, plain_fault}
@@ -21,23 +21,23 @@ use Rattle.world.specs.declared.stop.Stop.TheVariants as stops
 
 -- ---- a template
 
--- the bytes of a file that has to be there (E14)
+-- Returns the bytes of a file that must be present (E14).
 unfoldable pub template_at : Path → Deed (List ℕ)
 template_at path = do
   bytes ← ask path
   _ ← need (is_some bytes) refusals.FileMissing path
   give (unwrap_or bytes [])
 
--- E19 or E22
+-- Returns E19 or E22 for a line that is refused.
 abbrev pub of_line : LineRefusal → Refusal
 of_line BadDefine = refusals.Template
 of_line LongLine = refusals.Limit
 
--- the fault of a line that is refused, at its own place
+-- Returns the fault of a line that is refused, at its place in the template.
 abbrev pub fault_at : Path → ℕ × LineRefusal → FaultData
 fault_at path found = plain_fault path found.0 (of_line found.1)
 
--- the template's lines, up to the first one that is refused
+-- Returns the template's filled lines, up to the first one that is refused.
 unfoldable pub template_filling : Entries → Path → List ℕ → Filling
 template_filling entries path bytes = record {
   steps = template_steps entries path bytes;
@@ -45,18 +45,18 @@ template_filling entries path bytes = record {
   fault = option_map (fault_at path) (template_fault bytes);
 }
 
--- the whole text of an output that is made without template
+-- Returns the whole text of an output that is made without a template.
 unfoldable pub header_filling : Entries → Filling
 header_filling entries = record { steps = header_steps entries; stays = (header_stays entries).is; fault = None }
 
--- what an output is filled with, where the tree has these files
+-- Returns what fills an output, given these files of the tree.
 abbrev pub filling_in : Entries → Option Path → Files → Filling
 filling_in entries None files = header_filling entries
 filling_in entries (Some path) files = template_filling entries path (bytes_at files path)
 
 -- ---- code that reads a file of the tree as it writes
 
--- the call ended as the deed does that these files make, or after a beginning of what it tells
+-- Holds if the call ended as the deed for these files does, or stopped after a prefix of the deed's output steps.
 pub record CarriesOf {A B : Type 0} (view : B → A) (deed : Files → Deed A) (old : State) (result : Result B Stop) (new : State)
     : Type 0 where
   pub gives : (files : Files) (n : ℕ) → Holds old.tree files
@@ -65,7 +65,7 @@ pub record CarriesOf {A B : Type 0} (view : B → A) (deed : Files → Deed A) (
   pub device : Fails old result new
   pub same : new.lent ≡ old.lent
 
--- the stop of a call whose template was given up so
+-- Holds if a call stopped with the fault for which its template was given up.
 abbrev pub StopsSo : Path → PassStop → Stop → Type 0
 StopsSo path (pass_stops.Template line) s = IsRefusal s (plain_fault path line refusals.Template)
 StopsSo path (pass_stops.Limit line) s = IsRefusal s (plain_fault path line refusals.Limit)

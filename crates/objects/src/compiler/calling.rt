@@ -1,4 +1,4 @@
-//! A method of the compiler on its arguments.
+//! Calls methods of the compiler.
 ghost use Rattle.std.specs.Prelude.{◌≡◌, IfOk, OnOk, Some, map, option_map};
 ghost use Rattle.arguments.specs.Given.{text_or_none};
 ghost use Rattle.values.specs.Data.{integer, items_append, list, no_items, text};
@@ -40,7 +40,7 @@ fn number_value(
     Ok(integer_value(number))
 }
 
-// `sizeof(type)` and `alignment(type)`: -1 where the machine file says nothing.
+// Runs `sizeof(type)` or `alignment(type)`. The result is -1 if the machine file has none.
 fn number<T: Tree, O: Outputs>(
     caller: &mut Caller<'_, T, O>,
     method: &str,
@@ -54,7 +54,7 @@ fn number<T: Tree, O: Outputs>(
     Ok(Some(number))
 }
 
-// ---- the arguments that the compiler takes
+// ---- the arguments that the compiler supports
 
 fn text_of(value: &Value) -> &str
     ensures { result.now ≡ text_or_none (Some (data_of value.now)) }
@@ -65,7 +65,7 @@ fn text_of(value: &Value) -> &str
     }
 }
 
-// Asks whether the compiler takes a value as an argument.
+// Asks the machine file whether the compiler supports a value as an argument.
 fn ask_argument<T: Tree, O: Outputs>(
     caller: &mut Caller<'_, T, O>,
     value: &Value,
@@ -86,7 +86,7 @@ fn is_supported(alloc: Global, machine: &Machine, value: &Value) -> Result<bool,
     is_true(alloc, machine, "has_argument", &[text_of(value)])
 }
 
-// Puts a value behind others, where the compiler takes it. It is shared, and no byte is copied.
+// Appends a value if the compiler supports it. The value is shared, and no byte is copied.
 fn keep(
     alloc: Global,
     machine: &Machine,
@@ -102,7 +102,7 @@ fn keep(
     Ok(())
 }
 
-// Those of the values that the compiler takes.
+// Returns the values that the compiler supports.
 fn keep_supported<T: Tree, O: Outputs>(
     caller: &mut Caller<'_, T, O>,
     values: &[&Value],
@@ -118,7 +118,7 @@ fn keep_supported<T: Tree, O: Outputs>(
     Ok(taken)
 }
 
-// The list of some values.
+// Returns the list of some values, or `Refusal::Limit` if it is too large.
 fn list_of(alloc: Global, values: Vec<Value>) -> Result<Result<Value, Refusal>, AllocError>
     ensures { IfOk result (λ r. Answers (within (list (items_of values.items))) r) }
 {
@@ -128,7 +128,7 @@ fn list_of(alloc: Global, values: Vec<Value>) -> Result<Result<Value, Refusal>, 
     }
 }
 
-// `get_supported_arguments(flat texts..)`
+// Runs `get_supported_arguments(texts..)`.
 fn get_supported_arguments<T: Tree, O: Outputs>(
     caller: &mut Caller<'_, T, O>,
     arguments: &Arguments,
@@ -145,7 +145,7 @@ fn get_supported_arguments<T: Tree, O: Outputs>(
 
 // ---- calls
 
-// What a method does with arguments that its row has let through.
+// Runs a method with arguments that its row has accepted.
 fn act<T: Tree, O: Outputs>(
     caller: &mut Caller<'_, T, O>,
     method: CompilerMethod,
@@ -165,8 +165,9 @@ fn act<T: Tree, O: Outputs>(
     }
 }
 
-/// The method with a name on its arguments, which its row looks at first. The name is one for which
-/// [`has_compiler_method`](crate::compiler::has_compiler_method) is true; of any other it is E8.
+/// Checks the arguments of the method with a name by its row, and then runs it.
+///
+/// [`has_compiler_method`](crate::compiler::has_compiler_method) must be true for the name; any other name is refused with E8.
 pub fn compiler_method<T: Tree, O: Outputs>(
     caller: &mut Caller<'_, T, O>,
     name: &MethodName,

@@ -1,4 +1,4 @@
-//! The checks of the compiler, and `find_library`.
+//! Implements the checks of the compiler, and `find_library`.
 ghost use Rattle.std.specs.Prelude.{◌≡◌, IfOk, Some, map, option_and_then, option_map, string_bytes};
 ghost use Rattle.arguments.specs.Given.{argument};
 ghost use Rattle.values.specs.Data.{text_in};
@@ -18,7 +18,8 @@ use std::alloc::{AllocError, Global};
 use values::{Dependency, Object, Refusal, Text, Value};
 use world::{Caller, Stop};
 
-// Whether it is so. What is required and is not so is refused with a name, and what is not looked up is false.
+// Returns whether a check is true. A required check that is false is refused with E17 and a name. For a disabled requirement the result is
+// false.
 fn require_as<T: Tree, O: Outputs>(
     caller: &Caller<'_, T, O>,
     requirement: Requirement,
@@ -37,7 +38,7 @@ fn require_as<T: Tree, O: Outputs>(
     }
 }
 
-/// Asks for a check of these texts, beside which a call says what its arguments do.
+/// Asks the machine file for a check of these texts. The question carries what the arguments of the call say.
 pub fn ask_check<T: Tree, O: Outputs>(
     caller: &mut Caller<'_, T, O>,
     method: &str,
@@ -54,7 +55,7 @@ pub fn ask_check<T: Tree, O: Outputs>(
     caller.ask(question)
 }
 
-// Whether the check of a method of the texts of a call is true.
+// Returns whether the machine file answers true to the check of this method with the texts of a call.
 fn is_checked<T: Tree, O: Outputs>(
     caller: &mut Caller<'_, T, O>,
     method: &str,
@@ -68,7 +69,7 @@ fn is_checked<T: Tree, O: Outputs>(
     Ok(is_so)
 }
 
-// The answer of a check to its texts, or E17 where it has to be true and is not.
+// Returns the result of a check, and refuses with E17 a required one that is false.
 fn check_for<T: Tree, O: Outputs>(
     caller: &mut Caller<'_, T, O>,
     default: Requirement,
@@ -82,7 +83,7 @@ fn check_for<T: Tree, O: Outputs>(
     require_as(caller, requirement, is_so, arguments.text_at(0))
 }
 
-/// A check, as `has_function(name)`: false where it is not required and the machine file says nothing.
+/// Runs a check, such as `has_function(name)`. The result is false if it is not required and the machine file has no answer.
 pub fn check<T: Tree, O: Outputs>(
     caller: &mut Caller<'_, T, O>,
     method: &str,
@@ -104,7 +105,7 @@ fn library_argument(alloc: Global, name: &str) -> Result<String, AllocError>
     Ok(argument)
 }
 
-// The dependency that a library is.
+// Returns the dependency for a library.
 fn library(
     alloc: Global,
     is_so: bool,
@@ -132,7 +133,7 @@ fn dependency_value(
     }
 }
 
-// The text that the first argument is.
+// Returns the text of the first argument, if it is a text.
 fn first_text(arguments: &Arguments) -> Option<&Text>
     ensures { option_map (λ t. t.now) result ≡ option_and_then text_in (argument 0 (arguments_data arguments.now)) }
 {
@@ -155,8 +156,10 @@ fn library_named(
     }
 }
 
-/// `find_library(name)`: a dependency without a version, found with `-lNAME` for the linker where the check of that name is true. It is
-/// E17 where it is required, as it is where nothing else is said, and not found.
+/// Runs `find_library(name)`, which returns a dependency without a version. If the check of that name is true, the dependency is found, and
+/// its linker argument is `-lNAME`.
+///
+/// Refuses with E17 a library that is required and not found. A library is required by default.
 pub fn find_library<T: Tree, O: Outputs>(
     caller: &mut Caller<'_, T, O>,
     arguments: &Arguments,

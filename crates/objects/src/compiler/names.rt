@@ -1,4 +1,4 @@
-//! The names of the methods.
+//! Decides which names are methods of the compiler.
 ghost use Rattle.std.specs.Prelude.{◌≡◌};
 ghost use Rattle.objects.specs.CompilerMethods.{has_method};
 ghost use Rattle.objects.specs.CompilerNames.{is_left_out};
@@ -6,7 +6,7 @@ ghost use Rattle.objects.specs.CompilerNames.{is_left_out};
 use support::text_lists::is_among;
 use values::language_names::MethodName;
 
-/// Those that ask the machine.
+/// The methods that would have to run a compiler.
 const LEFT_OUT: [&str; 6] = [
     "compiles",
     "compute_int",
@@ -16,14 +16,14 @@ const LEFT_OUT: [&str; 6] = [
     "run",
 ];
 
-/// Whether the compiler has a method of a name that is not left out. It takes no memory.
+/// Returns whether the compiler has a supported method with this name. It allocates nothing.
 pub fn has_compiler_method(name: &MethodName) -> bool
     ensures { result ≡ has_method name.now }
 {
     name.of_compiler().is_some()
 }
 
-/// Whether a method of this name, which the manual gives to the compiler, is left out for good: E23.
+/// Returns whether the manual gives the compiler a method with this name that is not supported (E23).
 pub fn is_left_out_compiler_method(name: &str) -> bool
     ensures { result ≡ is_left_out name.now }
 {

@@ -1,4 +1,4 @@
-//! The rows of the methods: what each takes.
+//! Defines the rows of the methods of the compiler: the arguments that each takes.
 ghost use Rattle.std.specs.Prelude.{◌≡◌};
 ghost use Rattle.arguments.specs.RowView.{row_data};
 ghost use Rattle.objects.specs.CompilerRows.{row_of};
@@ -6,7 +6,7 @@ ghost use Rattle.objects.specs.CompilerRows.{row_of};
 use arguments::{Keyword, Kind, Row};
 use values::language_names::CompilerMethod;
 
-// What all take that ask the compiler.
+// The keywords of all methods that check something.
 const ASKING: &[Keyword] = &[
     Keyword::Optional("prefix", Kind::Any),
     Keyword::Optional("dependencies", Kind::Any),
@@ -17,7 +17,7 @@ const ASKING: &[Keyword] = &[
 
 const REQUIRED: &[Keyword] = &[Keyword::Optional("required", Kind::Requirement)];
 
-/// What a method takes.
+/// Returns the arguments that a method takes.
 pub fn row(method: CompilerMethod) -> Row
     ensures { row_data result ≡ row_of method }
 {

@@ -1,4 +1,4 @@
-//! What the machine file says in place of a compiler that is asked.
+//! Reads what the machine file answers in place of a compiler.
 ghost use Rattle.std.specs.Prelude.{◌≡◌, IfOk, map};
 ghost use Rattle.machine.specs.machine_file.Questions.{answer_to, check_topic};
 ghost use Rattle.machine.specs.machine_file.View.{machine_in};
@@ -7,7 +7,7 @@ ghost use Rattle.objects.specs.CompilerSaid.{is_true, number_of};
 use machine::machine_file::Machine;
 use std::alloc::{AllocError, Global};
 
-/// Whether a check is true.
+/// Returns whether a check is true. Without an answer it is false.
 pub fn is_true(
     alloc: Global,
     machine: &Machine,
@@ -22,7 +22,7 @@ pub fn is_true(
     }
 }
 
-/// The number of `sizeof` or `alignment`.
+/// Returns the number of `sizeof` or `alignment`, and -1 if the machine file has none.
 pub fn number_of(
     alloc: Global,
     machine: &Machine,

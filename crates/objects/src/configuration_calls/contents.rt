@@ -1,4 +1,4 @@
-//! Values of the language in configuration data.
+//! Converts values of the language to contents of configuration data, and back.
 ghost use Rattle.std.specs.Prelude.{◌≡◌, [], IfOk, OnOk, option_map};
 ghost use Rattle.std.specs.List.{list_all};
 ghost use Rattle.arguments.specs.Refused.{answer_data, said_data};
@@ -26,7 +26,7 @@ fn are_name_bytes(bytes: &[u8]) -> bool
     bytes.iter().all(|byte| is_name_byte(*byte))
 }
 
-/// Whether configuration data may have the name.
+/// Returns whether configuration data may have this name: letters, digits, `-` and `_`, at least one.
 #[tactic(auto, unfolding(template::specs::Line::is_name))]
 pub fn is_name(name: &str) -> bool
     ensures { result ≡ is_name name.now }
@@ -35,7 +35,7 @@ pub fn is_name(name: &str) -> bool
     !bytes.is_empty() && are_name_bytes(bytes)
 }
 
-/// What configuration data hold of a value: none where it is no text, integer or truth value.
+/// Returns the content for a value, and `None` for any but a text, an integer or a boolean.
 pub fn content_in(alloc: Global, value: &Value) -> Result<Option<ConfigValue>, AllocError>
     ensures { IfOk result (λ c. option_map content_of c ≡ content_in (data_of value.now)) }
 {
@@ -50,7 +50,7 @@ pub fn content_in(alloc: Global, value: &Value) -> Result<Option<ConfigValue>, A
     }
 }
 
-// What a name stands for. One that configuration data can't have breaks a rule, and one whose value they can't hold.
+// Returns the content of a name, or the refusal of a bad name or of a value of another type.
 fn content_at(
     alloc: Global,
     name: &str,
@@ -67,7 +67,7 @@ fn content_at(
     }
 }
 
-// Sets a value in data of which none are frozen: only memory can be wanting.
+// Sets a value in data that is not frozen. It can only run out of memory.
 fn set(held: &mut ConfigData, name: &str, content: ConfigValue) -> Result<(), AllocError>
     ensures { OnOk result (held.new ≡ record held.old { entries = with_value held.old.entries name.now (content_of content) }) }
 {
@@ -77,7 +77,7 @@ fn set(held: &mut ConfigData, name: &str, content: ConfigValue) -> Result<(), Al
     }
 }
 
-// Data with these values at these names, up to the first that can't be set.
+// Returns data with these values at these names, or the refusal of the first one that cannot be set.
 fn all_set(
     alloc: Global,
     names: &[Text],
@@ -98,7 +98,7 @@ fn all_set(
     Ok(Ok(held))
 }
 
-/// A dictionary as configuration data. A key that is no name of such breaks a rule, and a value that is no text, integer or truth value.
+/// Returns a dictionary as configuration data, or the refusal of a key that is no name, or of a value that is no text, integer or boolean.
 pub fn entries_in(
     alloc: Global,
     dictionary: &Dictionary,
@@ -120,14 +120,14 @@ fn unquoted_text(text: &str) -> &str
     }
 }
 
-/// What becomes of the quotes at the ends of a text that is asked for: `get` keeps them, and `get_unquoted` cuts them.
+/// Whether quotes at the ends of a text are kept, as by `get`, or removed, as by `get_unquoted`.
 #[derive(Clone, Copy)]
 pub enum Quotes {
     Kept,
     Cut,
 }
 
-// A text as it is given.
+// Returns a text with its quotes kept or removed.
 fn given_text(quotes: Quotes, text: &str) -> &str
     ensures { result.now ≡ given_text quotes text.now }
 {
@@ -137,7 +137,7 @@ fn given_text(quotes: Quotes, text: &str) -> &str
     }
 }
 
-// The value, or `Refusal::Limit` for a text past the limit.
+// Returns the value of a content, or `Refusal::Limit` for a text that is too long.
 fn give(
     alloc: Global,
     quotes: Quotes,
@@ -168,7 +168,7 @@ fn fallback_given(
     }
 }
 
-/// What a name stands for, else the fallback, or `Refusal::Absent` where there is neither.
+/// Returns the value of a name, otherwise the fallback, and `Refusal::Absent` if there is neither.
 pub fn take_or(
     alloc: Global,
     quotes: Quotes,

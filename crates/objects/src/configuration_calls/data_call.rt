@@ -1,4 +1,4 @@
-//! `configuration_data`.
+//! Implements `configuration_data`.
 ghost use Rattle.std.specs.Prelude.{◌≡◌, IfOk, option_map};
 ghost use Rattle.arguments.specs.Refused.{answer_data};
 ghost use Rattle.world.specs.Prelude.{Does, arguments_data, data_of};
@@ -34,7 +34,7 @@ fn data_given(
     }
 }
 
-// The data that the arguments describe.
+// Returns the data that the arguments describe, and refuses bad ones with E9.
 fn said_data<T: Tree, O: Outputs>(
     caller: &Caller<'_, T, O>,
     arguments: &Arguments,
@@ -45,7 +45,7 @@ fn said_data<T: Tree, O: Outputs>(
     caller.pass(values)
 }
 
-/// `configuration_data(dictionary)`: E9 where a key is no name, or a value no text, integer or truth value.
+/// Runs `configuration_data(dictionary)`. Refuses with E9 a key that is no name, and a value that is no text, integer or boolean.
 pub fn configuration_data<T: Tree, O: Outputs>(
     caller: &mut Caller<'_, T, O>,
     arguments: &Arguments,

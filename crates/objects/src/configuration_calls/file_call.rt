@@ -1,4 +1,4 @@
-//! `configure_file`: a file that is made while the definition files are read.
+//! Implements `configure_file`, which makes a file while the build files are evaluated.
 ghost use Rattle.std.specs.Prelude.{◌≡◌, IfOk, Some, option_map, string_bytes};
 ghost use Rattle.support.specs.paths.Paths.{path_in};
 ghost use Rattle.build.specs.project.View.{install_view};
@@ -21,7 +21,7 @@ use support::paths::{is_file_name, path_below, path_in};
 use values::{Object, Text, Value};
 use world::{Caller, Stop, Store};
 
-// Where an output goes that is installed.
+// Returns where an output is installed.
 fn install_at(
     alloc: Global,
     store: &Store,
@@ -38,7 +38,7 @@ fn install_at(
     })
 }
 
-// Notes where the output goes, where it is installed.
+// Records that the output is installed if there is an `install_dir`.
 fn install<T: Tree, O: Outputs>(
     caller: &mut Caller<'_, T, O>,
     path: &str,
@@ -56,7 +56,7 @@ fn install<T: Tree, O: Outputs>(
     }
 }
 
-// Lets no call change the data from now on.
+// Freezes configuration data. A dictionary has nothing to freeze.
 fn freeze<T: Tree, O: Outputs>(
     caller: &mut Caller<'_, T, O>,
     number: Option<usize>,
@@ -69,7 +69,7 @@ fn freeze<T: Tree, O: Outputs>(
     }
 }
 
-// What is done once the path of an output is taken: gives it as a text, and freezes the data.
+// Runs after the path of an output is reserved: returns the path as a text, and freezes the data.
 fn prepare<T: Tree, O: Outputs>(
     caller: &mut Caller<'_, T, O>,
     folder: &str,
@@ -86,7 +86,7 @@ fn prepare<T: Tree, O: Outputs>(
     Ok(text)
 }
 
-// Makes the output, with a template or without one, and gives its path.
+// Makes the output, with a template or without one, and returns its path.
 fn output_made<T: Tree, O: Outputs>(
     caller: &mut Caller<'_, T, O>,
     arguments: &Arguments,
@@ -106,7 +106,7 @@ fn output_made<T: Tree, O: Outputs>(
     Ok(path)
 }
 
-// Makes the output, and gives it as a file.
+// Makes the output, and returns it as a file.
 fn make<T: Tree, O: Outputs>(
     caller: &mut Caller<'_, T, O>,
     arguments: &Arguments,
@@ -157,8 +157,8 @@ fn configure<T: Tree, O: Outputs>(
     }
 }
 
-/// `configure_file()`: E9, E14, E21, E11 in this order; E19 or E22 at the template's first line that is refused, when the lines before it
-/// are written.
+/// Runs `configure_file()`. Refuses with E9, E14, E21, E11 in this order. Refuses with E19 or E22 at the first bad line of the template,
+/// after the lines before it are written.
 pub fn configure_file<T: Tree, O: Outputs>(
     caller: &mut Caller<'_, T, O>,
     arguments: &Arguments,

@@ -1,4 +1,4 @@
-//! The methods of configuration data: the type `cfg_data` of the page "Reference manual".
+//! Implements the methods of configuration data: the type `cfg_data` of the page "Reference manual".
 ghost use Rattle.std.specs.Prelude.{◌≡◌, IfOk, map, option_and_then, option_map};
 ghost use Rattle.arguments.specs.Given.{argument};
 ghost use Rattle.template.specs.Config.{names, value_of};
@@ -22,14 +22,14 @@ use values::language_names::{ConfigurationMethod, MethodName};
 use values::{Object, Value};
 use world::{Caller, Stop, Store};
 
-/// Whether configuration data have a method of a name. It takes no memory.
+/// Returns whether configuration data has a method with this name. It allocates nothing.
 pub fn has_configuration_method(name: &MethodName) -> bool
     ensures { result ≡ has_method name.now }
 {
     name.of_configuration().is_some()
 }
 
-// The name that a call is given first.
+// Returns the first argument of a call, and refuses with E9 one that is no name of configuration data.
 fn name_given<'a, T: Tree, O: Outputs>(
     caller: &Caller<'_, T, O>,
     arguments: &'a Arguments,
@@ -41,7 +41,7 @@ fn name_given<'a, T: Tree, O: Outputs>(
     Ok(name)
 }
 
-// What a name stands for in the data with a number.
+// Returns the content of a name in the data with a number.
 fn content_at<'s>(store: &'s Store, number: usize, name: &str) -> Option<&'s ConfigValue>
     ensures { option_map (λ c. content_of c.now) result ≡ value_of (entries_of (world_of store.now).facts number) name.now }
 {
@@ -51,7 +51,7 @@ fn content_at<'s>(store: &'s Store, number: usize, name: &str) -> Option<&'s Con
     }
 }
 
-// The names in the data with a number.
+// Returns the names in the data with a number.
 fn names_at(alloc: Global, store: &Store, number: usize) -> Result<Vec<&str>, AllocError>
     ensures { IfOk result (λ v. map (λ n. n.now) v.items ≡ names (entries_of (world_of store.now).facts number)) }
 {
@@ -100,7 +100,7 @@ fn keys<T: Tree, O: Outputs>(
     Ok(Some(value))
 }
 
-/// The number of the configuration data that a value is.
+/// Returns the number of the configuration data of a value, and `None` for any other value.
 pub fn number_in(value: &Value) -> Option<usize>
     ensures { result ≡ number_in (data_of value.now) }
 {
@@ -122,7 +122,7 @@ fn first_number(arguments: &Arguments) -> Option<usize>
     }
 }
 
-// The number of the data that a call is given.
+// Returns the number of the data given to a call.
 fn other_given<T: Tree, O: Outputs>(
     caller: &Caller<'_, T, O>,
     arguments: &Arguments,
@@ -154,7 +154,7 @@ fn content_or_none(alloc: Global, value: Option<&Value>) -> Result<Option<Config
     }
 }
 
-// What a call gives a name.
+// Returns the value that a call sets.
 fn content_given<T: Tree, O: Outputs>(
     caller: &Caller<'_, T, O>,
     arguments: &Arguments,
@@ -209,7 +209,7 @@ fn set_text_quoted<T: Tree, O: Outputs>(
     Ok(None)
 }
 
-// What a method does with arguments that its row has let through.
+// Runs a method with arguments that its row has accepted.
 fn act<T: Tree, O: Outputs>(
     caller: &mut Caller<'_, T, O>,
     method: ConfigurationMethod,
@@ -230,8 +230,9 @@ fn act<T: Tree, O: Outputs>(
     }
 }
 
-/// A method of the configuration data with a number on its arguments, which its row looks at first: it gives a value, or nothing. The
-/// name is one for which [`has_configuration_method`] is true; of any other it is E8.
+/// Checks the arguments of a method of the data with a number by its row, and then runs it. It returns a value or `None`.
+///
+/// [`has_configuration_method`] must be true for the name; any other name is refused with E8.
 pub fn configuration_method<T: Tree, O: Outputs>(
     caller: &mut Caller<'_, T, O>,
     number: usize,

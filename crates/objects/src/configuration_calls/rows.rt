@@ -1,4 +1,4 @@
-//! The rows of the functions and of the methods: what each takes.
+//! Defines the rows of the functions and of the methods: the arguments that each takes.
 ghost use Rattle.std.specs.Prelude.{◌≡◌};
 ghost use Rattle.arguments.specs.RowView.{row_data};
 ghost use Rattle.objects.specs.configuration_calls.Rows.{configuration_data_row, configure_file_row, other_format_row, row_of};
@@ -17,28 +17,28 @@ const FILE: &[Keyword] = &[
 
 const DESCRIBED: &[Keyword] = &[Keyword::Optional("description", Kind::Any)];
 
-/// What `configuration_data` takes.
+/// Returns the row of `configuration_data`.
 pub fn configuration_data_row() -> Row
     ensures { row_data result ≡ configuration_data_row }
 {
     Row::of(&[Kind::Dictionary], 0, &[])
 }
 
-/// What `configure_file` takes, where it is given no `format` or the format `'meson'`.
+/// Returns the row of `configure_file` without a `format`, or with the format `'meson'`.
 pub fn configure_file_row() -> Row
     ensures { row_data result ≡ configure_file_row }
 {
     Row::of(&[], 0, &[FILE]).leaving_out(&["command", "copy"])
 }
 
-/// What `configure_file` takes with another `format`, which is left out.
+/// Returns the row of `configure_file` with another `format`, which is not supported.
 pub fn other_format_row() -> Row
     ensures { row_data result ≡ other_format_row }
 {
     Row::of(&[], 0, &[FILE]).leaving_out(&["command", "copy", "format"])
 }
 
-/// What a method takes.
+/// Returns the row of a method.
 pub fn row_of(method: ConfigurationMethod) -> Row
     ensures { row_data result ≡ row_of method }
 {

@@ -1,4 +1,4 @@
-//! What the arguments of `configure_file` say.
+//! Reads the arguments of `configure_file`.
 ghost use Rattle.std.specs.Prelude.{◌≡◌, IfOk, codes, map, option_map, string_bytes};
 ghost use Rattle.arguments.specs.Refused.{said_data};
 ghost use Rattle.arguments.specs.Said.{found};
@@ -20,15 +20,16 @@ use template::ConfigData;
 use values::{Object, Value};
 use world::{Caller, Here, Stop, Store};
 
-/// Values that a call is given, and the number of the configuration data that have them, where they are no dictionary's.
+/// The values given to a call, and the number of the configuration data that has them. A dictionary has no number.
 #[derive(Drop)]
 pub struct Given {
     pub values: ConfigData,
     pub number: Option<usize>,
 }
 
-/// Whether `configure_file` is given no `format` or the format `'meson'`. With another the call is E23, which is looked for before E9: its
-/// row is [`crate::configuration_calls::other_format_row`].
+/// Returns whether `configure_file` has no `format` or the format `'meson'`.
+///
+/// Any other format is refused with E23. That is checked before E9, by the row [`crate::configuration_calls::other_format_row`].
 pub fn has_meson_format(arguments: &Arguments) -> bool
     ensures { result ≡ has_meson_format (arguments_data arguments.now) }
 {
@@ -39,7 +40,7 @@ pub fn has_meson_format(arguments: &Arguments) -> bool
     }
 }
 
-// The path of a file of the tree.
+// Returns the path of a file object in the source directory, and `None` for any other object.
 fn tree_file(alloc: Global, object: &Object) -> Result<Option<String>, AllocError>
     ensures { IfOk result (λ p. option_map string_bytes p ≡ tree_file object.now) }
 {
@@ -55,7 +56,7 @@ fn tree_file(alloc: Global, object: &Object) -> Result<Option<String>, AllocErro
     }
 }
 
-// The path of a text that names a file of the tree.
+// Returns the path in the source directory that a text names, or its refusal.
 fn text_named(here: &Here<'_>, text: &str) -> Result<Result<String, Refused>, AllocError>
     ensures { IfOk result (λ p. said_data string_bytes p
         ≡ file_named (here_view here.now).source_root (here_view here.now).folder (text_data text.now)) }
@@ -66,7 +67,7 @@ fn text_named(here: &Here<'_>, text: &str) -> Result<Result<String, Refused>, Al
     }
 }
 
-// The path of an object that is a file of the tree.
+// Returns the path of a file object in the source directory, or the refusal of any other object.
 fn object_named(alloc: Global, object: &Object) -> Result<Result<String, Refused>, AllocError>
     ensures { IfOk result (λ p. said_data string_bytes p ≡ found (tree_file object.now) TakesTreeFile (codes "input")) }
 {
@@ -76,7 +77,7 @@ fn object_named(alloc: Global, object: &Object) -> Result<Result<String, Refused
     }
 }
 
-// The file of the tree that a value names in the present definition file.
+// Returns the path in the source directory that a value names in the present build file, or its refusal.
 fn file_named(here: &Here<'_>, value: &Value) -> Result<Result<String, Refused>, AllocError>
     ensures { IfOk result (λ p. said_data string_bytes p
         ≡ file_named (here_view here.now).source_root (here_view here.now).folder (data_of value.now)) }
@@ -88,7 +89,7 @@ fn file_named(here: &Here<'_>, value: &Value) -> Result<Result<String, Refused>,
     }
 }
 
-// That of just one value.
+// Returns the path that exactly one value names, or the refusal.
 fn one_file(here: &Here<'_>, values: &[&Value]) -> Result<Result<String, Refused>, AllocError>
     ensures { IfOk result (λ p. said_data string_bytes p
         ≡ one_file (here_view here.now).source_root (here_view here.now).folder (map (λ v. data_of v.now) values.now)) }
@@ -99,7 +100,7 @@ fn one_file(here: &Here<'_>, values: &[&Value]) -> Result<Result<String, Refused
     }
 }
 
-// The path that the keyword `input` names, which may be left out.
+// Returns the path that the keyword `input` names, which is optional, or its refusal.
 fn input_named(
     here: &Here<'_>,
     arguments: &Arguments,
@@ -117,7 +118,7 @@ fn input_named(
     }
 }
 
-/// The path of the template, where one is given.
+/// Returns the path of the template, if there is one.
 pub fn input_given<T: Tree, O: Outputs>(
     caller: &Caller<'_, T, O>,
     arguments: &Arguments,
@@ -128,7 +129,7 @@ pub fn input_given<T: Tree, O: Outputs>(
     caller.pass(input)
 }
 
-// The values of a dictionary.
+// Returns the values of a dictionary, or its refusal.
 fn dictionary_given(alloc: Global, value: &Value) -> Result<Result<Given, Refused>, AllocError>
     ensures { IfOk result (λ g. said_data given_view g ≡ dictionary_given (data_of value.now)) }
 {
@@ -144,7 +145,7 @@ fn dictionary_given(alloc: Global, value: &Value) -> Result<Result<Given, Refuse
     }
 }
 
-// The values of configuration data or of a dictionary.
+// Returns the values of configuration data or of a dictionary, or the refusal of any other value.
 fn read_given(
     alloc: Global,
     store: &Store,
@@ -161,7 +162,7 @@ fn read_given(
     }
 }
 
-// Those of the keyword `configuration`.
+// Returns the values of the keyword `configuration`, or their refusal.
 fn configuration_given(
     alloc: Global,
     store: &Store,
@@ -176,7 +177,7 @@ fn configuration_given(
     }
 }
 
-/// The values of the keyword `configuration`.
+/// Returns the values of the keyword `configuration`, and refuses bad ones with E9.
 pub fn values_given<T: Tree, O: Outputs>(
     caller: &Caller<'_, T, O>,
     arguments: &Arguments,

@@ -1,4 +1,4 @@
-//! What `configure_file` writes into its output.
+//! Writes the output of `configure_file`.
 ghost use Rattle.std.specs.Prelude.{◌≡◌, IfOk, OnOk, length, option_map};
 ghost use Rattle.support.specs.Faults.{plain_fault};
 ghost use Rattle.ports.specs.Outputs.{IsOpen, closing, opening};
@@ -50,7 +50,7 @@ fn fill_header<T: Tree, O: Outputs>(
     Ok(())
 }
 
-// The stop of a line of a template that is refused.
+// Returns the stop for a line of a template that is refused.
 fn refuse_line(alloc: Global, path: &str, line: u64, refusal: Refusal) -> Stop
     ensures { IsRefusal result (plain_fault path.now line refusal) }
 {
@@ -60,7 +60,7 @@ fn refuse_line(alloc: Global, path: &str, line: u64, refusal: Refusal) -> Stop
     }
 }
 
-// Why a call stops whose template was given up.
+// Returns the stop of a call whose template was given up.
 fn stop_for(alloc: Global, path: &str, stop: PassStop) -> Stop
     ensures { StopsSo path.now stop result }
 {
@@ -106,14 +106,14 @@ fn write_header<T: Tree, O: Outputs>(
     close(caller)
 }
 
-// The line that templates are read into.
+// Returns the buffer for one line of a template.
 fn empty_line(alloc: Global) -> Result<Vec<u8>, AllocError>
     ensures { IfOk result (λ line. length line.items ≡ LINE_LIMIT) }
 {
     vec![in alloc; 0u8; LINE_LIMIT]
 }
 
-// Writes an output with a template. Where its line can't be had the output is not opened.
+// Writes an output with a template. The output is not opened if the line buffer cannot be allocated.
 fn write_template<T: Tree, O: Outputs>(
     caller: &mut Caller<'_, T, O>,
     path: &str,

@@ -1,4 +1,4 @@
--- The methods of booleans: the type `bool` of the page "Reference manual".
+-- Defines the methods of booleans: the type `bool` of the page "Reference manual".
 use Rattle.std.specs.Prelude.{ℕ, pos, Bool, List, [], ◌∷◌, codes, Result, Ok, Err}
 use Rattle.std.specs.Prelude.{if◌then◌else◌}
 use Rattle.values.specs.declared.refusal.Refusal.{Refusal}
@@ -10,21 +10,23 @@ use Rattle.operations.specs.methods.Steps.{◌>>=◌, called}
 use Rattle.operations.specs.methods.Arguments.{no_arguments}
 use Rattle.values.specs.language_names.ValueMethods.{boolean_method_named}
 
--- 1 or 0
+-- Returns 1 or 0.
 abbrev pub to_int : Bool → List Data → Result Data Refusal
 to_int b arguments = do
   _ ← no_arguments arguments
   Ok (integer (if b then pos 1 else pos 0))
 
--- `true` or `false`, or the first or second of two texts
+-- Returns `true` or `false`, or the first or second of two texts.
 abbrev pub to_string : Bool → List Data → Result Data Refusal
 to_string b [] = Ok (text (if b then codes "true" else codes "false"))
 to_string b (text first ∷ text second ∷ []) = Ok (text (if b then first else second))
 to_string b arguments = Err refusal.Arguments
 
+-- Returns the result of a method of a boolean.
 abbrev pub call : BooleanMethod → Bool → List Data → Result Data Refusal
 call ToInt b arguments = to_int b arguments
 call ToString b arguments = to_string b arguments
 
+-- Returns the result of the method of a boolean with this name.
 abbrev pub answer : Bool → List ℕ → List Data → Result Data Refusal
 answer b name arguments = called (boolean_method_named name) (λ m. call m b arguments)

@@ -1,4 +1,4 @@
--- The methods of dictionaries: the type `dict` of the page "Reference manual".
+-- Defines the methods of dictionaries: the type `dict` of the page "Reference manual".
 use Rattle.std.specs.Prelude.{ℕ, List, [], ◌∷◌, is_some, Result, Ok}
 use Rattle.std.specs.Ordering.{nat_cmp}
 use Rattle.std.specs.Cmp.Lexicographic.{slice_cmp}
@@ -14,34 +14,37 @@ use Rattle.operations.specs.methods.Lists.{found_or}
 use Rattle.operations.specs.methods.TextLists.{texts}
 use Rattle.values.specs.language_names.ValueMethods.{dictionary_method_named}
 
--- the value at a key
+-- Returns the value of a key, and otherwise the fallback.
 abbrev pub get : Entries → List Data → Result Data Refusal
 get es arguments = do
   asked ← key_and_fallback arguments
   k ← text_argument asked.0
   found_or (find k es) asked.1
 
+-- Returns whether a key is present.
 abbrev pub has_key : Entries → List Data → Result Data Refusal
 has_key es arguments = do
   d ← one_argument arguments
   k ← text_argument d
   Ok (boolean (is_some (find k es)))
 
--- ordered keys and further ones, each at its place in the order of bytes
+-- Returns sorted keys with further ones inserted in the order of bytes.
 abbrev pub sorted_with : List (List ℕ) → List (List ℕ) → List (List ℕ)
 sorted_with sorted [] = sorted
 sorted_with sorted (k ∷ ks) = sorted_with (insert_key (slice_cmp nat_cmp) sorted k) ks
 
--- the keys, in the order of their bytes
+-- Returns the keys, sorted by bytes.
 abbrev pub keys : Entries → List Data → Result Data Refusal
 keys es arguments = do
   _ ← no_arguments arguments
   within (list (texts (sorted_with [] (keys_in es))))
 
+-- Returns the result of a method of a dictionary.
 abbrev pub call : DictionaryMethod → Entries → List Data → Result Data Refusal
 call Get es arguments = get es arguments
 call HasKey es arguments = has_key es arguments
 call Keys es arguments = keys es arguments
 
+-- Returns the result of the method of a dictionary with this name.
 abbrev pub answer : Entries → List ℕ → List Data → Result Data Refusal
 answer es name arguments = called (dictionary_method_named name) (λ m. call m es arguments)

@@ -1,4 +1,4 @@
--- The methods of integers: the type `int` of the page "Reference manual".
+-- Defines the methods of integers: the type `int` of the page "Reference manual".
 use Rattle.std.specs.Prelude.{ℕ, ℤ, ◌%◌, ◌==◌, not, unsigned_abs, List, Result, Ok}
 use Rattle.std.specs.Fmt.{signed_decimal}
 use Rattle.values.specs.declared.refusal.Refusal.{Refusal}
@@ -10,26 +10,30 @@ use Rattle.operations.specs.methods.Steps.{◌>>=◌, called}
 use Rattle.operations.specs.methods.Arguments.{no_arguments}
 use Rattle.values.specs.language_names.ValueMethods.{integer_method_named}
 
--- an integer is even where its distance from zero is
+-- Returns whether an integer is even, which its absolute value decides.
 abbrev pub is_even : ℤ → List Data → Result Data Refusal
 is_even z arguments = do
   _ ← no_arguments arguments
   Ok (boolean (unsigned_abs z % 2 == 0))
 
+-- Returns whether an integer is odd, which its absolute value decides.
 abbrev pub is_odd : ℤ → List Data → Result Data Refusal
 is_odd z arguments = do
   _ ← no_arguments arguments
   Ok (boolean (not (unsigned_abs z % 2 == 0)))
 
+-- Returns an integer in decimal.
 abbrev pub to_string : ℤ → List Data → Result Data Refusal
 to_string z arguments = do
   _ ← no_arguments arguments
   within (text (signed_decimal z))
 
+-- Returns the result of a method of an integer.
 abbrev pub call : IntegerMethod → ℤ → List Data → Result Data Refusal
 call IsEven z arguments = is_even z arguments
 call IsOdd z arguments = is_odd z arguments
 call ToString z arguments = to_string z arguments
 
+-- Returns the result of the method of an integer with this name.
 abbrev pub answer : ℤ → List ℕ → List Data → Result Data Refusal
 answer z name arguments = called (integer_method_named name) (λ m. call m z arguments)

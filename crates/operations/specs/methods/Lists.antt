@@ -1,4 +1,4 @@
--- The methods of lists: the type `list` of the page "Reference manual".
+-- Defines the methods of lists: the type `list` of the page "Reference manual".
 use Rattle.std.specs.Prelude.{ℕ, pos, Bool, false, ◌||◌, List, Option, Some, None, Result, Ok, Err}
 use Rattle.values.specs.declared.refusal.Refusal.{Refusal}
 use Rattle.values.specs.declared.refusal.Refusal.TheVariants as refusal
@@ -11,7 +11,7 @@ use Rattle.operations.specs.methods.Steps.{◌>>=◌, called}
 use Rattle.operations.specs.methods.Arguments.{no_arguments, one_argument, key_and_fallback, integer_argument}
 use Rattle.values.specs.language_names.ValueMethods.{list_method_named}
 
--- whether a value is an item, or stands in an item that is a list, at any depth
+-- Holds if a value is an item, or is in an item that is a list, at any depth.
 abbrev mutual
   pub stands_in : Data → Items → Bool
   stands_in d no_items = false
@@ -25,33 +25,37 @@ abbrev mutual
   stands_inside d (dictionary es) = false
   stands_inside d (object o) = false
 
+-- Returns whether a value is in a list, at any depth of lists.
 abbrev pub contains : Items → List Data → Result Data Refusal
 contains ds arguments = do
   d ← one_argument arguments
   Ok (boolean (stands_in d ds))
 
--- what was found, or else a value in its place
+-- Returns what was found, otherwise the fallback, and the refusal if there is neither.
 abbrev pub found_or : Option Data → Option Data → Result Data Refusal
 found_or (Some d) fallback = Ok d
 found_or None (Some fallback) = Ok fallback
 found_or None None = Err refusal.Absent
 
--- the item that an index means, as between brackets
+-- Returns the item at an index, which means the same as in brackets, and otherwise the fallback.
 abbrev pub get : Items → List Data → Result Data Refusal
 get ds arguments = do
   asked ← key_and_fallback arguments
   i ← integer_argument asked.0
   found_or (indexed_item ds i) asked.1
 
+-- Returns the number of items.
 abbrev pub len : Items → List Data → Result Data Refusal
 len ds arguments = do
   _ ← no_arguments arguments
   Ok (integer (pos (count ds)))
 
+-- Returns the result of a method of a list.
 abbrev pub call : ListMethod → Items → List Data → Result Data Refusal
 call Contains ds arguments = contains ds arguments
 call Get ds arguments = get ds arguments
 call Length ds arguments = len ds arguments
 
+-- Returns the result of the method of a list with this name.
 abbrev pub answer : Items → List ℕ → List Data → Result Data Refusal
 answer ds name arguments = called (list_method_named name) (λ m. call m ds arguments)

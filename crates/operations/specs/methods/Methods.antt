@@ -1,4 +1,4 @@
--- The methods of values that are no objects, by the type of the receiver.
+-- Defines the methods of values other than objects, by the type of the receiver.
 use Rattle.std.specs.Prelude.{ℕ, Bool, false, List, is_some, Result, Err}
 use Rattle.values.specs.declared.refusal.Refusal.{Refusal}
 use Rattle.values.specs.declared.refusal.Refusal.TheVariants as refusal
@@ -11,7 +11,7 @@ use Rattle.operations.specs.methods.TextMethods as texts
 use Rattle.operations.specs.methods.Lists as lists
 use Rattle.operations.specs.methods.Dictionaries as dictionaries
 
--- what a method of a receiver gives, or why it gives nothing: first its name is looked at, then its arguments
+-- Returns the result of a method of a receiver, or its refusal. The name is checked first, then the arguments.
 abbrev pub answer : Data → List ℕ → List Data → Result Data Refusal
 answer (boolean b) name arguments = booleans.answer b name arguments
 answer (integer z) name arguments = integers.answer z name arguments
@@ -20,7 +20,7 @@ answer (list ds) name arguments = lists.answer ds name arguments
 answer (dictionary es) name arguments = dictionaries.answer es name arguments
 answer (object o) name arguments = Err refusal.UnknownMethod
 
--- whether the type of a receiver has a method of a name
+-- Holds if the type of a receiver has a method with this name.
 abbrev pub has_name : Data → List ℕ → Bool
 has_name (boolean b) name = is_some (boolean_method_named name)
 has_name (integer z) name = is_some (integer_method_named name)

@@ -1,4 +1,4 @@
--- What each method takes, in words, and of which values.
+-- Describes in words what each method takes.
 use Rattle.std.specs.Prelude.{ℕ, List, [], Option, Some, None, codes}
 use Rattle.values.specs.Data.{Data, boolean, integer, text, list, dictionary, object}
 use Rattle.values.specs.language_names.ValueMethods.{boolean_method_named, dictionary_method_named, integer_method_named, list_method_named}
@@ -14,32 +14,38 @@ use Rattle.values.specs.declared.language_names.value_methods.DictionaryMethod.T
 use Rattle.values.specs.declared.language_names.value_methods.TextMethod.{TextMethod}
 use Rattle.values.specs.declared.language_names.value_methods.TextMethod.TheVariants as of_text
 
--- what many methods take
+-- The words that many methods share.
 abbrev pub nothing : List ℕ
 nothing = codes "no arguments"
 
+-- The words for a method that takes one text.
 abbrev pub one_text : List ℕ
 one_text = codes "one text"
 
+-- Describes what a method of a boolean takes.
 abbrev pub boolean_takes : BooleanMethod → List ℕ
 boolean_takes of_boolean.ToInt = nothing
 boolean_takes of_boolean.ToString = codes "no arguments, or two texts"
 
+-- Describes what a method of an integer takes.
 abbrev pub integer_takes : IntegerMethod → List ℕ
 integer_takes of_integer.IsEven = nothing
 integer_takes of_integer.IsOdd = nothing
 integer_takes of_integer.ToString = nothing
 
+-- Describes what a method of a list takes.
 abbrev pub list_takes : ListMethod → List ℕ
 list_takes of_list.Contains = codes "one value"
 list_takes of_list.Get = codes "an integer, or an integer and a value in its place"
 list_takes of_list.Length = nothing
 
+-- Describes what a method of a dictionary takes.
 abbrev pub dictionary_takes : DictionaryMethod → List ℕ
 dictionary_takes of_dictionary.Get = codes "a text, or a text and a value in its place"
 dictionary_takes of_dictionary.HasKey = one_text
 dictionary_takes of_dictionary.Keys = nothing
 
+-- Describes what a method of a text takes.
 abbrev pub text_takes : TextMethod → List ℕ
 text_takes of_text.Contains = one_text
 text_takes of_text.StartsWith = one_text
@@ -57,12 +63,12 @@ text_takes of_text.ToUpper = nothing
 text_takes of_text.Underscorify = nothing
 text_takes of_text.VersionCompare = one_text
 
--- the words of a method, where there is one
+-- Returns the words for a method, and nothing if there is no method.
 abbrev pub words_of : {A : Type 0} → (A → List ℕ) → Option A → List ℕ
 words_of words (Some method) = words method
 words_of words None = []
 
--- what the method of a name takes, by the type of the receiver
+-- Returns the words for the method with this name, by the type of the receiver.
 abbrev pub takes_words : Data → List ℕ → List ℕ
 takes_words (boolean b) name = words_of boolean_takes (boolean_method_named name)
 takes_words (integer z) name = words_of integer_takes (integer_method_named name)

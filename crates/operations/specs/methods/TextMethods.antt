@@ -1,4 +1,4 @@
--- The methods of texts: the type `str` of the page "Reference manual".
+-- Defines the methods of texts: the type `str` of the page "Reference manual".
 use Rattle.std.specs.Prelude.{ℕ, List, [], map, nat_eq, Result, Ok}
 use Rattle.std.specs.Char.{to_ascii_lowercase, to_ascii_uppercase}
 use Rattle.std.specs.List as lists
@@ -22,44 +22,44 @@ use Rattle.operations.specs.methods.Formatted.{formatted_text}
 use Rattle.operations.specs.operators.TextLists.{text_list}
 use Rattle.values.specs.language_names.ValueMethods.{text_method_named}
 
--- `contains`
+-- Defines `contains`.
 abbrev pub contains : List ℕ → List Data → Result Data Refusal
 contains t arguments = do
   s ← one_text arguments
   Ok (boolean (search.contains t s))
 
--- `startswith`
+-- Defines `startswith`.
 abbrev pub starts_with : List ℕ → List Data → Result Data Refusal
 starts_with t arguments = do
   s ← one_text arguments
   Ok (boolean (lists.starts_with nat_eq t s))
 
--- `endswith`
+-- Defines `endswith`.
 abbrev pub ends_with : List ℕ → List Data → Result Data Refusal
 ends_with t arguments = do
   s ← one_text arguments
   Ok (boolean (lists.ends_with nat_eq t s))
 
--- `format`
+-- Defines `format`.
 abbrev pub format : List ℕ → List Data → Result Data Refusal
 format t arguments = do
   s ← formatted_text t arguments
   within (text s)
 
--- `join`: the text stands between each two texts of the arguments
+-- Defines `join`: the receiver separates the texts of the arguments.
 abbrev pub join : List ℕ → List Data → Result Data Refusal
 join t arguments = do
   ts ← flat_texts arguments
   within (text (joined t ts))
 
--- `replace`
+-- Defines `replace`.
 abbrev pub replace : List ℕ → List Data → Result Data Refusal
 replace t arguments = do
   both ← two_texts arguments
   s ← replaced t both.0 both.1
   within (text s)
 
--- `split`: without an argument at white space
+-- Defines `split`, which splits at white space if it has no argument.
 abbrev pub split : List ℕ → List Data → Result Data Refusal
 split t [] = do
   found ← pieces.within_items (pieces.words t)
@@ -69,57 +69,58 @@ split t arguments = do
   found ← pieces.split_at t separator
   text_list found
 
--- `splitlines`
+-- Defines `splitlines`.
 abbrev pub split_lines : List ℕ → List Data → Result Data Refusal
 split_lines t arguments = do
   _ ← no_arguments arguments
   found ← pieces.within_items (pieces.lines t)
   text_list found
 
--- `strip`: without an argument white space is taken away
+-- Defines `strip`, which removes white space if it has no argument.
 abbrev pub strip : List ℕ → List Data → Result Data Refusal
 strip t [] = within (text (stripped is_blank t))
 strip t arguments = do
   set ← one_text arguments
   within (text (stripped (is_among set) t))
 
--- `substring`
+-- Defines `substring`.
 abbrev pub substring : List ℕ → List Data → Result Data Refusal
 substring t arguments = do
   ends ← bounds arguments
   within (text (part ends.0 ends.1 t))
 
--- `to_int`
+-- Defines `to_int`.
 abbrev pub to_int : List ℕ → List Data → Result Data Refusal
 to_int t arguments = do
   _ ← no_arguments arguments
   z ← integer_of t
   Ok (integer z)
 
--- `to_lower`
+-- Defines `to_lower`.
 abbrev pub to_lower : List ℕ → List Data → Result Data Refusal
 to_lower t arguments = do
   _ ← no_arguments arguments
   within (text (map to_ascii_lowercase t))
 
--- `to_upper`
+-- Defines `to_upper`.
 abbrev pub to_upper : List ℕ → List Data → Result Data Refusal
 to_upper t arguments = do
   _ ← no_arguments arguments
   within (text (map to_ascii_uppercase t))
 
--- `underscorify`
+-- Defines `underscorify`.
 abbrev pub underscorify : List ℕ → List Data → Result Data Refusal
 underscorify t arguments = do
   _ ← no_arguments arguments
   within (text (underscorified t))
 
--- `version_compare`
+-- Defines `version_compare`.
 abbrev pub version_compare : List ℕ → List Data → Result Data Refusal
 version_compare t arguments = do
   condition ← one_text arguments
   Ok (boolean (meets t condition))
 
+-- Returns the result of a method of a text.
 abbrev pub call : TextMethod → List ℕ → List Data → Result Data Refusal
 call method.Contains t arguments = contains t arguments
 call method.StartsWith t arguments = starts_with t arguments
@@ -137,5 +138,6 @@ call method.ToUpper t arguments = to_upper t arguments
 call method.Underscorify t arguments = underscorify t arguments
 call method.VersionCompare t arguments = version_compare t arguments
 
+-- Returns the result of the method of a text with this name.
 abbrev pub answer : List ℕ → List ℕ → List Data → Result Data Refusal
 answer t name arguments = called (text_method_named name) (λ m. call m t arguments)

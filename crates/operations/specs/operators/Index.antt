@@ -1,4 +1,4 @@
--- `whole[index]`: a part of a list, a text, a dictionary or a custom target.
+-- Defines `whole[index]`, by the page "Syntax" of the Meson manual: a part of a list, a text, a dictionary or a custom target.
 use Rattle.std.specs.Prelude.{ℕ, zero, suc, ℤ, pos, negsuc, ◌-◌, nat_lt, ◌||◌, List, length, Option, Some, None, option_map}
 use Rattle.std.specs.Prelude.{option_and_then, ok_or, slice_get, Result, Ok, Err, if◌then◌else◌}
 use Rattle.std.specs.Str.{chars}
@@ -10,34 +10,35 @@ use Rattle.values.specs.declared.refusal.Refusal.TheVariants as refusal
 use Rattle.values.specs.Data.{Data, integer, text, list, dictionary, object, Items, no_items, item, count, find, is_disabler}
 use Rattle.operations.specs.operators.Operations.{disabler}
 
--- The place that an index means among so many parts. `negsuc i` is -(i + 1): negative ones count from the end, and -1 is the last.
+-- Returns the position that an index denotes among `n` parts. `negsuc i` is -(i + 1): a negative index counts from the end, and -1 is the
+-- last part.
 abbrev pub place : ℤ → ℕ → Option ℕ
 place (pos i) n = if nat_lt i n then Some i else None
 place (negsuc i) n = if nat_lt i n then Some (n - suc i) else None
 
--- the item at a place
+-- Returns the item at a position.
 abbrev pub item_at : Items → ℕ → Option Data
 item_at no_items k = None
 item_at (item d ds) zero = Some d
 item_at (item d ds) (suc k) = item_at ds k
 
--- the item that an index means
+-- Returns the item at an index.
 abbrev pub indexed_item : Items → ℤ → Option Data
 indexed_item ds i = option_and_then (item_at ds) (place i (count ds))
 
--- the character that an index means, by its number
+-- Returns the code of the character at an index.
 abbrev pub indexed_char : List ℕ → ℤ → Option ℕ
 indexed_char t i = option_and_then (slice_get (chars t)) (place i (length (chars t)))
 
--- the text of a character, where there is one
+-- Returns the text of a character, if there is one.
 abbrev pub char_text : Option ℕ → Option Data
 char_text c = option_map (λ n. text (encode_utf8 n)) c
 
--- the output of a custom target that an index means
+-- Returns the output of a custom target at an index.
 abbrev pub indexed_output : ℕ → ℕ → ℤ → Option Object
 indexed_output number outputs i = option_map (TheObject.CustomOutput number) (place i outputs)
 
--- the part, where there is one
+-- Returns the part, if there is one.
 abbrev pub part : Data → Data → Option Data
 part (list ds) (integer i) = indexed_item ds i
 part (text t) (integer i) = char_text (indexed_char t i)
@@ -45,7 +46,7 @@ part (dictionary es) (text k) = find k es
 part (object (TheObject.CustomTarget number outputs)) (integer i) = option_map object (indexed_output number outputs i)
 part _ _ = None
 
--- an index of the right type means no part, or else the types are wrong
+-- Returns the refusal if there is no part: E10 if the types fit, and otherwise E6.
 abbrev pub part_refusal : Data → Data → Refusal
 part_refusal (list ds) (integer i) = refusal.Absent
 part_refusal (text t) (integer i) = refusal.Absent
@@ -53,14 +54,15 @@ part_refusal (dictionary es) (text k) = refusal.Absent
 part_refusal (object (TheObject.CustomTarget number outputs)) (integer i) = refusal.Absent
 part_refusal _ _ = refusal.Type
 
--- what an integer as index gives for an object
+-- Returns the part of an object at an integer index: an output of a custom target, and otherwise a refusal.
 abbrev pub output_outcome : Object → ℤ → Result Object Refusal
 output_outcome (TheObject.CustomTarget number outputs) i = ok_or (indexed_output number outputs i) refusal.Absent
 output_outcome _ i = Err refusal.Type
 
+-- Returns the part, and otherwise the refusal.
 abbrev pub part_outcome : Data → Data → Result Data Refusal
 part_outcome d i = ok_or (part d i) (part_refusal d i)
 
--- a disabler, as the whole or as the index, gives a disabler
+-- Returns the part. If the whole or the index is a disabler, the result is a disabler.
 abbrev pub index_answer : Data → Data → Result Data Refusal
 index_answer d i = if is_disabler d || is_disabler i then Ok disabler else part_outcome d i

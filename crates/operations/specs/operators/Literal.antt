@@ -1,4 +1,4 @@
--- A dictionary literal: what comes of its keys and values, in order.
+-- Defines dictionary literals by their keys and values, in order: "Dictionaries" of the page "Syntax".
 use Rattle.std.specs.Prelude.{◌≡◌, List, [], ◌∷◌, is_some, Result, Ok, Err, if◌then◌else◌}
 use Rattle.values.specs.declared.refusal.Refusal.{Refusal}
 use Rattle.values.specs.declared.refusal.Refusal.TheVariants as refusal
@@ -10,38 +10,40 @@ use Rattle.operations.specs.declared.operators.literal.LiteralRefusal.{LiteralRe
 use Rattle.operations.specs.declared.operators.literal.LiteralRefusal.TheVariants as literals
 
 infixl 10 ◌>>=◌
+-- Runs a step after another, unless that was refused.
 abbrev pub ◌>>=◌ : {A B : Type 0} → Result A LiteralRefusal → (A → Result B LiteralRefusal) → Result B LiteralRefusal
 Ok x >>= f = f x
 Err e >>= f = Err e
 
--- the entries with one more: its key has to be a text, and none that is there
+-- Returns the entries with one more. Its key must be a text that is not yet present.
 abbrev pub with_entry : Entries → Data → Data → Result Entries LiteralRefusal
 with_entry es (text k) d = if is_some (find k es) then Err (literals.Twice k) else Ok (put k d es)
 with_entry es k d = Err (literals.Refused refusal.Type)
 
--- the entries with all of these, or the refusal of the first key that is none
+-- Returns the entries with all of these added, or the refusal of the first invalid key.
 abbrev pub with_entries : Entries → List (Data × Data) → Result Entries LiteralRefusal
 with_entries es [] = Ok es
 with_entries es (p ∷ ps) = do
   more ← with_entry es p.0 p.1
   with_entries more ps
 
+-- Returns a result with its refusal as that of a literal.
 abbrev pub refused : Result Data Refusal → Result Data LiteralRefusal
 refused (Ok d) = Ok d
 refused (Err refusal) = Err (literals.Refused refusal)
 
--- The literal's value. Its size is looked at last.
+-- Returns the value of the literal. Its size is checked last.
 abbrev pub literal_answer : List (Data × Data) → Result Data LiteralRefusal
 literal_answer ps = do
   es ← with_entries no_entries ps
   refused (within (dictionary es))
 
--- the literal gives what is given: a value that stands for it, or its refusal
+-- Holds if the literal evaluated to the value that the definition gives, or to its refusal.
 abbrev pub Makes : Result Data LiteralRefusal → Result Value LiteralRefusal → Type 0
 Makes given (Ok v) = given ≡ Ok (data_of v)
 Makes given (Err refusal) = given ≡ Err refusal
 
--- the keys and values as plain data
+-- Returns the keys and values as plain data.
 abbrev pub pairs_of : List (Value × Value) → List (Data × Data)
 pairs_of [] = []
 pairs_of (p ∷ ps) = (data_of p.0, data_of p.1) ∷ pairs_of ps

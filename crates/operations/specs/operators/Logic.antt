@@ -1,4 +1,4 @@
--- `and` and `or`: the left side decides, or the right side does.
+-- Defines `and` and `or`, whose left side may decide alone: "Logical operations" of the page "Syntax".
 use Rattle.std.specs.Prelude.{◌≡◌, true, false, Option, Some, None, Result, Ok, Err}
 use Rattle.values.specs.declared.object.Object.TheVariants as TheObject
 use Rattle.values.specs.declared.refusal.Refusal.{Refusal}
@@ -11,7 +11,7 @@ use Rattle.operations.specs.declared.operators.logic.Left.{Left}
 use Rattle.operations.specs.declared.operators.logic.Left.TheVariants as left
 use Rattle.operations.specs.operators.Operations.{disabler}
 
--- What the left side of `and` or `or` says: a value, where the right side is left alone; `None`, where the right side decides.
+-- Returns what the left side of `and` or `or` decides: a value if the right side is skipped, and `None` if the right side decides.
 abbrev pub left_answer : Connective → Data → Result (Option Data) Refusal
 left_answer And (boolean false) = Ok (Some (boolean false))
 left_answer And (boolean true) = Ok None
@@ -20,13 +20,13 @@ left_answer Or (boolean false) = Ok None
 left_answer connective (object TheObject.Disabler) = Ok (Some disabler)
 left_answer connective d = Err refusal.Type
 
--- what the right side of `and` or `or` gives, where it decides
+-- Returns the result of `and` or `or` if the right side decides.
 abbrev pub right_answer : Data → Result Data Refusal
 right_answer (boolean b) = Ok (boolean b)
 right_answer (object TheObject.Disabler) = Ok disabler
 right_answer d = Err refusal.Type
 
--- the call says of the left side what is given: a value that stands for the whole, that the right side decides, or its refusal
+-- Holds if the call decided as the definition does: the value of the whole, that the right side decides, or the refusal.
 abbrev pub LeftAnswers : Connective → Data → Result Left Refusal → Type 0
 LeftAnswers connective d (Ok (left.Decides v)) = left_answer connective d ≡ Ok (Some (data_of v))
 LeftAnswers connective d (Ok left.Open) = left_answer connective d ≡ Ok None

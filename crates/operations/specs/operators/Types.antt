@@ -1,10 +1,10 @@
--- Which values are of one type.
+-- Decides whether two values have the same type.
 use Rattle.std.specs.Prelude.{Bool, true, false}
 use Rattle.values.specs.declared.object.Object.{Object}
 use Rattle.values.specs.declared.object.Object.TheVariants as TheObject
 use Rattle.values.specs.Data.{Data, boolean, integer, text, list, dictionary, object}
 
--- Objects are of one kind where they are of one type of the manual. All targets are of one kind, outputs of custom targets of another.
+-- Holds if two objects have the same type of the manual. All targets count as one type, and outputs of custom targets as another.
 abbrev pub is_one_kind : Object → Object → Bool
 is_one_kind (TheObject.Feature f) (TheObject.Feature g) = true
 is_one_kind (TheObject.Dependency d) (TheObject.Dependency e) = true
@@ -23,6 +23,7 @@ is_one_kind (TheObject.ConfigurationData m) (TheObject.ConfigurationData n) = tr
 is_one_kind TheObject.Disabler TheObject.Disabler = true
 is_one_kind _ _ = false
 
+-- Holds if two values have the same type.
 abbrev pub is_one_type : Data → Data → Bool
 is_one_type (boolean b) (boolean c) = true
 is_one_type (integer y) (integer z) = true

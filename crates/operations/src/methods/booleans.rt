@@ -1,4 +1,4 @@
-//! The methods of booleans: the type `bool` of the page "Reference manual".
+//! Implements the methods of booleans: the type `bool` of the page "Reference manual".
 
 ghost use Rattle.std.specs.Prelude.{[], map};
 ghost use Rattle.values.specs.Prelude.{data_of};
@@ -11,7 +11,7 @@ use std::alloc::Global;
 use values::language_names::{BooleanMethod, MethodName};
 use values::{Refusal, Value};
 
-/// What the method with a name gives for a boolean.
+/// Calls the method of a boolean with this name and returns its result. Refusals are E8 for an unknown name and E9 for wrong arguments.
 pub fn boolean_method(
     alloc: Global,
     boolean: bool,
@@ -34,7 +34,7 @@ fn to_int(boolean: bool, arguments: &[Value]) -> Result<Value, Stop>
     Ok(Value::Integer(if boolean { 1 } else { 0 }))
 }
 
-// The word that stands for a boolean.
+// Returns `true` or `false` as a text.
 fn plain_word(alloc: Global, boolean: bool) -> Result<Value, Stop>
     ensures { Gives (to_string boolean []) result }
 {

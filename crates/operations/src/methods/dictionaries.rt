@@ -1,4 +1,4 @@
-//! The methods of dictionaries: the type `dict` of the page "Reference manual".
+//! Implements the methods of dictionaries: the type `dict` of the page "Reference manual".
 
 ghost use Rattle.std.specs.Prelude.{◌≡◌, [], map, IfOk};
 ghost use Rattle.values.specs.Data.{keys_in};
@@ -16,7 +16,8 @@ use std::collections::BTreeSet;
 use values::language_names::{DictionaryMethod, MethodName};
 use values::{Dictionary, Refusal, Text, Value};
 
-/// What the method with a name gives for a dictionary.
+/// Calls the method of a dictionary with this name and returns its result. Refusals are E8 for an unknown name, E9 for wrong arguments and
+/// E10 for an absent key.
 pub fn dictionary_method(
     alloc: Global,
     dictionary: &Dictionary,
@@ -56,7 +57,7 @@ fn keys(alloc: Global, dictionary: &Dictionary, arguments: &[Value]) -> Result<V
     Ok(list(alloc, keys)??)
 }
 
-// The keys, in the order of their bytes.
+// Returns the keys, sorted by bytes.
 fn sorted_keys(alloc: Global, dictionary: &Dictionary) -> Result<Vec<&Text>, AllocError>
     ensures { IfOk result (λ ks. map (λ k. k.now) ks.items ≡ sorted_with [] (keys_in dictionary.now)) }
 {
@@ -74,7 +75,7 @@ fn key_set<'d>(alloc: Global, keys: &'d [Text]) -> Result<BTreeSet<&'d Text>, Al
     Ok(sorted)
 }
 
-// The keys as values. They are shared, and no byte is copied.
+// Returns the keys as values. They are shared, and no byte is copied.
 fn key_values(alloc: Global, keys: &[&Text]) -> Result<Vec<Value>, AllocError>
     ensures { IfOk result (λ vs. items_of vs.items ≡ texts (map (λ k. k.now) keys.now)) }
 {

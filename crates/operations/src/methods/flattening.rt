@@ -1,4 +1,4 @@
-//! Texts in lists of any depth, as arguments.
+//! Reads texts and lists of texts as arguments.
 
 ghost use Rattle.std.specs.Prelude.{◌≡◌, map, IfOk};
 ghost use Rattle.values.specs.Prelude.{data_of};
@@ -8,7 +8,7 @@ ghost use Rattle.values.specs.texts.Answers.{pieces_in};
 use std::alloc::{AllocError, Global};
 use values::{Refusal, Value, are_texts, flat_all};
 
-/// The texts in the arguments, with all lists opened. `Refusal::Arguments` where anything else stands in them.
+/// Returns the texts in the arguments, with all lists flattened, or `Refusal::Arguments` if they contain anything else.
 pub fn flat_texts(
     alloc: Global,
     arguments: &[Value],

@@ -1,4 +1,4 @@
-//! Texts with places for values.
+//! Formats texts: fills placeholders with values.
 
 ghost use Rattle.std.specs.Prelude.{◌≡◌, map, option_map, IfOk};
 ghost use Rattle.std.specs.List.{list_all, flat_map};
@@ -12,12 +12,11 @@ use values::printing::{is_printable, write};
 use values::texts::{Places, Segment, number_of, segments};
 use values::{Refusal, Text, Value};
 
-/// The text with the printed value of number N, counted from 0, at each place `@N@`: the method `format` of the type
-/// `str` of the page "Reference manual".
+/// Returns the text with each placeholder `@N@` replaced by the printed value number N, counted from 0.
 ///
-/// `Refusal::Arguments` where one of the values is an object or holds one, also where no place names it; then
-/// `Refusal::Absent` where there is no value for a place; and then `Refusal::Limit` where the result is longer than
-/// 16,777,216 bytes. A value that no place names is not printed.
+/// This is the method `format` of the type `str` of the page "Reference manual". Returns `Refusal::Arguments` if one of the values is or
+/// contains an object, even if no placeholder refers to it. Otherwise returns `Refusal::Absent` if a placeholder has no value, and then
+/// `Refusal::Limit` if the result is longer than 16,777,216 bytes. A value that no placeholder refers to is not printed.
 pub fn format_text(
     alloc: Global,
     text: &str,
@@ -72,7 +71,7 @@ fn value_at<'v>(name: &str, values: &'v [Value]) -> Option<&'v Value>
     values.get(number)
 }
 
-// Puts the segments behind a text, with values in their places.
+// Appends the segments to a text, with placeholders filled.
 fn write_segments(
     alloc: Global,
     made: &mut Text,

@@ -1,4 +1,4 @@
-//! The methods of integers: the type `int` of the page "Reference manual".
+//! Implements the methods of integers: the type `int` of the page "Reference manual".
 
 ghost use Rattle.std.specs.Prelude.{map};
 ghost use Rattle.values.specs.Prelude.{data_of};
@@ -12,7 +12,7 @@ use values::language_names::{IntegerMethod, MethodName};
 use values::printing::print;
 use values::{Refusal, Value};
 
-/// What the method with a name gives for an integer.
+/// Calls the method of an integer with this name and returns its result. Refusals are E8 for an unknown name and E9 for wrong arguments.
 pub fn integer_method(
     alloc: Global,
     integer: i128,

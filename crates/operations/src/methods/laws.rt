@@ -1,13 +1,13 @@
-//! What holds of all texts and dictionaries: a law is stated by the contract of a function that does nothing.
+//! States laws of all texts and dictionaries. A law is the contract of a function that does nothing.
 ghost use Rattle.operations.specs.methods.KeyOrder.{KeysAscend};
 ghost use Rattle.operations.specs.methods.PlaceNumbers.{PlacesCount};
 
-/// The texts that `keys` gives ascend by their bytes, and are the keys of the dictionary.
+/// Proves that the texts returned by `keys` ascend by their bytes, and are the keys of the dictionary.
 pub fn keys_ascend()
     ensures { KeysAscend }
 {}
 
-/// A place of a text that is formatted has the value at the number that its digits write, however large that is.
+/// Proves that a placeholder of `format` refers to the value at the number that its digits spell, however large.
 pub fn places_count()
     ensures { PlacesCount }
 {}

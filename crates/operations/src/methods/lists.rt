@@ -1,4 +1,4 @@
-//! The methods of lists: the type `list` of the page "Reference manual".
+//! Implements the methods of lists: the type `list` of the page "Reference manual".
 
 ghost use Rattle.std.specs.Prelude.{◌≡◌, map, option_map};
 ghost use Rattle.values.specs.Prelude.{data_of, items_of};
@@ -11,7 +11,8 @@ use crate::operators::indexed_item;
 use values::language_names::{ListMethod, MethodName};
 use values::{List, Refusal, Value, is_equal};
 
-/// What the method with a name gives for a list.
+/// Calls the method of a list with this name and returns its result. Refusals are E8 for an unknown name, E9 for wrong arguments and E10
+/// for an absent index.
 pub fn list_method(list: &List, name: &MethodName, arguments: &[Value]) -> Result<Value, Stop>
     ensures { Gives (answer list.now name.now (map data_of arguments.now)) result }
 {
@@ -30,7 +31,7 @@ fn contains(list: &List, arguments: &[Value]) -> Result<Value, Stop>
     Ok(Value::Boolean(stands_in(value, list.items())))
 }
 
-// Whether a value is one of the items, or stands in one that is a list, at any depth.
+// Returns whether a value is one of the items, or is in an item that is a list, at any depth.
 #[cycle(depths)]
 fn stands_in(value: &Value, items: &[Value]) -> bool
     ensures { result ≡ stands_in (data_of value.now) (items_of items.now) }
@@ -61,7 +62,7 @@ fn get(list: &List, arguments: &[Value]) -> Result<Value, Stop>
     take_or(indexed_item(list, index), fallback)
 }
 
-/// What was found, or else the value in its place.
+/// Returns a copy of the value that was found, otherwise of the fallback, and the refusal E10 if there is neither.
 pub fn take_or(found: Option<&Value>, fallback: Option<&Value>) -> Result<Value, Stop>
     ensures { Gives (found_or (option_map (λ v. data_of v.now) found.entry) (option_map (λ v. data_of v.now) fallback.entry)) result }
 {

@@ -1,4 +1,4 @@
-//! The methods, by the type of the receiver.
+//! Calls methods by the type of the receiver.
 
 ghost use Rattle.std.specs.Prelude.{◌≡◌, IfOk, map};
 ghost use Rattle.values.specs.Prelude.{Answers, data_of};
@@ -14,10 +14,10 @@ use std::alloc::{AllocError, Global};
 use values::language_names::MethodName;
 use values::{Refusal, Value};
 
-/// What the method with a name gives for a receiver and arguments.
+/// Calls the method of the receiver with this name and returns its result.
 ///
-/// Refusals come in this order: E8 where the receiver's type has no method of the name, E9 for a wrong count or type
-/// of the arguments, and then those of the method: E7, E9, E10 and E22. Objects have no methods here.
+/// The refusal is E8 if the receiver's type has no method with this name, and otherwise E9 for a wrong count or type of the arguments.
+/// After these come the refusals of the method: E7, E9, E10 and E22. This function knows no methods of objects.
 pub fn method(
     alloc: Global,
     receiver: &Value,
@@ -41,7 +41,7 @@ pub fn method(
     }
 }
 
-/// Whether the type of a receiver has a method with a name. It takes no memory.
+/// Returns whether the receiver's type has a method with this name. It allocates nothing.
 pub fn has_method(receiver: &Value, name: &MethodName) -> bool
     ensures { result ≡ has_name (data_of receiver.now) name.now }
 {

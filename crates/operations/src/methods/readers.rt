@@ -1,4 +1,5 @@
-//! What the arguments of a call are, where they have the count and the types that it asks for; else `Refusal::Arguments`.
+//! Reads the arguments of a call. Each function returns `Refusal::Arguments` unless the arguments have the count and types that it
+//! requires.
 
 ghost use Rattle.std.specs.Prelude.{◌≡◌, MatchResult, Ok, Err, Some, None, option_map, map};
 ghost use Rattle.values.specs.Prelude.{data_of};
@@ -7,7 +8,7 @@ ghost use Rattle.operations.specs.methods.Arguments.{one_text, two_texts, bounds
 
 use values::{Refusal, Text, Value};
 
-/// That there are none.
+/// Checks that there are no arguments.
 pub fn none(arguments: &[Value]) -> Result<(), Refusal>
     ensures { result ≡ no_arguments (map data_of arguments.now) }
 {
@@ -18,7 +19,7 @@ pub fn none(arguments: &[Value]) -> Result<(), Refusal>
     }
 }
 
-/// The only argument.
+/// Returns the only argument.
 pub fn one(arguments: &[Value]) -> Result<&Value, Refusal>
     ensures { MatchResult result
         (λ v. one_argument (map data_of arguments.now) ≡ Ok (data_of v.now))
@@ -30,7 +31,7 @@ pub fn one(arguments: &[Value]) -> Result<&Value, Refusal>
     }
 }
 
-/// A key or an index, and a value in its place that may be left out.
+/// Returns a key or an index, and the fallback value, which is optional.
 pub fn key_and_fallback(arguments: &[Value]) -> Result<(&Value, Option<&Value>), Refusal>
     ensures { MatchResult result
         (λ p. key_and_fallback (map data_of arguments.now) ≡ Ok (data_of p.0.now, option_map (λ v. data_of v.now) p.1))
@@ -43,7 +44,7 @@ pub fn key_and_fallback(arguments: &[Value]) -> Result<(&Value, Option<&Value>),
     }
 }
 
-/// The text that an argument is.
+/// Returns the text of an argument.
 pub fn text(argument: &Value) -> Result<&Text, Refusal>
     ensures { MatchResult result
         (λ t. text_argument (data_of argument.now) ≡ Ok t.now)
@@ -55,7 +56,7 @@ pub fn text(argument: &Value) -> Result<&Text, Refusal>
     }
 }
 
-/// The integer that an argument is.
+/// Returns the integer of an argument.
 pub fn integer(argument: &Value) -> Result<i128, Refusal>
     ensures { result ≡ integer_argument (data_of argument.now) }
 {
@@ -65,7 +66,7 @@ pub fn integer(argument: &Value) -> Result<i128, Refusal>
     }
 }
 
-/// The text that the only argument is.
+/// Returns the text of the only argument.
 pub fn one_text(arguments: &[Value]) -> Result<&Text, Refusal>
     ensures { MatchResult result
         (λ t. one_text (map data_of arguments.now) ≡ Ok t.now)
@@ -74,7 +75,7 @@ pub fn one_text(arguments: &[Value]) -> Result<&Text, Refusal>
     text(one(arguments)?)
 }
 
-/// The texts that the only two arguments are.
+/// Returns the texts of the only two arguments.
 pub fn two_texts(arguments: &[Value]) -> Result<(&Text, &Text), Refusal>
     ensures { MatchResult result
         (λ p. two_texts (map data_of arguments.now) ≡ Ok (p.0.now, p.1.now))
@@ -86,7 +87,7 @@ pub fn two_texts(arguments: &[Value]) -> Result<(&Text, &Text), Refusal>
     }
 }
 
-/// Two integers, of which the second or both may be left out.
+/// Returns two integers, of which the second or both are optional.
 pub fn bounds(arguments: &[Value]) -> Result<(Option<i128>, Option<i128>), Refusal>
     ensures { result ≡ bounds (map data_of arguments.now) }
 {

@@ -1,4 +1,4 @@
-//! Why a call gives no value.
+//! Lists the reasons why a call returns no value.
 
 ghost use Rattle.std.specs.Prelude.{◌≡◌, alloc_error};
 
@@ -6,7 +6,7 @@ use std::alloc::{AllocError, AllocFailed};
 use thiserror::Error;
 use values::Refusal;
 
-/// Why a call gives no value.
+/// The reason why a call returns no value: it was refused, or ran out of memory.
 #[derive(Debug, Drop, Error)]
 pub enum Stop {
     #[error(transparent)]

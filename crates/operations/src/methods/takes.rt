@@ -1,4 +1,4 @@
-//! What each method takes, in words, and of which values.
+//! Describes in words what each method takes.
 ghost use Rattle.std.specs.Prelude.{◌≡◌};
 ghost use Rattle.values.specs.Prelude.{data_of};
 ghost use Rattle.operations.specs.methods.Takes.{boolean_takes, dictionary_takes, integer_takes, list_takes, takes_words, text_takes};
@@ -67,7 +67,7 @@ fn text_takes(method: TextMethod) -> &'static str
     }
 }
 
-/// What the method with a name takes, by the type of the receiver; empty where there is no such method.
+/// Returns in words what the method with this name takes, by the type of the receiver. The text is empty if there is no such method.
 pub fn takes_words(receiver: &Value, name: &MethodName) -> &'static str
     ensures { result.now ≡ takes_words (data_of receiver.now) name.now }
 {

@@ -1,4 +1,4 @@
-//! The methods of texts: the type `str` of the page "Reference manual".
+//! Implements the methods of texts: the type `str` of the page "Reference manual".
 
 ghost use Rattle.std.specs.Prelude.{[], ◌∷◌, map, string_bytes};
 ghost use Rattle.values.specs.Data.{text as text_data};
@@ -18,7 +18,8 @@ use std::alloc::Global;
 use values::language_names::{MethodName, TextMethod};
 use values::{Refusal, Text, Value};
 
-/// What the method with a name gives for a text.
+/// Calls the method of a text with this name and returns its result. Refusals are E8 for an unknown name, E9 for wrong arguments, and those
+/// of the method.
 pub fn text_method(
     alloc: Global,
     text: &str,

@@ -1,4 +1,4 @@
-//! Operators of integers.
+//! Evaluates the operators of integers.
 
 ghost use Rattle.std.specs.Prelude.{◌≡◌, ◌-ℤ◌, ◌*ℤ◌, IfSome, option_map};
 ghost use Rattle.values.specs.Data.{integer as integer_data};
@@ -11,7 +11,7 @@ ghost use Rattle.operations.specs.declared.operators.operator.Unary.TheVariants.
 use crate::operators::operator::Binary;
 use values::{Refusal, Value};
 
-// The value of a result that is in range.
+// Returns the value of a result in range, and E7 if there is none.
 fn integer(result_in_range: Option<i128>) -> Result<Value, Refusal>
     ensures { Answers (answer (option_map integer_data result_in_range) refusal.Range) result }
 {
@@ -21,7 +21,7 @@ fn integer(result_in_range: Option<i128>) -> Result<Value, Refusal>
     }
 }
 
-/// `-operand`
+/// Returns the result of `-operand`.
 pub fn opposite(operand: &Value) -> Result<Value, Refusal>
     ensures { Answers (unary_outcome Negate (data_of operand.now)) result }
 {
@@ -31,7 +31,8 @@ pub fn opposite(operand: &Value) -> Result<Value, Refusal>
     }
 }
 
-/// What an operator gives for two integers.
+/// Returns the result of an operator for two integers. Refusals are E7 for a result out of range or a divisor of zero, and E6 for an
+/// operator that integers do not have.
 #[inline(always)]
 pub fn of_integers(operator: Binary, x: i128, y: i128) -> Result<Value, Refusal>
     ensures { Answers (binary_outcome operator (integer_data x) (integer_data y)) result }
@@ -52,12 +53,12 @@ pub fn of_integers(operator: Binary, x: i128, y: i128) -> Result<Value, Refusal>
     }
 }
 
-// The quotient towards minus infinity, where there is one in range.
+// Returns the quotient rounded towards minus infinity, and `None` if the divisor is zero or the quotient is out of range.
 fn integer_quotient(x: i128, y: i128) -> Option<i128>
     ensures value { result ≡ quotient x y }
     ensures rest { IfSome result (λ q. IsRest y (x -ℤ y *ℤ q)) }
 {
-    // its remainder is never negative, so it is one too large for some negative divisors
+    // The Euclidean remainder is never negative, so the quotient is one too large for some negative divisors.
     let quotient = x.checked_div_euclid(y)?;
     if y > 0 || x.rem_euclid(y) == 0 {
         return Some(quotient);
@@ -65,7 +66,7 @@ fn integer_quotient(x: i128, y: i128) -> Option<i128>
     quotient.checked_sub(1)
 }
 
-// What the quotient leaves. It is in range also where the quotient is not.
+// Returns the remainder, and `None` for a divisor of zero. It is in range even if the quotient is not.
 fn integer_remainder(x: i128, y: i128) -> Option<i128>
     ensures { result ≡ remainder x y }
 {

@@ -1,4 +1,4 @@
-//! Sums of lists and of dictionaries. What nobody else holds is changed in place.
+//! Adds lists and dictionaries. A value that nobody else shares is changed in place.
 
 ghost use Rattle.std.specs.Prelude.{IfOk};
 ghost use Rattle.values.specs.Data.{list as list_data, dictionary as dictionary_data, items_append, item, no_items, merged};
@@ -8,7 +8,7 @@ use std::alloc::{AllocError, Global};
 use std::rc::Rc;
 use values::{Dictionary, DictionaryBuilder, List, Refusal, Value};
 
-/// The items of one list and then those of another.
+/// Returns the items of one list followed by those of another, or E22 past a limit.
 pub fn append_all(
     alloc: Global,
     mut list: Rc<List>,
@@ -28,7 +28,7 @@ pub fn append_all(
     Ok(Ok(Value::of_list(alloc, copy)?))
 }
 
-/// The items of a list and then a value.
+/// Returns the items of a list followed by a value, or E22 past a limit.
 pub fn append(
     alloc: Global,
     mut list: Rc<List>,
@@ -48,7 +48,7 @@ pub fn append(
     Ok(Ok(Value::of_list(alloc, copy)?))
 }
 
-/// The entries of one dictionary with those of another.
+/// Returns one dictionary updated with the entries of another, or E22 past a limit.
 pub fn merge(
     alloc: Global,
     mut dictionary: Rc<Dictionary>,

@@ -1,4 +1,4 @@
-//! Literals of lists and dictionaries, and lists of texts.
+//! Evaluates literals of lists and dictionaries, and makes lists of texts.
 
 ghost use Rattle.std.specs.Prelude.{◌≡◌, ◌+◌, ◌<◌, ◌≤◌, ◌^◌, IfOk, MatchResult, Ok, Err, map};
 ghost use Rattle.values.specs.Data.{no_entries, no_items, list as list_data};
@@ -11,7 +11,7 @@ use std::alloc::{AllocError, Global};
 use thiserror::Error;
 use values::{Content, DictionaryBuilder, List, Refusal, Text, Value};
 
-/// Why keys and values make no dictionary.
+/// The reason why keys and values make no dictionary.
 #[derive(Debug, Drop, Error)]
 pub enum LiteralRefusal {
     /// E11: an earlier entry has this key.
@@ -22,7 +22,7 @@ pub enum LiteralRefusal {
     Refused(Refusal),
 }
 
-/// The list of a literal's items, or E22 where it is past a limit.
+/// Returns the list of a literal's items, or E22 if it is past a limit.
 pub fn list(alloc: Global, items: Vec<Value>) -> Result<Result<Value, Refusal>, AllocError>
     ensures { IfOk result (λ r. Answers (within (list_data (items_of items.items))) r) }
 {
@@ -32,7 +32,7 @@ pub fn list(alloc: Global, items: Vec<Value>) -> Result<Result<Value, Refusal>, 
     }
 }
 
-// Puts a text behind the values. It is put together where it is to lie, as a short text that is moved waits for its bytes.
+// Appends a text to the values. It is built in its final place, since moving a short text has to wait for its bytes.
 fn push_text(
     alloc: Global,
     values: &mut Vec<Value>,
@@ -49,7 +49,7 @@ fn push_text(
     Ok(put)
 }
 
-// These texts as values, or `Refusal::Limit` where one is too long.
+// Returns these texts as values, or `Refusal::Limit` if one is too long.
 fn text_values(alloc: Global, texts: &[&str]) -> Result<Result<Vec<Value>, Refusal>, AllocError>
     ensures { IfOk result (λ r. items_in r ≡ texts_behind no_items (map (λ t. t.now) texts.now)) }
 {
@@ -62,7 +62,7 @@ fn text_values(alloc: Global, texts: &[&str]) -> Result<Result<Vec<Value>, Refus
     Ok(Ok(values))
 }
 
-/// The list of these texts, or `Refusal::Limit` where one of them or the list passes a limit.
+/// Returns the list of these texts, or `Refusal::Limit` if one of them or the list is past a limit.
 pub fn text_list(alloc: Global, texts: &[&str]) -> Result<Result<Value, Refusal>, AllocError>
     ensures { IfOk result (λ r. Answers (text_list (map (λ t. t.now) texts.now)) r) }
 {
@@ -72,9 +72,10 @@ pub fn text_list(alloc: Global, texts: &[&str]) -> Result<Result<Value, Refusal>
     }
 }
 
-/// The dictionary of a literal's keys and values, in order.
+/// Returns the dictionary of a literal's keys and values, in order.
 ///
-/// The first key that is no text (E6) or equal to an earlier one (E11) decides; then E22, where it is past a limit.
+/// The first key that is no text (E6) or equal to an earlier one (E11) decides. Otherwise the refusal is E22 if the dictionary is past a
+/// limit.
 pub fn dictionary(
     alloc: Global,
     entries: Vec<(Value, Value)>,
@@ -91,7 +92,7 @@ pub fn dictionary(
     }
 }
 
-// Puts the entries of a literal, of which none is there yet, unless one is refused.
+// Adds the entries of a literal to an empty builder, until one is refused.
 fn put_entries(
     builder: &mut DictionaryBuilder,
     entries: Vec<(Value, Value)>,
@@ -109,7 +110,7 @@ fn put_entries(
     Ok(Ok(()))
 }
 
-// Puts one more entry, unless its key is refused.
+// Adds one entry, unless its key is refused.
 fn put_entry(
     builder: &mut DictionaryBuilder,
     key: Value,
@@ -127,7 +128,7 @@ fn put_entry(
     if builder.contains_key(&key) {
         return Ok(Err(LiteralRefusal::Twice(key)));
     }
-    // neither weighs so much that the sum could overflow
+    // Both weights are bounded, so that the sum cannot overflow.
     let _key = key.as_str();
     let _weight = value.weight();
     builder.put(key, value)?;

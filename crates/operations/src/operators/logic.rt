@@ -1,4 +1,4 @@
-//! `and`, `or` and `not`.
+//! Evaluates `and`, `or` and `not`.
 
 ghost use Rattle.values.specs.Prelude.{Answers, data_of};
 ghost use Rattle.operations.specs.operators.Operations.{unary_outcome};
@@ -8,16 +8,16 @@ ghost use Rattle.operations.specs.declared.operators.operator.Unary.TheVariants.
 use crate::operators::operator::Connective;
 use values::{Refusal, Value};
 
-/// What the left side of `and` or `or` says.
+/// What the left side of `and` or `or` decides.
 #[derive(Drop)]
 pub enum Left {
-    /// The value of the whole. The right side is left alone.
+    /// The value of the whole. The right side is skipped.
     Decides(Value),
     /// The right side decides.
     Open,
 }
 
-/// `not operand`
+/// Returns the result of `not operand`.
 pub fn negation(operand: &Value) -> Result<Value, Refusal>
     ensures { Answers (unary_outcome Not (data_of operand.now)) result }
 {
@@ -27,8 +27,8 @@ pub fn negation(operand: &Value) -> Result<Value, Refusal>
     }
 }
 
-/// Whether the left side of `and` or `or` decides: `false and`, `true or` and a disabler do. E6 for any other
-/// value that is no boolean.
+/// Returns whether the left side of `and` or `or` decides: `false and`, `true or` and a disabler do. The refusal is E6 for any other value
+/// that is not a boolean.
 pub fn left_side(connective: Connective, left: Value) -> Result<Left, Refusal>
     ensures { LeftAnswers connective (data_of left) result }
 {
@@ -46,7 +46,7 @@ pub fn left_side(connective: Connective, left: Value) -> Result<Left, Refusal>
     }
 }
 
-/// The value of `and` or `or` where the right side decides: a boolean or a disabler, else E6.
+/// Returns the value of `and` or `or` if the right side decides: a boolean or a disabler. The refusal is E6 for any other value.
 pub fn right_side(right: Value) -> Result<Value, Refusal>
     ensures { Answers (right_answer (data_of right)) result }
 {

@@ -1,4 +1,4 @@
-//! What is in a list, a dictionary or a text.
+//! Evaluates `in` and `not in`.
 
 ghost use Rattle.std.specs.Prelude.{◌≡◌, not, option_map};
 ghost use Rattle.values.specs.Prelude.{data_of};
@@ -7,7 +7,8 @@ ghost use Rattle.operations.specs.operators.Rows.{is_item, membership as members
 use values::texts::contains;
 use values::{List, Value, is_equal};
 
-/// Whether a value is an item of a list, a text a key of a dictionary, a text in another.
+/// Returns whether a value is an item of a list, a text is a key of a dictionary, or a text contains another. Returns `None` for other
+/// types.
 pub fn membership(value: &Value, whole: &Value) -> Option<bool>
     ensures { result ≡ membership_row (data_of value.now) (data_of whole.now) }
 {
@@ -19,7 +20,7 @@ pub fn membership(value: &Value, whole: &Value) -> Option<bool>
     }
 }
 
-/// Whether it is not.
+/// Returns the negation of `membership`, for `not in`.
 pub fn absence(value: &Value, whole: &Value) -> Option<bool>
     ensures { result ≡ option_map not (membership_row (data_of value.now) (data_of whole.now)) }
 {

@@ -1,4 +1,4 @@
-//! The operators, by the types of their operands.
+//! Evaluates the operators, by the types of their operands.
 
 ghost use Rattle.std.specs.Prelude.{◌≡◌, ◌≢◌, IfOk, false, option_map};
 ghost use Rattle.values.specs.Data.{boolean as boolean_data};
@@ -18,7 +18,8 @@ use std::alloc::{AllocError, Global};
 use std::cmp::Ordering;
 use values::{Content, Refusal, Value};
 
-/// What an operator gives for one operand, or E6 for a wrong type and E7 for an integer out of range.
+/// Returns the result of an operator with one operand, or E6 for a wrong type and E7 for an integer out of range. A disabler gives a
+/// disabler.
 pub fn unary(operator: Unary, operand: Value) -> Result<Value, Refusal>
     ensures { Answers (unary_answer operator (data_of operand)) result }
 {
@@ -31,10 +32,10 @@ pub fn unary(operator: Unary, operand: Value) -> Result<Value, Refusal>
     }
 }
 
-/// What an operator gives for two operands: a disabler where one of them is a disabler, else by their types.
+/// Returns the result of an operator with two operands: a disabler if one of them is a disabler, and otherwise by their types.
 ///
-/// Refusals are E6 for types that the operator does not take, E7 for an integer out of range or a divisor of
-/// zero, and E22 for a value past a limit. A list or dictionary that nobody else holds is added to in place.
+/// The refusal is E6 for types that the operator does not take. It is E7 for an integer out of range or a divisor of zero, and E22 for a
+/// value past a limit. A list, dictionary or text that nobody else shares is extended in place.
 #[inline(always)]
 pub fn binary(
     alloc: Global,
@@ -50,7 +51,7 @@ pub fn binary(
     of_others(alloc, operator, left, right)
 }
 
-// The same, where one of them is no integer.
+// Returns the result of an operator if one of its operands is not an integer.
 fn of_others(
     alloc: Global,
     operator: Binary,
@@ -72,7 +73,7 @@ fn of_others(
     }
 }
 
-// What an operator other than `+` gives for two operands that are no disablers.
+// Returns the result of an operator other than `+` for two operands that are not disablers.
 fn examine(
     alloc: Global,
     operator: Binary,
@@ -98,7 +99,7 @@ fn examine(
     }
 }
 
-// The value of a test that the operands have.
+// Returns the value of a test, and E6 if the operands have no such test.
 fn boolean(test: Option<bool>) -> Result<Value, Refusal>
     ensures { Answers (answer (option_map boolean_data test) refusal.Type) result }
 {
@@ -108,7 +109,7 @@ fn boolean(test: Option<bool>) -> Result<Value, Refusal>
     }
 }
 
-// `left + right`
+// Returns the result of `left + right`.
 fn sum(alloc: Global, left: Value, right: Value) -> Result<Result<Value, Refusal>, AllocError>
     requires { are_integers (data_of left) (data_of right) ≡ false }
     ensures { IfOk result (λ r. Answers (binary_outcome Add (data_of left) (data_of right)) r) }
@@ -130,7 +131,7 @@ fn sum(alloc: Global, left: Value, right: Value) -> Result<Result<Value, Refusal
     }
 }
 
-// `left / right`
+// Returns the result of `left / right`.
 fn quotient(
     alloc: Global,
     left: &Value,

@@ -1,4 +1,4 @@
-//! Parts of values, by their index or key.
+//! Evaluates `whole[index]`: returns parts of values by index or key.
 
 ghost use Rattle.std.specs.Prelude.{◌≡◌, IfOk, length, option_map, ok_or, slice_get};
 ghost use Rattle.std.specs.Str.{chars};
@@ -9,11 +9,11 @@ ghost use Rattle.operations.specs.operators.Index.{place, indexed_item, indexed_
 use std::alloc::{AllocError, Global};
 use values::{List, Object, Refusal, Value};
 
-/// `whole[index]`: an item of a list, a character of a text as a text, the value at a key of a dictionary, or an
-/// output of a custom target. Negative integers count from the end.
+/// Returns `whole[index]`: an item of a list, a character of a text as a text, the value of a key of a dictionary, or an output of a custom
+/// target. Negative integers count from the end.
 ///
-/// Refusals are E6 for types that are not indexed so, and E10 where no such part is there. A disabler, as the
-/// whole or as the index, gives a disabler.
+/// Refusals are E6 for types that cannot be indexed like this, and E10 if there is no such part. A disabler, as the whole or as the index,
+/// gives a disabler.
 pub fn index(
     alloc: Global,
     whole: &Value,
@@ -42,7 +42,7 @@ pub fn index(
     }
 }
 
-// The place that an index means among so many parts.
+// Returns the position that an index denotes among `len` parts, and `None` if it is out of range.
 fn place(index: i128, len: usize) -> Option<usize>
     ensures { result ≡ place index len }
 {
@@ -55,7 +55,7 @@ fn place(index: i128, len: usize) -> Option<usize>
     }
 }
 
-/// The item of a list that an index means. Negative ones count from the end.
+/// Returns the item of a list at an index, and `None` if it is out of range. A negative index counts from the end.
 pub fn indexed_item(list: &List, index: i128) -> Option<&Value>
     ensures { option_map (λ v. data_of v.now) result ≡ indexed_item list.now index }
 {
@@ -63,7 +63,7 @@ pub fn indexed_item(list: &List, index: i128) -> Option<&Value>
     list.items().get(at)
 }
 
-// A place that counts from the front is found by a walk to it, any other by a walk over the whole text.
+// Returns the character at an index. For an index from the start the text is read only up to it, for any other the whole text.
 fn indexed_char(text: &str, index: i128) -> Option<char>
     ensures { result ≡ indexed_char text.now index }
 {
@@ -101,7 +101,7 @@ fn indexed_output(object: &Object, index: i128) -> Result<Object, Refusal>
     }
 }
 
-// The value itself, where one was found.
+// Returns a copy of the value that was found, and E10 if there is none.
 fn give_found(value: Option<&Value>) -> Result<Result<Value, Refusal>, AllocError>
     ensures { IfOk result (λ r. Answers (ok_or (option_map (λ v. data_of v.now) value.entry) refusal.Absent) r) }
 {
@@ -111,7 +111,7 @@ fn give_found(value: Option<&Value>) -> Result<Result<Value, Refusal>, AllocErro
     Ok(Ok(value.clone()?))
 }
 
-// The text of a character, where one was found.
+// Returns the text of the character that was found, and E10 if there is none.
 fn text_of(alloc: Global, character: Option<char>) -> Result<Result<Value, Refusal>, AllocError>
     ensures { IfOk result (λ r. Answers (ok_or (char_text character) refusal.Absent) r) }
 {

@@ -1,4 +1,4 @@
-//! Equality and order.
+//! Evaluates equality and order.
 
 ghost use Rattle.std.specs.Prelude.{◌≡◌, false, not, option_map};
 ghost use Rattle.values.specs.Prelude.{data_of};
@@ -9,7 +9,7 @@ ghost use Rattle.operations.specs.operators.Rows.{equality as equality_row, orde
 use std::cmp::Ordering;
 use values::{Object, Value, is_equal};
 
-/// Whether two values of one type are equal by structure.
+/// Returns whether two values of one type are equal by structure, and `None` for values of different types.
 pub fn equality(left: &Value, right: &Value) -> Option<bool>
     ensures { result ≡ equality_row (data_of left.now) (data_of right.now) }
 {
@@ -20,14 +20,14 @@ pub fn equality(left: &Value, right: &Value) -> Option<bool>
     }
 }
 
-/// Whether two values of one type differ.
+/// Returns whether two values of one type differ, and `None` for values of different types.
 pub fn inequality(left: &Value, right: &Value) -> Option<bool>
     ensures { result ≡ option_map not (equality_row (data_of left.now) (data_of right.now)) }
 {
     Some(!equality(left, right)?)
 }
 
-/// How two texts are ordered, by their bytes. Two integers are told before.
+/// Returns the order of two texts, by their bytes, and `None` for other types. Two integers are compared elsewhere.
 pub fn order(left: &Value, right: &Value) -> Option<Ordering>
     requires { are_integers (data_of left.now) (data_of right.now) ≡ false }
     ensures { result ≡ order_row (data_of left.now) (data_of right.now) }

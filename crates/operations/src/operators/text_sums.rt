@@ -1,4 +1,4 @@
-//! Sums of texts, and paths.
+//! Concatenates texts and joins paths.
 
 ghost use Rattle.std.specs.Prelude.{◌≡◌, ◌++◌, IfOk};
 ghost use Rattle.values.specs.Data.{text as text_data};
@@ -10,7 +10,7 @@ use support::paths::before_path;
 use values::texts::join;
 use values::{Refusal, Text, Value};
 
-/// One text and then another. It grows in place where nobody else holds it.
+/// Returns one text followed by another, or E22 past the limit. The first one grows in place if nobody else shares it.
 pub fn concatenate(
     alloc: Global,
     mut first: Text,
@@ -24,7 +24,7 @@ pub fn concatenate(
     }
 }
 
-/// The text of a path and one below it, or `Refusal::Limit` where that is too long. A short one needs no memory of its own.
+/// Returns the path of `path` below `folder`, or `Refusal::Limit` if it is too long. A short one is not allocated.
 pub fn path_text(
     alloc: Global,
     folder: &str,

@@ -1,4 +1,4 @@
--- What declared options stand for, one by one.
+-- Defines single declared options, without their place in memory.
 use Rattle.std.specs.Prelude.{ℕ, List, map, string_bytes, String}
 use Rattle.std.specs.Option.{option_map}
 use Rattle.std.specs.declared.alloc.Global.{Global}
@@ -17,14 +17,14 @@ given_in (written.Integer number) = given.Integer number
 given_in (written.Texts items) = given.Texts (strings_in items.items)
 given_in written.Other = given.Other
 
--- an option that a call declares, with its name
+-- Returns an option that a call declares, with its name.
 abbrev pub option_in : List ℕ → Declaration → plain.Declaration
 option_in name d = record { name = name; kind = kind_in d.kind; value = option_map given_in d.value; line = d.line }
 
 abbrev pub entry_in : String Global × Declaration → plain.Declaration
 entry_in e = option_in (string_bytes e.0) e.1
 
--- an option that is shown with its name
+-- Returns an option with its name, as both are shown.
 abbrev pub shown_in : Bor (List ℕ) × Bor Declaration → plain.Declaration
 shown_in e = option_in e.0.now e.1.now
 

@@ -1,9 +1,9 @@
--- A fault of an option file, as a run tells it.
+-- Defines a fault of an option file, as a run reports it.
 use Rattle.std.specs.Prelude.{ℕ, List}
 use Rattle.support.specs.Faults.{FaultData}
 use Rattle.support.specs.declared.faults.refusal.Refusal.{Refusal}
 
--- what is refused in a line, and what that is about
+-- What is refused on a line, and the details.
 pub record DeclareFaultData : Type 0 where
   pub refusal : Refusal
   pub line : ℕ

@@ -1,4 +1,4 @@
--- A fault of an option file, without where it lies in memory.
+-- Defines a fault of an option file, without its place in memory.
 use Rattle.std.specs.Prelude.{string_bytes}
 use Rattle.options.specs.option_file.Fault.{DeclareFaultData}
 use Rattle.options.specs.declared.option_file.fault.DeclareFault.{DeclareFault}

@@ -1,4 +1,4 @@
--- The keywords of a call of `option`, and what they give.
+-- Defines the keywords of a call of `option`, and what they give.
 use Rattle.std.specs.Prelude.{ℕ, ℤ, Bool, List, [], ◌∷◌, Option, Some, None, codes, bytes_eq, if◌then◌else◌}
 use Rattle.std.specs.Option.{option_map}
 use Rattle.machine.specs.option_values.Kinds as kinds
@@ -11,7 +11,7 @@ use Rattle.machine.specs.option_values.Types.{type_named}
 use Rattle.options.specs.option_file.Given.{Given, Text, Integer, Texts}
 use Rattle.support.specs.Among.{is_among}
 
--- what the keywords up to some place give; a type, choices and bounds are what they have to be
+-- What the keywords up to some place give. A type, choices and bounds already have the right form.
 pub record Keywords : Type 0 where
   pub kind : Option OptionType
   pub value : Option Given
@@ -19,10 +19,11 @@ pub record Keywords : Type 0 where
   pub least : Option ℤ
   pub greatest : Option ℤ
 
+-- Returns the keywords of a call without any.
 abbrev pub nothing_given : Keywords
 nothing_given = record { kind = None; value = None; choices = None; least = None; greatest = None }
 
--- the keywords that there are; a description and `yield` have no effect
+-- Returns the keyword with this name. `description` and `yield` have no effect.
 unfoldable pub keyword_named : List ℕ → Option Keyword
 keyword_named name =
     if bytes_eq name (codes "type") then Some words.Kind
@@ -34,26 +35,26 @@ keyword_named name =
     else (if bytes_eq name (codes "yield") then Some words.NoEffect
     else None))))))
 
--- the keywords of functions that are left out
+-- Returns whether the keyword is left out.
 abbrev pub is_left_out : List ℕ → Bool
 is_left_out = is_among (codes "kwargs" ∷ codes "fallback" ∷ codes "deprecated" ∷ [])
 
--- a type is the name of one, as a text
+-- Returns the type whose name is given as a text.
 abbrev pub type_in : Given → Option OptionType
 type_in (Text name) = type_named name
 type_in _ = None
 
--- choices are a list of texts
+-- Returns the choices, which must be a list of texts.
 abbrev pub choices_in : Given → Option (List (List ℕ))
 choices_in (Texts items) = Some items
 choices_in _ = None
 
--- a bound is an integer of 64 bits
+-- Returns the bound, which must be an integer of 64 bits.
 abbrev pub bound_in : Given → Option ℤ
 bound_in (Integer n) = Some n
 bound_in _ = None
 
--- one more keyword, and what it gives; nothing where it may not give this
+-- Records one more keyword and what it gives, if the keyword may give this.
 abbrev pub noted : Keywords → Keyword → Given → Option Keywords
 noted k words.Kind g = option_map (λ t. record k { kind = Some t }) (type_in g)
 noted k words.Value g = Some (record k { value = Some g })
@@ -62,16 +63,17 @@ noted k words.Min g = option_map (λ n. record k { least = Some n }) (bound_in g
 noted k words.Max g = option_map (λ n. record k { greatest = Some n }) (bound_in g)
 noted k words.NoEffect g = Some k
 
--- a combo has at least one choice
+-- Returns a combo of these choices, of which there must be one.
 abbrev pub combo_of : Option (List (List ℕ)) → Option Kind
 combo_of (Some (first ∷ others)) = Some (kinds.Combo (first ∷ others))
 combo_of _ = None
 
--- an integer has a value of its own
+-- Returns the kind of an integer, which needs a default.
 abbrev pub integer_of : Option Given → Option ℤ → Option ℤ → Option Kind
 integer_of (Some g) least greatest = Some (kinds.Integer least greatest)
 integer_of None least greatest = None
 
+-- Returns what an option of this type with these keywords takes.
 abbrev pub kind_of_type : Keywords → OptionType → Option Kind
 kind_of_type k types.Text = Some kinds.Text
 kind_of_type k types.Boolean = Some kinds.Boolean
@@ -80,14 +82,15 @@ kind_of_type k types.Integer = integer_of k.value k.least k.greatest
 kind_of_type k types.Array = Some (kinds.Array k.choices)
 kind_of_type k types.Feature = Some kinds.Feature
 
+-- Returns what an option with these keywords takes, if its type is given.
 abbrev pub kind_with : Keywords → Option OptionType → Option Kind
 kind_with k None = None
 kind_with k (Some t) = kind_of_type k t
 
--- what an option with these keywords takes; nothing where a keyword is missing that it needs
+-- Returns what an option with these keywords takes, if no required keyword is missing.
 abbrev pub kind_of : Keywords → Option Kind
 kind_of k = kind_with k k.kind
 
--- what an option with these keywords takes, and the default that it is given
+-- Returns what an option with these keywords takes, and its default.
 abbrev pub asked_by : Keywords → Option (Kind × Option Given)
 asked_by k = option_map (λ kind. (kind, k.value)) (kind_of k)

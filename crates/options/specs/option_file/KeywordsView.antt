@@ -1,4 +1,4 @@
--- What the keywords of a call stand for.
+-- Defines the keywords of a call, without their place in memory.
 use Rattle.std.specs.Prelude.{Option}
 use Rattle.std.specs.Option.{option_map}
 use Rattle.machine.specs.declared.option_values.kind.OptionKind.{OptionKind}
@@ -19,6 +19,6 @@ keywords_in k = record {
   greatest = k.max;
 }
 
--- what an option takes, and the default that it is given
+-- Returns what an option takes, and its default.
 abbrev pub asked_in : OptionKind × Option Given → Kind × Option given.Given
 asked_in a = (kind_in a.0, option_map given_in a.1)

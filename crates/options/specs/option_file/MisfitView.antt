@@ -1,4 +1,4 @@
--- What is wrong with a statement, without where it lies in memory.
+-- Defines what is wrong with a statement, without its place in memory.
 use Rattle.std.specs.Prelude.{string_bytes}
 use Rattle.options.specs.option_file.Misfits as plain
 use Rattle.options.specs.declared.option_file.misfit.Misfit.{Misfit}

@@ -1,37 +1,38 @@
--- What is wrong with a statement of an option file, and the words that say so.
+-- Defines in words what is wrong with a statement of an option file.
 use Rattle.std.specs.Prelude.{ℕ, List, ◌++◌, codes}
 use Rattle.support.specs.declared.faults.refusal.Refusal.{Refusal}
 use Rattle.support.specs.declared.faults.refusal.Refusal.TheVariants as refusals
 
 pub data MisfitData : Type 0 where
-  -- it is no call of `option`
+  -- The statement is no call of `option`.
   NoCall : MisfitData
-  -- a keyword that stands twice, and one that is left out
+  -- A keyword that occurs twice, and one that is left out.
   Twice : (key : List ℕ) → MisfitData
   LeftOut : (key : List ℕ) → MisfitData
-  -- an option of this name was declared before
+  -- An option of this name was declared before.
   Again : (name : List ℕ) → MisfitData
-  -- no text says the name of the option; or the text is no name, or that of an option that every project has
+  -- No text gives the name of the option, or the text is no valid name, or it is that of a built-in option.
   Nameless : MisfitData
   NoName : (text : List ℕ) → MisfitData
   BuiltIn : (name : List ℕ) → MisfitData
-  -- a further argument without a keyword
+  -- A further argument without a keyword.
   TooMany : MisfitData
-  -- a keyword that there is not, and one with something else than plain values
+  -- An unknown keyword, and one with something other than plain values.
   Unknown : (key : List ℕ) → MisfitData
   NoPlain : (key : List ℕ) → MisfitData
-  -- a keyword whose value is no type, no choices, or no bound
+  -- A keyword whose value is no type, no choices, or no bound.
   NoType : (key : List ℕ) → MisfitData
   NoChoices : (key : List ℕ) → MisfitData
   NoBound : (key : List ℕ) → MisfitData
-  -- a keyword that is needed and not given
+  -- A required keyword that is missing.
   Missing : (key : List ℕ) → MisfitData
 
--- what is refused, and what that is about
+-- What is refused, and the details.
 pub record RefusedData : Type 0 where
   pub refusal : Refusal
   pub detail : List ℕ
 
+-- Returns E23 for a keyword that is left out, and else E15.
 abbrev pub refusal_of : MisfitData → Refusal
 refusal_of (LeftOut key) = refusals.LeftOut
 refusal_of _ = refusals.OptionValue
@@ -42,6 +43,7 @@ text_is text words = codes "'" ++ (text ++ (codes "': " ++ words))
 abbrev pub keyword_is : List ℕ → List ℕ → List ℕ
 keyword_is key words = codes "keyword '" ++ (key ++ (codes "': " ++ words))
 
+-- Returns the details in words.
 abbrev pub words_of : MisfitData → List ℕ
 words_of NoCall = codes "statement: is no call of option"
 words_of (Twice key) = keyword_is key (codes "stands twice")
@@ -58,5 +60,6 @@ words_of (NoChoices key) = keyword_is key (codes "takes a list of texts")
 words_of (NoBound key) = keyword_is key (codes "takes an integer")
 words_of (Missing key) = keyword_is key (codes "is missing, and is needed")
 
+-- Returns the refusal with its details.
 abbrev pub refused_as : MisfitData → RefusedData
 refused_as m = record { refusal = refusal_of m; detail = words_of m }

@@ -1,4 +1,4 @@
--- What the code's own types stand for.
+-- Defines the plain values of the code's types.
 pub use Rattle.options.specs.option_file.Entries.{given_in, option_in, entry_in, shown_in, entries_in}
 use Rattle.std.specs.Prelude.{List, Result, Ok, Err, String}
 use Rattle.std.specs.declared.alloc.Global.{Global}
@@ -12,21 +12,21 @@ use Rattle.options.specs.declared.option_file.declaration.Declared.{Declared}
 use Rattle.options.specs.declared.option_file.fault.DeclareFault.{DeclareFault}
 use Rattle.options.specs.option_file.Declarations as plain
 
--- the option that a call declares, or what is wrong with it
+-- Returns the option that a call declares, or what is wrong with it.
 abbrev pub call_in : Result (String Global × Declaration) Refused → Result plain.Declaration RefusedData
 call_in (Ok e) = Ok (entry_in e)
 call_in (Err refused) = Err (refused_in refused)
 
--- the options, in the order of their calls
+-- Returns the options, in the order of their calls.
 abbrev pub options_in : Declared → List plain.Declaration
 options_in declared = entries_in declared.options.entries
 
--- the options after a statement, or what is wrong with it
+-- Returns the options after a statement, or what is wrong with it.
 abbrev pub after_in : Result Declared Refused → Result (List plain.Declaration) RefusedData
 after_in (Ok declared) = Ok (options_in declared)
 after_in (Err refused) = Err (refused_in refused)
 
--- what is declared, or the fault
+-- Returns what is declared, or the fault.
 abbrev pub declared_in : Result Declared DeclareFault → Result (List plain.Declaration) DeclareFaultData
 declared_in (Ok declared) = Ok (options_in declared)
 declared_in (Err fault) = Err (fault_in fault)

@@ -1,4 +1,4 @@
-//! Calls of `option`.
+//! Reads calls of `option`.
 
 ghost use Rattle.std.specs.Prelude.{◌≡◌, ◌++◌, [], ◌∷◌, IfOk, IsTrue, false, map, not, string_bytes};
 ghost use Rattle.std.specs.List.{list_any};
@@ -26,7 +26,7 @@ use std::alloc::{AllocError, Global};
 use support::tables::{SipSet, new_set};
 use syntax::tree::Argument;
 
-// Puts a key behind the others; false where it stands among them.
+// Appends a key, or returns false if it is among the others.
 fn put_new(keys: &mut SipSet<String>, key: String) -> Result<bool, AllocError>
     ensures tested { IfOk result (λ new. new ≡ not (is_among (strings_in keys.old.keys) (string_bytes key))) }
     ensures added { IfOk result (λ new. IsTrue new → strings_in keys.new.keys ≡ strings_in keys.old.keys ++ string_bytes key ∷ []) }
@@ -35,7 +35,7 @@ fn put_new(keys: &mut SipSet<String>, key: String) -> Result<bool, AllocError>
     Ok(new)
 }
 
-// Whether an argument's key stands among these; else it is put behind them.
+// Returns whether an argument's key is among these. If not, it is appended.
 fn comes_again(
     alloc: Global,
     keys: &mut SipSet<String>,
@@ -53,7 +53,7 @@ fn comes_again(
     Ok(!new)
 }
 
-// Whether a keyword comes twice.
+// Returns whether a keyword occurs twice.
 fn gives_twice(alloc: Global, arguments: &[Argument<'_>]) -> Result<bool, AllocError>
     ensures { IfOk result (λ twice. twice ≡ gives_twice [] (argument_trees arguments.now)) }
 {
@@ -75,7 +75,7 @@ fn key_said<'a>(argument: &Argument<'a>) -> &'a str
     }
 }
 
-// The first keyword that comes twice.
+// Returns the first keyword that occurs twice.
 fn first_twice<'a>(alloc: Global, arguments: &[Argument<'a>]) -> Result<&'a str, AllocError>
     ensures { IfOk result (λ key. key.now ≡ first_twice [] (map argument_of arguments.now)) }
 {
@@ -97,14 +97,14 @@ fn is_left_out_key(argument: &Argument<'_>) -> bool
     }
 }
 
-// Whether a keyword of those that are left out comes.
+// Returns whether a keyword occurs that is left out.
 fn gives_left_out(arguments: &[Argument<'_>]) -> bool
     ensures { result ≡ list_any (λ a. is_left_out_key (argument_of a).0) arguments.now }
 {
     arguments.iter().any(|argument| is_left_out_key(argument))
 }
 
-// The first keyword of those that are left out.
+// Returns the first keyword that is left out.
 fn first_left_out<'a>(arguments: &[Argument<'a>]) -> &'a str
     ensures { result.now ≡ first_left_out (map argument_of arguments.now) }
 {
@@ -116,14 +116,14 @@ fn first_left_out<'a>(arguments: &[Argument<'a>]) -> &'a str
     ""
 }
 
-// Whether a project may give an option this name.
+// Returns whether a project may give an option this name.
 fn is_free_name(name: &str) -> bool
     ensures { result ≡ is_free_name name.now }
 {
     is_name(name) && !is_built_in(name)
 }
 
-// The name that is given, if it is one that an option may have.
+// Returns the name that is given, if a project may give it to an option.
 fn name_in(given: Option<Given>) -> Option<String>
     ensures { option_map string_bytes result ≡ name_in (option_map given_in given) }
 {
@@ -137,7 +137,7 @@ fn name_in(given: Option<Given>) -> Option<String>
     }
 }
 
-// One more argument, which a keyword gives.
+// Adds one more argument, or returns `None` if no known keyword gives it or its value is wrong.
 fn with_argument(
     alloc: Global,
     keywords: Keywords,
@@ -157,7 +157,7 @@ fn with_argument(
     keywords.note(alloc, keyword, given)
 }
 
-/// What these arguments give, where keywords give them all.
+/// Returns what these arguments give, or `None` if one of them has no known keyword or a wrong value.
 pub(crate) fn keywords_from(
     alloc: Global,
     arguments: &[Argument<'_>],
@@ -174,7 +174,7 @@ pub(crate) fn keywords_from(
     Ok(Some(keywords))
 }
 
-// The name that the first argument gives, which has no keyword.
+// Returns the name that the first argument gives, which has no keyword.
 fn first_name(alloc: Global, first: &Argument<'_>) -> Result<Option<String>, AllocError>
     ensures { IfOk result (λ name. option_map string_bytes name ≡ first_name (argument_of first.now)) }
 {
@@ -184,7 +184,7 @@ fn first_name(alloc: Global, first: &Argument<'_>) -> Result<Option<String>, All
     Ok(name_in(read_given(alloc, first.value())?))
 }
 
-// What the option with these keywords takes, and its default.
+// Returns what the option with these keywords takes, and its default.
 fn asked_by(
     alloc: Global,
     others: &[Argument<'_>],
@@ -198,7 +198,7 @@ fn asked_by(
     }
 }
 
-// The option that these arguments declare on this line: its name, and then keywords.
+// Returns the option that these arguments declare on this line: its name, followed by keywords.
 fn option_of(
     alloc: Global,
     line: usize,
@@ -225,8 +225,8 @@ fn refuse_twice(alloc: Global, arguments: &[Argument<'_>]) -> Result<Refused, Al
     Misfit::Twice(key).refuse(alloc)
 }
 
-/// The option that a call of `option` declares, with its name, or what is wrong with the call: a keyword that comes twice is
-/// found first, then one that is left out, and then all else.
+/// Returns the option that a call of `option` declares, with its name, or what is wrong with the call. A keyword that occurs twice is
+/// reported first, then one that is left out, then everything else.
 pub fn call_declares(
     alloc: Global,
     line: usize,

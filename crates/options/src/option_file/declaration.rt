@@ -1,4 +1,4 @@
-//! Options as an option file declares them.
+//! Holds options as an option file declares them.
 
 ghost use Rattle.std.specs.Prelude.{◌≡◌, ◌==◌, ◌++◌, [], ◌∷◌, true, length, slice_get, string_bytes, IfOk};
 ghost use Rattle.std.specs.Option.{option_map};
@@ -9,33 +9,32 @@ use machine::option_values::OptionKind;
 use std::alloc::{AllocError, Global};
 use support::tables::{SipMap, new_map};
 
-/// What an argument gives, as it is written. Of `value:` only its form is known: whether it is a value of the option is found
-/// when the options are resolved.
+/// Holds what an argument gives, as it is written. Of `value:` only the form is known here. Whether it is a value of the option is decided
+/// when options are resolved.
 #[derive(Drop)]
 pub enum Given {
     /// A plain or a raw string, after its escapes.
     Text(String),
     Boolean(bool),
-    /// A number that 64 bits hold.
+    /// A number that fits in 64 bits.
     Integer(i64),
     /// A list of texts.
     Texts(Vec<String>),
-    /// What no option takes: a number that 64 bits do not hold, or a list of other things than texts.
+    /// A value that no option takes: a number that does not fit in 64 bits, or a list of things other than texts.
     Other,
 }
 
-/// An option as its call declares it.
+/// Holds an option as its call declares it.
 #[derive(Drop)]
 pub struct Declaration {
     pub kind: OptionKind,
-    /// The default that the call gives.
+    /// The default, if the call gives one.
     pub value: Option<Given>,
     /// The line, from 1, of its statement.
     pub line: usize,
 }
 
-/// The options of an option file, in the order of their calls. Their names differ, and none is that of an option that every
-/// project has.
+/// Holds the options of an option file, in the order of their calls. Their names differ, and none is that of a built-in option.
 pub struct Declared {
     pub(crate) options: SipMap<String, Declaration>,
     ghost differ: { are_new (entries_in options.entries) ≡ true },
@@ -51,7 +50,7 @@ impl Declared {
     ghost use Rattle.options.specs.option_file.Lookups.{is_new, is_used, option_named};
     ghost use Rattle.options.specs.option_file.View.{option_in, options_in, shown_in};
 
-    /// What a project without an option file declares: nothing.
+    /// Returns the declarations of a project without an option file: none.
     pub fn empty(alloc: Global) -> Declared
         ensures { options_in result ≡ [] }
     {
@@ -60,14 +59,14 @@ impl Declared {
         }
     }
 
-    // Whether an option has this name.
+    // Returns whether an option has this name.
     pub(crate) fn has(&self, name: &str) -> bool
         ensures { result ≡ is_used name.now (options_in self.now) }
     {
         self.options.contains_key(name)
     }
 
-    // With one more option behind the others; its name is new.
+    // Appends an option, whose name is new.
     pub(crate) fn with(self, name: String, declaration: Declaration) -> Result<Declared, AllocError>
         requires { is_new (string_bytes name) (options_in self) ≡ true }
         ensures { IfOk result (λ more. options_in more ≡ options_in self ++ option_in (string_bytes name) declaration ∷ []) }
@@ -77,21 +76,21 @@ impl Declared {
         Ok(Declared { options })
     }
 
-    /// How many options there are.
+    /// Returns the number of options.
     pub fn len(&self) -> usize
         ensures { result ≡ length (options_in self.now) }
     {
         self.options.len()
     }
 
-    /// Whether there is no option.
+    /// Returns whether there is no option.
     pub fn is_empty(&self) -> bool
         ensures { result ≡ (length (options_in self.now) == 0) }
     {
         self.options.is_empty()
     }
 
-    /// The i-th option, in the order of the calls, and its name.
+    /// Returns option number `i`, from 0, in the order of the calls, and its name.
     pub fn at(&self, i: usize) -> Option<(&str, &Declaration)>
         ensures { option_map shown_in result ≡ slice_get (options_in self.now) i }
     {
@@ -99,8 +98,8 @@ impl Declared {
         Some((name.as_str(), declaration))
     }
 
-    /// The option of this name. The i-th is looked at first, which costs no hash: a caller knows that it often is the one. Whatever `i` is,
-    /// the answer is that of `get`.
+    /// Returns the option with this name. Option number `i` is compared first, which needs no hash, because a caller often knows the
+    /// number. The result does not depend on `i`.
     pub fn get_near(&self, i: usize, name: &str) -> Option<&Declaration>
         ensures { option_map (λ d. option_in name.now d.now) result ≡ option_named (options_in self.now) name.now }
     {
@@ -110,7 +109,7 @@ impl Declared {
         }
     }
 
-    /// The option of this name. It takes no memory and never fails.
+    /// Returns the option with this name. It does not allocate.
     pub fn get(&self, name: &str) -> Option<&Declaration>
         ensures { option_map (λ d. option_in name.now d.now) result ≡ option_named (options_in self.now) name.now }
     {

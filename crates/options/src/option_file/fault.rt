@@ -1,4 +1,4 @@
-//! Why a file is no option file.
+//! Says why a file is no option file.
 
 ghost use Rattle.std.specs.Prelude.{◌≡◌, IfOk};
 ghost use Rattle.support.specs.View.{fault_view};
@@ -9,19 +9,19 @@ use std::alloc::{AllocError, Global};
 use support::faults::{Fault, Refusal};
 use thiserror::Error;
 
-/// What is wrong with an option file, and the line, from 1, of the statement: E15, where it declares no option, or E23, where it
-/// has a keyword that is left out.
+/// Holds what is wrong with an option file, and the line, from 1, of the statement. It is E15 if the statement declares no option, and E23
+/// if it has a keyword that is left out.
 #[derive(Debug, Drop, Error)]
 #[error("line {line}: {refusal}{}{detail}", if .detail.is_empty() {""} else {": "})]
 pub struct DeclareFault {
     pub refusal: Refusal,
     pub line: usize,
-    /// What it is about, in words.
+    /// The details, in words.
     pub detail: String,
 }
 
 impl DeclareFault {
-    /// The fault as a run tells it, in the option file with this path.
+    /// Returns the fault in the form that a run reports, in the option file with this path.
     pub fn tell_in(self, alloc: Global, path: &str) -> Result<Fault, AllocError>
         ensures { IfOk result (λ fault. fault_view fault ≡ told_in path.now (fault_in self)) }
     {

@@ -28,7 +28,7 @@ fn line_of(statement: &Statement<'_>) -> usize
     }
 }
 
-// The option that a call of this function declares on this line.
+// Returns the option that a call of this function declares on this line.
 fn function_declares(
     alloc: Global,
     line: usize,
@@ -61,7 +61,7 @@ fn expression_declares(
     }
 }
 
-// The option that a statement declares; it has to be a call of `option`.
+// Returns the option that a statement declares. The statement must be a call of `option`.
 fn statement_declares(
     alloc: Global,
     statement: &Statement<'_>,
@@ -74,7 +74,7 @@ fn statement_declares(
     }
 }
 
-// The options and the one that a statement declares, whose name has to be new.
+// Adds the option that a statement declares. Its name must be new.
 #[tactic(auto, unfolding(crate::specs::option_file::Declares::after))]
 fn after(
     alloc: Global,
@@ -95,8 +95,9 @@ fn after(
     Ok(Ok(more))
 }
 
-/// What an option file declares, in the order of its statements, or its first fault, at the line of its statement. Each
-/// statement is a call of `option`, as the Meson manual's page "Build options" has it.
+/// Returns what an option file declares, in the order of its statements, or its first fault, at the line of its statement.
+///
+/// Each statement must be a call of `option`, as the Meson manual's page "Build options" describes it.
 pub fn declare(alloc: Global, file: &File<'_>) -> Result<Result<Declared, DeclareFault>, AllocError>
     ensures { IfOk result (λ answer. declared_in answer ≡ file_declares (file_of file.now)) }
 {

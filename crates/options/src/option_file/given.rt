@@ -1,4 +1,4 @@
-//! What the arguments of a call give.
+//! Reads what the arguments of a call give.
 
 ghost use Rattle.std.specs.Prelude.{◌≡◌, IfOk, map};
 ghost use Rattle.std.specs.Option.{option_map};
@@ -16,7 +16,7 @@ use syntax::lexer::text_of_slice;
 use syntax::lexer::token::Kind;
 use syntax::tree::{Expression, Literal, Prefix};
 
-// The text of a string of this kind.
+// Returns the text of a string of this kind.
 fn text(alloc: Global, kind: Kind, slice: &str) -> Result<Option<Given>, AllocError>
     ensures { IfOk result (λ g. option_map given_in g ≡ Some (TextSaid (text_of kind slice.now))) }
 {
@@ -37,7 +37,7 @@ fn literal_given(alloc: Global, literal: Literal, slice: &str) -> Result<Option<
     }
 }
 
-// A literal behind a minus, which has to be a number.
+// Returns the negative number of a literal after a minus.
 fn negative_literal(literal: Literal, slice: &str) -> Option<Given>
     ensures { option_map given_in result ≡ negative_literal literal slice.now }
 {
@@ -47,7 +47,7 @@ fn negative_literal(literal: Literal, slice: &str) -> Option<Given>
     }
 }
 
-// What stands behind a minus: a number alone.
+// Returns what an expression after a minus gives, which must be a number.
 fn negative_given(value: &Expression<'_>) -> Option<Given>
     ensures { option_map given_in result ≡ negative_given (expression_of value.now) }
 {
@@ -66,7 +66,7 @@ fn prefix_given(prefix: Prefix, value: &Expression<'_>) -> Option<Given>
     }
 }
 
-// A string, a boolean, or a number with a minus or without.
+// Returns a string, a boolean, or a number with or without a minus.
 fn item_given(alloc: Global, value: &Expression<'_>) -> Result<Option<Given>, AllocError>
     ensures { IfOk result (λ g. option_map given_in g ≡ item_given (expression_of value.now)) }
 {
@@ -81,7 +81,7 @@ fn item_given(alloc: Global, value: &Expression<'_>) -> Result<Option<Given>, Al
     }
 }
 
-// The items of a list, where there is no list among them.
+// Returns the items of a list, or `None` if one of them is a list or something else.
 fn items_given(alloc: Global, items: &[Expression<'_>]) -> Result<Option<Vec<Given>>, AllocError>
     ensures { IfOk result (λ v. option_map (λ gs. map given_in gs.items) v ≡ items_given (expressions (map expression_of items.now))) }
 {
@@ -95,7 +95,7 @@ fn items_given(alloc: Global, items: &[Expression<'_>]) -> Result<Option<Vec<Giv
     Ok(Some(all))
 }
 
-// The list of texts that items are, where they are texts alone.
+// Returns the list of texts, or `Other` if an item is no text.
 fn list_given(alloc: Global, items: Vec<Given>) -> Result<Given, AllocError>
     ensures { IfOk result (λ g. given_in g ≡ list_given (map given_in items.items)) }
 {
@@ -109,7 +109,7 @@ fn list_given(alloc: Global, items: Vec<Given>) -> Result<Given, AllocError>
     Ok(Given::Texts(texts))
 }
 
-// A list of strings, booleans and numbers.
+// Returns a list of strings, booleans and numbers.
 fn list(alloc: Global, items: &[Expression<'_>]) -> Result<Option<Given>, AllocError>
     ensures { IfOk result (λ g. option_map given_in g ≡ option_map list_given (items_given (expressions (map expression_of items.now)))) }
 {
@@ -119,7 +119,7 @@ fn list(alloc: Global, items: &[Expression<'_>]) -> Result<Option<Given>, AllocE
     Ok(Some(list_given(alloc, items)?))
 }
 
-/// What an argument gives: a string, a boolean, a number, or a list of these. Nothing where it is written as anything else.
+/// Returns what an argument gives: a string, a boolean, a number, or a list of these. Returns `None` if it is written as anything else.
 pub fn read_given(alloc: Global, value: &Expression<'_>) -> Result<Option<Given>, AllocError>
     ensures { IfOk result (λ g. option_map given_in g ≡ given (expression_of value.now)) }
 {

@@ -1,4 +1,4 @@
-//! The keywords of a call of `option`.
+//! Reads the keywords of a call of `option`.
 
 ghost use Rattle.std.specs.Prelude.{◌≡◌, IfOk, Some};
 ghost use Rattle.std.specs.Option.{option_map};
@@ -14,7 +14,7 @@ use machine::option_values::{Choices, OptionKind, OptionType};
 use std::alloc::{AllocError, Global};
 use support::text_lists::is_among;
 
-/// A keyword of `option`, by what it gives.
+/// Names a keyword of `option`, by what it gives.
 #[derive(Clone, Copy)]
 pub enum Keyword {
     /// `type:`
@@ -27,7 +27,7 @@ pub enum Keyword {
     NoEffect,
 }
 
-/// What the keywords of a call give so far.
+/// Holds what the keywords of a call give so far.
 #[derive(Drop)]
 pub struct Keywords {
     pub kind: Option<OptionType>,
@@ -38,7 +38,7 @@ pub struct Keywords {
 }
 
 impl Keyword {
-    /// The keyword of this name, if there is one.
+    /// Returns the keyword of this name, if there is one.
     #[tactic(auto, unfolding(crate::specs::option_file::Keywords::keyword_named))]
     pub fn from_name(name: &str) -> Option<Keyword>
         ensures { result ≡ keyword_named name.now }
@@ -55,14 +55,14 @@ impl Keyword {
     }
 }
 
-/// Whether this names a keyword of functions that is left out.
+/// Returns whether this names a keyword that is left out.
 pub fn is_left_out(name: &str) -> bool
     ensures { result ≡ is_left_out name.now }
 {
     is_among(&["kwargs", "fallback", "deprecated"], name)
 }
 
-/// The type that is given by its name.
+/// Returns the type whose name is given.
 pub(crate) fn type_in(given: &Given) -> Option<OptionType>
     ensures { result ≡ type_in (given_in given.now) }
 {
@@ -72,7 +72,7 @@ pub(crate) fn type_in(given: &Given) -> Option<OptionType>
     }
 }
 
-// Choices are a list of texts.
+// Returns the choices, which must be a list of texts.
 fn choices_in(alloc: Global, given: Given) -> Result<Option<Choices>, AllocError>
     ensures { IfOk result (λ choices. option_map texts_of choices ≡ choices_in (given_in given)) }
 {
@@ -82,7 +82,7 @@ fn choices_in(alloc: Global, given: Given) -> Result<Option<Choices>, AllocError
     }
 }
 
-/// A bound is an integer of 64 bits.
+/// Returns the bound, which must be an integer of 64 bits.
 pub(crate) fn read_bound(given: &Given) -> Option<i64>
     ensures { result ≡ bound_in (given_in given.now) }
 {
@@ -92,7 +92,7 @@ pub(crate) fn read_bound(given: &Given) -> Option<i64>
     }
 }
 
-// A combo has at least one choice.
+// Returns a combo of these choices, of which there must be one.
 fn combo_of(choices: Option<Choices>) -> Option<OptionKind>
     ensures { option_map kind_in result ≡ combo_of (option_map texts_of choices) }
 {
@@ -105,7 +105,7 @@ fn combo_of(choices: Option<Choices>) -> Option<OptionKind>
 }
 
 impl Keywords {
-    /// What no keyword gives.
+    /// Returns the keywords of a call without any.
     pub fn new() -> Keywords
         ensures { keywords_in result ≡ nothing_given }
     {
@@ -118,7 +118,7 @@ impl Keywords {
         }
     }
 
-    // A type is given, by its name.
+    // Records the type, which is given by its name.
     fn with_kind(mut self, given: &Given) -> Option<Keywords>
         ensures { option_map keywords_in result ≡ noted (keywords_in self) Keyword.Kind (given_in given.now) }
     {
@@ -126,7 +126,7 @@ impl Keywords {
         Some(self)
     }
 
-    // A default is given, whatever it is.
+    // Records a default of any form.
     fn with_value(mut self, given: Given) -> Keywords
         ensures { Some (keywords_in result) ≡ noted (keywords_in self) Keyword.Value (given_in given) }
     {
@@ -134,7 +134,7 @@ impl Keywords {
         self
     }
 
-    // Choices are given.
+    // Records the choices.
     fn with_choices(mut self, alloc: Global, given: Given) -> Result<Option<Keywords>, AllocError>
         ensures { IfOk result (λ k. option_map keywords_in k ≡ noted (keywords_in self) Keyword.Choices (given_in given)) }
     {
@@ -145,7 +145,7 @@ impl Keywords {
         Ok(Some(self))
     }
 
-    // A lower bound is given.
+    // Records the lower bound.
     fn with_min(mut self, given: &Given) -> Option<Keywords>
         ensures { option_map keywords_in result ≡ noted (keywords_in self) Keyword.Min (given_in given.now) }
     {
@@ -153,7 +153,7 @@ impl Keywords {
         Some(self)
     }
 
-    // An upper bound is given.
+    // Records the upper bound.
     fn with_max(mut self, given: &Given) -> Option<Keywords>
         ensures { option_map keywords_in result ≡ noted (keywords_in self) Keyword.Max (given_in given.now) }
     {
@@ -161,7 +161,7 @@ impl Keywords {
         Some(self)
     }
 
-    /// One more keyword, and what it gives; nothing where it may not give this.
+    /// Records one more keyword and what it gives, or returns `None` if the keyword may not give this.
     pub fn note(
         self,
         alloc: Global,
@@ -180,7 +180,7 @@ impl Keywords {
         }
     }
 
-    // What an option of this type takes, with the choices and the bounds that are given.
+    // Returns what an option of this type takes, with the given choices and bounds.
     fn kind_of(&mut self, named: OptionType) -> Option<OptionKind>
         ensures kind { option_map kind_in result ≡ kind_of_type (keywords_in self.old) named }
         ensures value { self.new.value ≡ self.old.value }
@@ -195,7 +195,7 @@ impl Keywords {
         }
     }
 
-    // An integer has a value of its own.
+    // Returns the kind of an integer, which needs a default.
     fn integer_kind(&self) -> Option<OptionKind>
         ensures { option_map kind_in result ≡ kind_of_type (keywords_in self.now) OptionType.Integer }
     {
@@ -208,8 +208,7 @@ impl Keywords {
         })
     }
 
-    /// What an option with these keywords takes, and the default that it is given; nothing where a keyword is missing that it
-    /// needs.
+    /// Returns what an option with these keywords takes, and its default. Returns `None` if a required keyword is missing.
     pub fn finish(mut self) -> Option<(OptionKind, Option<Given>)>
         ensures { option_map asked_in result ≡ asked_by (keywords_in self) }
     {

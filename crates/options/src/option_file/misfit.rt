@@ -1,4 +1,4 @@
-//! What is wrong with a statement of an option file, and the words that say so.
+//! Says in words what is wrong with a statement of an option file.
 
 ghost use Rattle.std.specs.Prelude.{◌≡◌, IfOk, string_bytes};
 ghost use Rattle.options.specs.option_file.MisfitView.{misfit_in, refused_in};
@@ -7,28 +7,28 @@ ghost use Rattle.options.specs.option_file.Misfits.{Again, keyword_is, refusal_o
 use std::alloc::{AllocError, Global};
 use support::faults::Refusal;
 
-/// What a statement has that declares no option.
+/// Says why a statement declares no option.
 #[derive(Clone, Copy)]
 pub enum Misfit<'m> {
     /// It is no call of `option`.
     NoCall,
-    /// A keyword that stands twice.
+    /// A keyword that occurs twice.
     Twice(&'m str),
     /// A keyword that is left out.
     LeftOut(&'m str),
     /// An option of this name was declared before.
     Again(&'m str),
-    /// No text says the name of the option.
+    /// No text gives the name of the option.
     Nameless,
-    /// The text is no name of an option.
+    /// The text is no valid name of an option.
     NoName(&'m str),
-    /// The name is that of an option that every project has.
+    /// The name is that of a built-in option.
     BuiltIn(&'m str),
     /// A further argument has no keyword.
     TooMany,
-    /// A keyword that there is not.
+    /// An unknown keyword.
     Unknown(&'m str),
-    /// A keyword with something else than plain values.
+    /// A keyword with something other than plain values.
     NoPlain(&'m str),
     /// A keyword whose value is no type.
     NoType(&'m str),
@@ -36,33 +36,33 @@ pub enum Misfit<'m> {
     NoChoices(&'m str),
     /// A keyword whose value is no integer.
     NoBound(&'m str),
-    /// A keyword that is needed and not given.
+    /// A required keyword that is missing.
     Missing(&'m str),
 }
 
-/// What is refused, and what that is about.
+/// Holds what is refused, and the details.
 #[derive(Drop)]
 pub struct Refused {
     pub refusal: Refusal,
-    /// What it is about, in words.
+    /// The details, in words.
     pub detail: String,
 }
 
-// Of a text this is so.
+// Returns the text that says these words of a text.
 fn text_is(alloc: Global, text: &str, words: &str) -> Result<String, AllocError>
     ensures { IfOk result (λ s. string_bytes s ≡ text_is text.now words.now) }
 {
     format!(in alloc; "'{text}': {words}")
 }
 
-// Of a keyword this is so.
+// Returns the text that says these words of a keyword.
 fn keyword_is(alloc: Global, key: &str, words: &str) -> Result<String, AllocError>
     ensures { IfOk result (λ s. string_bytes s ≡ keyword_is key.now words.now) }
 {
     format!(in alloc; "keyword '{key}': {words}")
 }
 
-// An option of this name was declared before.
+// Returns the text for an option that was declared before.
 fn stands_twice(alloc: Global, name: &str) -> Result<String, AllocError>
     ensures { IfOk result (λ s. string_bytes s ≡ words_of (Again name.now)) }
 {
@@ -100,7 +100,7 @@ impl<'m> Misfit<'m> {
         }
     }
 
-    /// What the statement is refused as: E15, or E23 for what is left out.
+    /// Returns the refusal of the statement: E15, or E23 for what is left out.
     pub fn refuse(self, alloc: Global) -> Result<Refused, AllocError>
         ensures { IfOk result (λ r. refused_in r ≡ refused_as (misfit_in self.entry)) }
     {

@@ -1,10 +1,10 @@
-//! The names of options.
+//! Checks the names of options.
 
 ghost use Rattle.std.specs.Prelude.{◌≡◌};
 ghost use Rattle.std.specs.List.{list_all};
 ghost use Rattle.options.specs.option_file.Names.{in_name, is_name};
 
-// Whether this may stand in the name of an option.
+// Returns whether the byte may be in the name of an option.
 fn in_name(byte: u8) -> bool
     ensures { result ≡ in_name byte }
 {
@@ -17,7 +17,7 @@ fn are_in_name(bytes: &[u8]) -> bool
     bytes.iter().all(|byte| in_name(*byte))
 }
 
-/// Whether a text is a name that an option may have: at least one letter, digit, underscore or minus, and nothing else.
+/// Returns whether a text is a valid name of an option: at least one letter, digit, underscore or minus, and nothing else.
 pub fn is_name(text: &str) -> bool
     ensures { result ≡ is_name text.now }
 {

@@ -1,4 +1,4 @@
-//! The numbers of an option file.
+//! Reads the numbers of an option file.
 
 ghost use Rattle.std.specs.Prelude.{◌≡◌};
 ghost use Rattle.std.specs.Option.{option_map};
@@ -10,10 +10,10 @@ use crate::option_file::declaration::Given;
 use machine::machine_file::integer_of;
 use syntax::lexer::magnitude;
 
-/// The least number that is out of the range of the language's integers.
+/// The least number beyond the range of the language's integers.
 const PAST_INTEGERS: u128 = 1 << 127;
 
-// What a number behind a minus or not gives.
+// Returns what a number with this sign gives.
 fn integer(negative: bool, magnitude: u128) -> Given
     ensures { given_in result ≡ integer (integer_of negative magnitude) }
 {
@@ -23,7 +23,7 @@ fn integer(negative: bool, magnitude: u128) -> Given
     }
 }
 
-/// What a number token behind a minus or not gives: nothing where it is out of the range of integers.
+/// Returns what a number token with this sign gives, or `None` if it is outside the range of integers.
 pub fn numeral(negative: bool, text: &str) -> Option<Given>
     ensures { option_map given_in result ≡ numeral negative text.now }
 {

@@ -1,4 +1,4 @@
-//! Why a call of `option` declares none: it is looked for only where the call is refused.
+//! Finds why a call of `option` declares no option. It runs only if the call is refused.
 
 ghost use Rattle.std.specs.Prelude.{◌≡◌, IfOk, map};
 ghost use Rattle.std.specs.Option.{option_map};
@@ -62,7 +62,7 @@ fn refuse_first(alloc: Global, first: &Argument<'_>) -> Result<Option<Refused>, 
     refuse_given(alloc, &given)
 }
 
-// ---- the others, each by its keyword
+// ---- the other arguments, each by its keyword
 
 fn refuse_noted(
     alloc: Global,
@@ -126,7 +126,7 @@ fn first_refused(alloc: Global, arguments: &[Argument<'_>]) -> Result<Option<Ref
     Ok(None)
 }
 
-// ---- a keyword that is needed
+// ---- a required keyword
 
 fn need_for(kind: Option<OptionType>) -> Misfit<'static>
     ensures { misfit_in result ≡ needed_by kind }
@@ -159,7 +159,7 @@ fn others_unfit(alloc: Global, others: &[Argument<'_>]) -> Result<Refused, Alloc
     }
 }
 
-/// The first thing that is wrong with the arguments of a call that declares no option.
+/// Returns the first fault of the arguments of a call that declares no option.
 pub fn unfit(alloc: Global, arguments: &[Argument<'_>]) -> Result<Refused, AllocError>
     ensures { IfOk result (λ r. refused_in r ≡ unfit (map argument_of arguments.now)) }
 {

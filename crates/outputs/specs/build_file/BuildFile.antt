@@ -1,4 +1,4 @@
--- `build.ninja` of a project.
+-- Defines `build.ninja` of a project.
 use Rattle.std.specs.Prelude.{List, ◌++◌, codes, Result, Ok, Err}
 use Rattle.ports.specs.Endings.{Ending, Whole, Failed, Short}
 use Rattle.ports.specs.Outputs.{Step, opening, closing, puts}
@@ -9,15 +9,15 @@ use Rattle.ninja.specs.Writing.{file_text}
 use Rattle.outputs.specs.declared.build_file.stop.WriteStop.{WriteStop}
 use Rattle.outputs.specs.declared.build_file.stop.WriteStop.TheVariants as stops
 
--- the text of `build.ninja`
+-- Returns the text of `build.ninja`.
 abbrev pub build_file : WorldData → Text
 build_file w = file_text (edges_in w) (default_outputs w)
 
--- the output `build.ninja`, whole
+-- Returns the steps of the whole output `build.ninja`.
 abbrev pub build_steps : WorldData → List Step
 build_steps w = opening (codes "build.ninja") ++ (puts (build_file w) ++ closing)
 
--- how a call ended that writes
+-- Returns the ending of a call that writes.
 abbrev pub ending_of : {B : Type 0} → Result B WriteStop → Ending
 ending_of (Ok x) = Whole
 ending_of (Err stops.Device) = Failed

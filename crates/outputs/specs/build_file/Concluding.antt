@@ -1,4 +1,4 @@
--- How a run ends: what the outputs are asked to take at its end, and its status.
+-- Defines how a run ends: what the outputs are asked to take at its end, and its status.
 use Rattle.std.specs.Prelude.{◌≡◌, ℕ, Bool, true, false, IsTrue, List, ◌++◌, Result, Ok, Err}
 use Rattle.ports.specs.Outputs.{OutputState, Step, Sends, faults}
 use Rattle.ports.specs.declared.fault.DeviceFault.{DeviceFault}
@@ -11,60 +11,60 @@ use Rattle.outputs.specs.build_file.Document.{document_steps}
 use Rattle.outputs.specs.declared.build_file.concluding.Status.{Status}
 use Rattle.outputs.specs.declared.build_file.concluding.Status.TheVariants as statuses
 
--- what outputs are asked to take, in order, and the status
+-- What outputs are asked to take, in order, and the status.
 pub record Whole : Type 0 where
   pub steps : List Step
   pub status : Status
 
--- the outputs of a project: `build.ninja`, then the introspection document
+-- Returns the outputs of a project: `build.ninja`, then the introspection document.
 abbrev pub outputs_steps : WorldData → List Step
 outputs_steps w = build_steps w ++ document_steps w
 
--- all of them
+-- Returns the run that writes all outputs.
 abbrev pub done_with : WorldData → Whole
 done_with w = record { steps = outputs_steps w; status = statuses.Done }
 
--- the line of a fault
+-- Returns the run that writes the line of a fault.
 abbrev pub faulted_with : FaultData → Whole
 faulted_with f = record { steps = faults (fault_line f); status = statuses.Fault }
 
--- the same after what was told before
+-- Returns the run after these earlier steps.
 abbrev pub told_before : List Step → Whole → Whole
 told_before told run = record { steps = told ++ run.steps; status = run.status }
 
--- the exit status of a program that ends so
+-- Returns the exit status of a program that ends with this status.
 abbrev pub exit_status : Status → ℕ
 exit_status statuses.Done = 0
 exit_status statuses.Fault = 1
 exit_status statuses.Device = 2
 exit_status statuses.Memory = 3
 
--- whether a status is one with which a run comes to its end
+-- Returns whether a run with this status comes to its end.
 abbrev pub is_finished : Status → Bool
 is_finished statuses.Done = true
 is_finished statuses.Fault = true
 is_finished statuses.Device = false
 is_finished statuses.Memory = false
 
--- the status is the run's, and the outputs took all of it; or they took a beginning
+-- The status is the run's, and the outputs took all of it; or they took a beginning.
 pub record Agrees (run : Whole) (ended : Status) (old new : OutputState) : Type 0 where
   pub status : IsTrue (is_finished ended) → ended ≡ run.status
   pub events : Sends old new run.steps (is_finished ended)
 
--- how many of the devices' failures a status tells of
+-- Returns how many device failures the status means.
 abbrev pub failed_devices : Status → ℕ
 failed_devices statuses.Done = 0
 failed_devices statuses.Fault = 0
 failed_devices statuses.Device = 1
 failed_devices statuses.Memory = 0
 
--- the status where the outputs were written so
+-- Returns the status after writing the outputs.
 abbrev pub status_of_outputs : Result (Unit {0}) WriteStop → Status
 status_of_outputs (Ok x) = statuses.Done
 status_of_outputs (Err stops.Device) = statuses.Device
 status_of_outputs (Err stops.Memory) = statuses.Memory
 
--- the status where the line of a fault was written so
+-- Returns the status after writing the line of a fault.
 abbrev pub status_of_fault : Result (Unit {0}) DeviceFault → Status
 status_of_fault (Ok x) = statuses.Fault
 status_of_fault (Err e) = statuses.Device

@@ -1,4 +1,4 @@
--- The line of a fault, piece by piece.
+-- Defines the line of a fault, piece by piece.
 use Rattle.std.specs.Prelude.{ℕ, List, [], ◌++◌, Option, Some, None, codes, decimal}
 use Rattle.ports.specs.Outputs.{Step, faults}
 use Rattle.support.specs.Faults.{FaultData, detail_sign, number_of, words_of}

@@ -1,4 +1,4 @@
--- What `build.ninja` of a project means.
+-- Defines what `build.ninja` of a project means.
 use Rattle.std.specs.Prelude.{◌≡◌, ℕ, true, List, ◌∷◌, ◌++◌, Some, codes}
 use Rattle.build.specs.edge.Texts.{Path}
 use Rattle.ninja.specs.Reading.{BuildEdge, manifest_of}
@@ -9,18 +9,20 @@ use Rattle.outputs.specs.build_file.BuildFile.{build_file}
 use Rattle.ninja.specs.Defaults.{default_outputs}
 use Rattle.outputs.specs.build_file.FileEdges.{made_by_all, are_made, Reaches}
 
--- the edges of the file as it is read, `all` the last of them
+-- Returns the edges of the file as they are read. The last is `all`.
 abbrev pub edges_read : WorldData → List BuildEdge
 edges_read w = (file_seen (edges_in w) (default_outputs w)).edges
 
--- what is made by no edge: the file itself, the document, and what `configure_file` makes
+-- Returns the paths that no edge makes: the file itself, the document, and the outputs of `configure_file`.
 abbrev pub made_by_none : WorldData → List Path
 made_by_none w = codes "build.ninja" ∷ codes "meson-info/introspect.json" ∷ w.outputs
 
--- The Ninja manual reads the text as just the six rules, the project's edges, the edge `all` and the default `all`, and a shell reads
--- each command as its edge's words and redirection. Of all these edges, `all` among them: no path is an output of two, nor of one and
--- something that is made by none; each path that an edge needs is a file of the tree that was looked at, what `configure_file` makes, or
--- an output of an edge before it; what `all` needs are outputs of the project's edges; and no edge reaches itself.
+-- The Ninja manual reads the text as exactly the six rules, the project's edges, the edge `all` and the default `all`. A shell reads each
+-- command as its edge's words and redirection. The following holds of all these edges, including `all`:
+-- - No path is an output of two edges, or of one edge and something that no edge makes.
+-- - Each path that an edge needs is a file of the tree that was looked at, an output of `configure_file`, or an output of an earlier edge.
+-- - `all` needs only outputs of the project's edges.
+-- - No edge depends on itself.
 pub record Means (w : WorldData) : Type 0 where
   pub read : manifest_of (build_file w) ≡ Some (file_seen (edges_in w) (default_outputs w))
   pub runs : EachRunsWords (file_seen (edges_in w) (default_outputs w)) (edges_in w)

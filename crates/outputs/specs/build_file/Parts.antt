@@ -1,4 +1,4 @@
--- The parts in which `build.ninja` is written: what stands before the edges, the edges of each target, and what stands behind them.
+-- Defines the parts in which `build.ninja` is written: the text before the edges, the edges of each target, and the text after them.
 use Rattle.std.specs.Prelude.{ℕ, List, ◌++◌, codes}
 use Rattle.ports.specs.Outputs.{Step, opening, closing, puts}
 use Rattle.build.specs.project.World.{WorldData}

@@ -1,4 +1,4 @@
-//! The end of a run, and its status.
+//! Ends a run, and decides its status.
 ghost use Rattle.std.specs.Prelude.{◌≡◌, ◌+◌};
 ghost use Rattle.ports.specs.Endings.{HasRoom};
 ghost use Rattle.ports.specs.Outputs.{Makes};
@@ -18,12 +18,12 @@ use ports::{DeviceFault, Outputs};
 use std::alloc::Global;
 use support::faults::Fault;
 
-/// How a run ended.
+/// Says how a run ended.
 #[derive(Clone, Copy, Debug, PartialEq, Eq)]
 pub enum Status {
     /// All outputs are written.
     Done,
-    /// The definitions are refused, and the fault line is written.
+    /// The definitions are refused, and the line of the fault is written.
     Fault,
     /// A device failed.
     Device,
@@ -60,8 +60,8 @@ fn write_outputs<O: Outputs>(alloc: Global, project: &Project, out: &mut O) -> R
 
 /// Writes the outputs of a project whose definitions are evaluated: `build.ninja`, then the introspection document.
 ///
-/// Status `Done` is answered where the outputs took all of it. With `Device` or `Memory` they took a beginning. What Ninja and a shell
-/// read in `build.ninja` is the project's edges.
+/// Returns `Done` if the outputs took all of it. With `Device` or `Memory` they took a beginning. Ninja and a shell read the project's
+/// edges in `build.ninja`.
 pub fn conclude<O: Outputs>(alloc: Global, project: &Project, out: &mut O) -> Status
     requires { HasRoom (O.seen out.old).failures }
     ensures agrees { Agrees (done_with project.now) result (O.seen out.old) (O.seen out.new) }
@@ -73,9 +73,9 @@ pub fn conclude<O: Outputs>(alloc: Global, project: &Project, out: &mut O) -> St
     status_of_outputs(answer)
 }
 
-/// Tells the fault for which the definitions are refused.
+/// Writes the line of the fault for which the definitions are refused.
 ///
-/// Status `Fault` is answered where the outputs took the whole line. With `Device` they took a beginning.
+/// Returns `Fault` if the outputs took the whole line. With `Device` they took a beginning.
 pub fn refuse<O: Outputs>(fault: &Fault, out: &mut O) -> Status
     requires { HasRoom (O.seen out.old).failures }
     ensures agrees { Agrees (faulted_with (fault_view fault.now)) result (O.seen out.old) (O.seen out.new) }

@@ -1,4 +1,4 @@
-//! The output in which the introspection document stands.
+//! Writes the output with the introspection document.
 ghost use Rattle.ports.specs.Endings.{HasRoom};
 ghost use Rattle.ports.specs.Outputs.{Makes};
 ghost use Rattle.outputs.specs.build_file.BuildFile.{ending_of};
@@ -10,7 +10,7 @@ use introspection::document_text;
 use ports::{Outputs, put_all};
 use std::alloc::Global;
 
-/// Writes `meson-info/introspect.json`: the introspection document of the project.
+/// Writes `meson-info/introspect.json`, the introspection document of the project.
 ///
 /// With [`WriteStop::Device`] one device failed, and with [`WriteStop::Memory`] none did. In both cases the outputs took a beginning.
 pub fn write_document<O: Outputs>(

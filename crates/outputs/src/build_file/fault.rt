@@ -1,4 +1,4 @@
-//! The line that tells a fault.
+//! Writes the line of a fault.
 ghost use Rattle.ports.specs.Endings.{HasRoom, ended};
 ghost use Rattle.ports.specs.Outputs.{Writes, faults};
 ghost use Rattle.support.specs.Faults.{fault_line};
@@ -23,7 +23,7 @@ fn write_detail<O: Outputs>(fault: &Fault, out: &mut O) -> Result<(), DeviceFaul
     }
 }
 
-// The number, the words and the detail.
+// Writes the number, the words and the details.
 #[tactic(auto, using(ports::proofs::Sending::sending))]
 fn write_text<O: Outputs>(fault: &Fault, out: &mut O) -> Result<(), DeviceFault>
     requires { HasRoom (O.seen out.old).failures }
@@ -51,7 +51,7 @@ fn write_line<O: Outputs>(fault: &Fault, out: &mut O) -> Result<(), DeviceFault>
     fault_all(out, b"\n")
 }
 
-/// Writes `FILE:LINE: ERROR: TEXT` and a newline where faults are told.
+/// Writes `FILE:LINE: ERROR: TEXT` and a newline to the stream of fault lines.
 pub fn write_fault<O: Outputs>(fault: &Fault, out: &mut O) -> Result<(), DeviceFault>
     requires { HasRoom (O.seen out.old).failures }
     ensures { Writes (O.seen out.old) (faults (fault_line (fault_view fault.now))) (ended result) (O.seen out.new) }

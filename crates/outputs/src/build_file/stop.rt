@@ -4,7 +4,7 @@ use ports::DeviceFault;
 use std::alloc::AllocError;
 use thiserror::Error;
 
-/// Why a file was not written whole.
+/// Says why a file was not written whole.
 #[derive(Clone, Copy, Debug, Error)]
 pub enum WriteStop {
     /// A device failed.

@@ -1,4 +1,4 @@
-//! `build.ninja`, part by part.
+//! Writes `build.ninja`, part by part.
 ghost use Rattle.std.specs.Prelude.{◌≡◌, true, ◌++◌, codes, flat_map, string_bytes};
 ghost use Rattle.ports.specs.Endings.{HasRoom, ended};
 ghost use Rattle.ports.specs.Outputs.{IsOpen, Makes, Writes, puts};
@@ -26,7 +26,8 @@ use std::alloc::Global;
 
 // ---- the edges of a target
 
-// The edge that compiles an input. It is not made: it shares most of its parts with the other compile edges of the target.
+// Writes the edge that compiles an input. The edge is not made, because it shares most of its parts with the other compile edges of the
+// target.
 fn write_source<O: Outputs>(
     parts: &BuildParts,
     input: &Input,
@@ -106,7 +107,7 @@ fn write_edges<O: Outputs>(edges: &[Edge], out: &mut O) -> Result<(), DeviceFaul
     Ok(())
 }
 
-// The edges of one build target.
+// Writes the edges of one build target.
 #[tactic(auto, using(ports::proofs::Sending::sending))]
 fn write_build<O: Outputs>(alloc: Global, parts: &BuildParts, out: &mut O) -> Result<(), WriteStop>
     requires { IsOpen (O.seen out.old) }
@@ -134,7 +135,7 @@ fn write_parts_of<O: Outputs>(
     }
 }
 
-// The edges of one target. No more than its parts are held at a time.
+// Writes the edges of one target. Only the parts of this target are in memory.
 #[tactic(auto, using(ports::proofs::Sending::sending))]
 fn write_target<O: Outputs>(
     alloc: Global,

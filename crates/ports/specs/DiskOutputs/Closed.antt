@@ -1,4 +1,5 @@
--- What this crate alone knows of the closed definitions: by it the calls of outputs on a disk owe nothing to whoever holds that they tell.
+-- Proves what only this crate knows of the closed definitions: the calls of outputs on a disk owe nothing to a caller who assumes that they
+-- tell.
 use Rattle.std.specs.Prelude.{◌≡◌, false, refl}
 use Rattle.ports.specs.DiskOutputs.{disk_tells}
 

@@ -1,4 +1,5 @@
--- What this crate alone knows of the closed definitions: by it the calls of a tree on a disk owe nothing to whoever holds it for steady.
+-- Proves what only this crate knows of the closed definitions: the calls of a tree on a disk owe nothing to a caller who assumes that it is
+-- steady.
 use Rattle.std.specs.Prelude.{ℕ, IsTrue, List}
 use Rattle.std.proofs.lemmas.Bool.{false≢true}
 use Rattle.ports.specs.DiskTree.{are_steady}

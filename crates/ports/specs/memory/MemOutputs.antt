@@ -5,15 +5,15 @@ use Rattle.ports.specs.memory.Plan.{Planned}
 use Rattle.ports.specs.memory.Slots.{room_of, state_at}
 use Rattle.ports.specs.declared.memory.outputs.MemOutputs.{MemOutputs}
 
--- what outputs in memory are seen as: they always tell
+-- Defines how contracts see outputs in memory: they always tell.
 abbrev pub mem_outputs_seen : MemOutputs → OutputState
 mem_outputs_seen m = state_at m.names.items m.slots.items m.current m.failures
 
--- what is planned for them
+-- Returns the plan of the outputs.
 abbrev pub mem_outputs_plan : MemOutputs → Planned OutputCall
 mem_outputs_plan m = record { piece = m.plan.piece; kind = m.plan.kind; number = m.plan.number }
 
--- how many events there is room for, and for how many bytes of names
+-- Counts the events and the bytes of names that there is room for.
 pub record Room : Type 0 where
   pub events : ℕ
   pub names : ℕ

@@ -8,22 +8,22 @@ use Rattle.ports.specs.Tree.{TreeState}
 use Rattle.ports.specs.declared.memory.tree.MemTree.{MemTree}
 use Rattle.ports.specs.declared.memory.plan.TreeCall.{TreeCall}
 
--- the paths and bytes of these pairs
+-- Returns the paths and bytes of these pairs.
 abbrev pub contents : List (String Global × Vec ℕ Global) → List (List ℕ × List ℕ)
 contents files = map (λ file. (string_bytes file.0, file.1.items)) files
 
--- what a tree in memory is seen as: it is always steady
+-- Returns the state of a tree in memory, which is always steady.
 abbrev pub mem_tree_seen : MemTree → TreeState
 mem_tree_seen tree = record { files = contents tree.files.entries; failures = tree.failures; steady = true }
 
--- what is planned for it
+-- Returns the plan of the tree.
 abbrev pub mem_tree_plan : MemTree → Planned TreeCall
 mem_tree_plan tree = record { piece = tree.plan.piece; kind = tree.plan.kind; number = tree.plan.number }
 
--- whether the path is one of these
+-- Returns whether the path is one of these.
 abbrev pub is_one_of : List (String Global) → List ℕ → Bool
 is_one_of paths path = list_any (λ p. bytes_eq path (string_bytes p)) paths
 
--- whether it answers for this path
+-- Returns whether the tree answers for this path.
 abbrev pub mem_tree_knows : MemTree → List ℕ → Bool
 mem_tree_knows tree path = option_map_or (λ known. is_one_of known.keys path) tree.known true

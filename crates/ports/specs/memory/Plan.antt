@@ -1,22 +1,22 @@
--- Which call of a device in memory fails, and how much a call takes.
+-- Defines which call of a device in memory fails, and how many bytes a call takes.
 use Rattle.std.specs.Prelude.{ℕ, ◌-◌, ◌==◌, ◌&&◌, Bool, true, false, Option, Some, None, if◌then◌else◌}
 use Rattle.ports.specs.declared.memory.plan.TreeCall.{TreeCall}
 use Rattle.ports.specs.declared.memory.plan.TreeCall.TheVariants.{Size, ReadAt, Any as AnyOfTree}
 use Rattle.ports.specs.declared.memory.plan.OutputCall.{OutputCall}
 use Rattle.ports.specs.declared.memory.plan.OutputCall.TheVariants.{Open, Put, Close, Log, Fault, Any}
 
--- at most so many bytes are taken in a call, and of the calls of this kind from now on the one of this number fails, none where it is 0
+-- A call takes at most `piece` bytes. Of the coming calls of this kind, the one with this number fails; none fails if it is 0.
 pub record Planned (C : Type 0) : Type 0 where
   pub piece : ℕ
   pub kind : C
   pub number : ℕ
 
--- what is planned by such a piece, and by a call that is told by its kind and its number, if one is to fail
+-- Returns the plan with this piece, and with the call, given by kind and number, that fails.
 abbrev pub planned : {C : Type 0} → C → ℕ → Option (C × ℕ) → Planned C
 planned any piece None = record { piece = piece; kind = any; number = 0 }
 planned any piece (Some call) = record { piece = piece; kind = call.0; number = call.1 }
 
--- whether the kind has this call
+-- Returns whether the kind includes this call.
 abbrev pub is_tree_call : TreeCall → TreeCall → Bool
 is_tree_call AnyOfTree call = true
 is_tree_call Size Size = true
@@ -32,10 +32,10 @@ is_output_call Log Log = true
 is_output_call Fault Fault = true
 is_output_call kind call = false
 
--- whether a call fails that is counted or not, where the call of this number fails
+-- Returns whether a call fails, given whether it counts and the number of the call that fails.
 abbrev pub is_due : Bool → ℕ → Bool
 is_due counts number = counts && (number == 1)
 
--- the number of the call that fails, once such a call is over
+-- Returns the number of the call that fails, after such a call.
 abbrev pub number_after : Bool → ℕ → ℕ
 number_after counts number = if counts then number - 1 else number

@@ -1,4 +1,4 @@
--- How outputs in memory keep their events: with a name as its place among the bytes of all names.
+-- Defines how outputs in memory keep their events: a name is a range of the bytes of all names.
 use Rattle.std.specs.Prelude.{ℕ, ◌-◌, Bool, true, ◌&&◌, Vec, vec_capacity, vec_len, List, map, slice_range, nat_le, Option, Some, None}
 use Rattle.std.specs.Borrow.{Bor}
 use Rattle.std.specs.declared.alloc.Global.{Global}
@@ -13,7 +13,7 @@ use Rattle.ports.specs.declared.memory.plan.OutputCall.TheVariants as calls
 use Rattle.ports.specs.declared.memory.outputs.Stream.{Stream}
 use Rattle.ports.specs.declared.memory.outputs.Stream.TheVariants.{ToOutput, ToLog, ToFault}
 
--- an event as it is handed out, by what its name refers to
+-- Returns an event as `event` returns it, with its name resolved.
 unfoldable pub event_now : Event (Bor (List ℕ)) → outputs.Event
 event_now (Open name) = outputs.Open name.now
 event_now (Byte name byte) = outputs.Byte name.now byte
@@ -21,9 +21,11 @@ event_now (Close name) = outputs.Close name.now
 event_now (Log byte) = outputs.Log byte
 event_now (Fault byte) = outputs.Fault byte
 
+-- Returns the name at a span.
 abbrev pub name_at : List ℕ → Span → List ℕ
 name_at names span = slice_range names span.start span.end
 
+-- Returns an event with its name.
 unfoldable pub event_at : List ℕ → Event Span → outputs.Event
 event_at names (Open span) = outputs.Open (name_at names span)
 event_at names (Byte span byte) = outputs.Byte (name_at names span) byte
@@ -31,16 +33,20 @@ event_at names (Close span) = outputs.Close (name_at names span)
 event_at names (Log byte) = outputs.Log byte
 event_at names (Fault byte) = outputs.Fault byte
 
+-- Returns the name of the open output.
 unfoldable pub open_at : List ℕ → Option Span → Option (List ℕ)
 open_at names None = None
 open_at names (Some span) = Some (name_at names span)
 
+-- Returns the events with their names.
 unfoldable pub events_at : List ℕ → List (Event Span) → List outputs.Event
 events_at names slots = map (event_at names) slots
 
+-- Returns whether a span lies within a text of this length.
 abbrev pub is_span_within : ℕ → Span → Bool
 is_span_within len span = nat_le span.start span.end && nat_le span.end len
 
+-- Returns whether the name of an event lies within a text of this length.
 unfoldable pub is_within : ℕ → Event Span → Bool
 is_within len (Open span) = is_span_within len span
 is_within len (Byte span byte) = is_span_within len span
@@ -55,19 +61,19 @@ is_open_within len (Some span) = is_span_within len span
 unfoldable pub are_within : ℕ → List (Event Span) → Bool
 are_within len slots = list_all (is_within len) slots
 
--- the call that takes what goes into a stream
+-- Returns the call that takes what goes into a stream.
 abbrev pub call_of : Stream → OutputCall
 call_of (ToOutput span) = calls.Put
 call_of ToLog = calls.Log
 call_of ToFault = calls.Fault
 
--- what is kept of a byte
+-- Returns the event that records a byte.
 abbrev pub slot_of : Stream → ℕ → Event Span
 slot_of (ToOutput span) byte = Byte span byte
 slot_of ToLog byte = Log byte
 slot_of ToFault byte = Fault byte
 
--- what outputs in memory are seen as
+-- Returns the state of outputs in memory.
 abbrev pub state_at : List ℕ → List (Event Span) → Option Span → ℕ → OutputState
 state_at names slots current failures = record {
   events = events_at names slots;
@@ -76,7 +82,7 @@ state_at names slots current failures = record {
   tells = true;
 }
 
--- how many items more these have room for
+-- Returns how many more items these have room for.
 abbrev pub room_of : {X : Type 0} → Vec X Global → ℕ
 room_of items = vec_capacity items - vec_len items
 

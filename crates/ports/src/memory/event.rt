@@ -1,11 +1,11 @@
-/// What outputs took, one byte at a time, with their names as `N`.
+/// Records what outputs took, one byte at a time. `N` is the type of an output's name.
 #[derive(Clone, Copy, Debug, PartialEq, Eq)]
 pub enum Event<N> {
-    /// The output of this name was begun.
+    /// The output of this name was opened.
     Open(N),
     /// A byte of the output of this name.
     Byte(N, u8),
-    /// The output of this name was ended.
+    /// The output of this name was closed.
     Close(N),
     /// A byte of the log.
     Log(u8),

@@ -10,7 +10,7 @@ use crate::memory::plan::{OutputCall, Plan, output_call_fails};
 use crate::{DeviceFault, Outputs};
 use std::alloc::{AllocError, Global};
 
-/// Where a name stands among the bytes of all names.
+/// Locates a name among the bytes of all names.
 #[derive(Clone, Copy)]
 struct Span {
     start: usize,
@@ -24,7 +24,7 @@ enum Stream {
     ToFault,
 }
 
-// The call that takes what goes into the stream.
+// Returns the call that writes to the stream.
 fn call(stream: Stream) -> OutputCall
     ensures { result ≡ call_of stream }
 {
@@ -55,7 +55,7 @@ fn push_bytes(slots: &mut Vec<Event<Span>>, stream: Stream, bytes: &[u8])
     }
 }
 
-// Keeps as many of these bytes as there is room for and a call takes, if this call is not one that fails.
+// Records as many of these bytes as fit and as a call takes, and returns how many. Fails if the planned failure is due or nothing fits.
 fn record_bytes(
     slots: &mut Vec<Event<Span>>,
     plan: &mut Plan<OutputCall>,
@@ -85,7 +85,7 @@ fn record_bytes(
     Ok(count)
 }
 
-// Keeps a name, and that its output was opened.
+// Records that the output of this name was opened, and keeps the name.
 fn record_open(
     slots: &mut Vec<Event<Span>>,
     names: &mut Vec<u8>,
@@ -116,7 +116,7 @@ fn record_open(
     Ok(span)
 }
 
-// Keeps that the open output was ended.
+// Records that the open output was closed.
 fn record_close(
     slots: &mut Vec<Event<Span>>,
     plan: &mut Plan<OutputCall>,
@@ -134,9 +134,9 @@ fn record_close(
     Ok(())
 }
 
-/// Outputs in memory, which keep each event.
+/// Keeps each event of outputs in memory.
 ///
-/// Their memory is taken when they are made: what does not fit later is a device fault.
+/// Their memory is allocated when they are made: an event or a name that does not fit later is a device fault.
 #[derive(Drop)]
 pub struct MemOutputs {
     slots: Vec<Event<Span>>,
@@ -155,7 +155,7 @@ impl MemOutputs {
     ghost use Rattle.std.specs.Prelude.{slice_get};
     ghost use Rattle.std.specs.Option.{option_map};
 
-    /// Outputs with room for this many events, and for as many bytes of the names that are opened. No later call takes memory.
+    /// Returns outputs with room for `room` events, and for `room` bytes of names that are opened. No later call allocates.
     #[tactic(auto, unfolding(crate::specs::memory::Slots::events_at, crate::specs::memory::Slots::open_at, crate::specs::memory::Slots::are_within, crate::specs::memory::Slots::is_open_within))]
     pub fn new(alloc: Global, room: usize) -> Result<Self, AllocError>
         ensures seen { IfOk result (λ out. mem_outputs_seen out ≡ record { events = []; open_name = None; failures = 0; tells = true }) }
@@ -171,8 +171,9 @@ impl MemOutputs {
         })
     }
 
-    /// The same outputs, of which each call takes at most `piece` bytes, and which fail once if they are told a call by its kind
-    /// and its number among the calls of that kind, from 1. Later calls go on.
+    /// Returns the same outputs with a plan: each call takes at most `piece` bytes, and the call that `fail` names fails once.
+    ///
+    /// `fail` gives the kind of the call and its number among the calls of that kind, from 1. Later calls succeed again.
     pub fn with_plan(self, piece: usize, fail: Option<(OutputCall, u64)>) -> Self
         requires { 0 < piece }
         ensures seen { mem_outputs_seen result ≡ mem_outputs_seen self }
@@ -188,7 +189,7 @@ impl MemOutputs {
         }
     }
 
-    /// How many events there are.
+    /// Returns the number of events.
     #[tactic(auto, unfolding(crate::specs::memory::Slots::events_at))]
     pub fn event_count(&self) -> usize
         ensures { result ≡ length (mem_outputs_seen self.now).events }
@@ -196,7 +197,7 @@ impl MemOutputs {
         self.slots.as_slice().len()
     }
 
-    /// The event at this place, if there are so many. It takes no memory.
+    /// Returns event number `i`, from 0, or `None` after the last. It does not allocate.
     pub fn event(&self, i: usize) -> Option<Event<&[u8]>>
         ensures { option_map event_now result ≡ slice_get (mem_outputs_seen self.now).events i }
     {
@@ -216,7 +217,7 @@ fn name_of(names: &[u8], span: Span) -> &[u8]
     &names[span.start..span.end]
 }
 
-// The event of a slot, with its name.
+// Returns the event of a slot, with its name.
 #[tactic(auto, using(crate::proofs::Recorded::within_bounds), unfolding(crate::specs::memory::Slots::is_within, crate::specs::memory::Slots::event_at, crate::specs::memory::Slots::event_now))]
 fn show(names: &[u8], slot: Event<Span>) -> Event<&[u8]>
     requires { IsTrue (is_within (length names.now) slot) }

@@ -1,9 +1,9 @@
-//! What is planned for a device in memory, so that a test sees short calls and failures.
+//! Plans short calls and failures of a device in memory, for tests.
 
 ghost use Rattle.std.specs.Prelude.{◌≡◌, ◌<◌, ◌-◌, ◌==◌};
 ghost use Rattle.ports.specs.memory.Plan.{planned, is_due, is_output_call, is_tree_call, number_after};
 
-/// The calls of a tree, to say which of them is to fail.
+/// Names the calls of a tree, to plan which of them fails.
 #[derive(Clone, Copy, Debug, PartialEq, Eq)]
 pub enum TreeCall {
     Size,
@@ -12,7 +12,7 @@ pub enum TreeCall {
     Any,
 }
 
-/// The calls of outputs, to say which of them is to fail.
+/// Names the calls of outputs, to plan which of them fails.
 #[derive(Clone, Copy, Debug, PartialEq, Eq)]
 pub enum OutputCall {
     Open,
@@ -24,7 +24,7 @@ pub enum OutputCall {
     Any,
 }
 
-// At most `piece` bytes are taken in a call. Of the calls of the kind from now on the one of this number fails, none where it is 0.
+// A call takes at most `piece` bytes. Of the coming calls of this kind, the one with this number fails; none fails if it is 0.
 #[derive(Drop)]
 pub(crate) struct Plan<C> {
     pub(crate) piece: usize,
@@ -34,7 +34,7 @@ pub(crate) struct Plan<C> {
 }
 
 impl<C: Copy> Plan<C> {
-    // Such a piece, and the call that is told by its kind and its number, if one is to fail.
+    // Returns the plan with this piece, and with the call, given by kind and number, that fails.
     pub(crate) fn told(any: C, piece: usize, fail: Option<(C, u64)>) -> Self
         requires { 0 < piece }
         ensures { planned any piece fail ≡ record { piece = result.piece; kind = result.kind; number = result.number } }
@@ -58,7 +58,7 @@ impl<C> Plan<C> {
         }
     }
 
-    // Counts one call of the kind, and says whether it is the one that fails.
+    // Counts one call of the kind, and returns whether it is the one that fails.
     fn count_down(&mut self) -> bool
         ensures fails { result ≡ (self.old.number == 1) }
         ensures number { self.new.number ≡ self.old.number - 1 }
@@ -71,7 +71,7 @@ impl<C> Plan<C> {
     }
 }
 
-// Counts this call, and says whether it is to fail.
+// Counts this call, and returns whether it fails.
 pub(crate) fn tree_call_fails(plan: &mut Plan<TreeCall>, call: TreeCall) -> bool
     ensures fails { result ≡ is_due (is_tree_call plan.old.kind call) plan.old.number }
     ensures number { plan.new.number ≡ number_after (is_tree_call plan.old.kind call) plan.old.number }
@@ -81,7 +81,7 @@ pub(crate) fn tree_call_fails(plan: &mut Plan<TreeCall>, call: TreeCall) -> bool
     (plan.kind == TreeCall::Any || plan.kind == call) && plan.count_down()
 }
 
-// Counts this call, and says whether it is to fail.
+// Counts this call, and returns whether it fails.
 pub(crate) fn output_call_fails(plan: &mut Plan<OutputCall>, call: OutputCall) -> bool
     ensures fails { result ≡ is_due (is_output_call plan.old.kind call) plan.old.number }
     ensures number { plan.new.number ≡ number_after (is_output_call plan.old.kind call) plan.old.number }

@@ -12,7 +12,7 @@ use crate::{DeviceFault, Tree};
 use std::alloc::{AllocError, Global};
 use support::tables::{SipMap, SipSet, new_map, set_with_capacity};
 
-/// A tree of files in memory.
+/// Holds a tree of files in memory.
 pub struct MemTree {
     files: SipMap<String, Vec<u8>>,
     known: Option<SipSet<String>>,
@@ -31,7 +31,7 @@ impl Drop for MemTree {
     }
 }
 
-// The bytes of the file with this path.
+// Returns the bytes of the file with this path.
 fn find<'a>(files: &'a SipMap<String, Vec<u8>>, path: &str) -> Option<&'a [u8]>
     ensures { option_map (λ bytes. bytes.now) result ≡ file_at (contents files.now.entries) path.now }
 {
@@ -41,7 +41,7 @@ fn find<'a>(files: &'a SipMap<String, Vec<u8>>, path: &str) -> Option<&'a [u8]>
     }
 }
 
-// Copies what fits of these bytes from this place on, at most so many.
+// Copies bytes from position `at` on into the buffer, at most `piece`, and returns how many.
 fn read_part(bytes: &[u8], at: usize, piece: usize, buf: &mut [u8]) -> usize
     requires { 0 < piece }
     ensures within { result ≤ length buf.old }
@@ -56,7 +56,7 @@ fn read_part(bytes: &[u8], at: usize, piece: usize, buf: &mut [u8]) -> usize
     count
 }
 
-// These paths, to be looked up.
+// Returns the set of these paths.
 fn known_paths(alloc: Global, paths: Vec<String>) -> Result<SipSet<String>, AllocError>
     ensures { IfOk result (λ known. (path : List ℕ) → is_one_of known.keys path ≡ is_one_of paths.items path) }
 {
@@ -68,7 +68,7 @@ fn known_paths(alloc: Global, paths: Vec<String>) -> Result<SipSet<String>, Allo
 }
 
 impl MemTree {
-    /// A tree of these pairs of a path and its bytes. Of two pairs with one path the first holds.
+    /// Returns a tree with these paths and bytes. If a path occurs twice, its first bytes count.
     pub fn new(alloc: Global, mut files: Vec<(String, Vec<u8>)>) -> Result<Self, AllocError>
         ensures files { IfOk result (λ tree. SameFiles (contents files.items) (mem_tree_seen tree).files) }
         ensures failures { IfOk result (λ tree. (mem_tree_seen tree).failures ≡ 0) }
@@ -87,8 +87,9 @@ impl MemTree {
         })
     }
 
-    /// The same tree, whose `read_at` gives at most `piece` bytes a call, and which fails once if it is told a call by its kind
-    /// and its number among the calls of that kind, from 1. Later calls go on.
+    /// Returns the same tree with a plan: `read_at` gives at most `piece` bytes a call, and the call that `fail` names fails once.
+    ///
+    /// `fail` gives the kind of the call and its number among the calls of that kind, from 1. Later calls succeed again.
     pub fn with_plan(self, piece: usize, fail: Option<(TreeCall, u64)>) -> Self
         requires { 0 < piece }
         ensures seen { mem_tree_seen result ≡ mem_tree_seen self }
@@ -109,7 +110,7 @@ impl MemTree {
         }
     }
 
-    /// The same tree, which answers each call for a path that is not among these with a device fault.
+    /// Returns the same tree, restricted to these paths: each call for another path returns a device fault.
     pub fn only(self, alloc: Global, paths: Vec<String>) -> Result<Self, AllocError>
         ensures seen { IfOk result (λ tree. mem_tree_seen tree ≡ mem_tree_seen self) }
         ensures plan { IfOk result (λ tree. mem_tree_plan tree ≡ mem_tree_plan self) }
@@ -130,7 +131,7 @@ impl MemTree {
         })
     }
 
-    // Counts this call, and says whether it is to fail.
+    // Counts this call, and returns whether it fails.
     fn fails(&mut self, call: TreeCall, path: &str) -> bool
         ensures fails { result
             ≡ (is_due (is_tree_call self.old.plan.kind call) self.old.plan.number || not (mem_tree_knows self.old path.now)) }

@@ -1,3 +1,5 @@
+//! Defines faults: a refusal with its place and detail.
+
 ghost use Rattle.std.specs.Prelude.{◌≡◌, ◌++◌, IfOk, string_bytes};
 ghost use Rattle.support.specs.Faults.{detail_text, fault_text, number_of, plain_fault};
 ghost use Rattle.support.specs.View.{fault_view};
@@ -7,14 +9,14 @@ use itoa::Buffer;
 use std::alloc::{AllocError, Global};
 use thiserror::Error;
 
-/// Why a run ended: the first refusal in the order of evaluation. It is as small as a pointer, since most answers could be one.
+/// The reason why a run ended: the first refusal in the order of evaluation. It is one pointer in size, since most results could be one.
 #[derive(Debug, Drop, Error)]
 #[error("{}{}{}", .told.refusal, self.shown_detail().0, self.shown_detail().1)]
 pub struct Fault {
     told: Box<Told>,
 }
 
-/// What a fault tells.
+/// The content of a fault.
 #[derive(Debug, Drop)]
 struct Told {
     file: String,
@@ -24,7 +26,7 @@ struct Told {
 }
 
 impl Fault {
-    /// A refusal that names what was refused.
+    /// Returns a fault with a detail, which names what was refused.
     pub fn new(
         alloc: Global,
         file: &str,
@@ -48,7 +50,7 @@ impl Fault {
         Ok(Fault { told })
     }
 
-    /// A refusal whose place says enough.
+    /// Returns a fault without a detail: its place says enough.
     pub fn plain(
         alloc: Global,
         file: &str,
@@ -60,34 +62,35 @@ impl Fault {
         Fault::new(alloc, file, line, refusal, "")
     }
 
-    /// The path of the file in the tree, or `<command line>` or `<machine file>`.
+    /// Returns the path of the file relative to the source root, or `<command line>` or `<machine file>`.
     pub fn file(&self) -> &str
         ensures { result.now ≡ (fault_view self.now).file }
     {
         &self.told.file
     }
 
-    /// The line in that file, from 1, or the number of a word of the command line.
+    /// Returns the line in that file, from 1, or the number of an argument on the command line.
     pub fn line(&self) -> usize
         ensures { result ≡ (fault_view self.now).line }
     {
         self.told.line
     }
 
+    /// Returns the refusal.
     pub fn refusal(&self) -> Refusal
         ensures { result ≡ (fault_view self.now).refusal }
     {
         self.told.refusal
     }
 
-    /// The name or path that was refused, or the message of E18; empty where none is told.
+    /// Returns the name or path that was refused, or the message of E18. It is empty if there is no detail.
     pub fn detail(&self) -> &str
         ensures { result.now ≡ (fault_view self.now).detail }
     {
         &self.told.detail
     }
 
-    // What is told of the detail: what comes before it, and the detail. Both are empty if nothing is told of it.
+    // Returns what is printed of the detail: what precedes it, and the detail itself. Both are empty if the detail is not printed.
     fn shown_detail(&self) -> (&'static str, &str)
         ensures { result.0.now ++ result.1.now ≡ detail_text (fault_view self.now) }
     {
@@ -97,7 +100,7 @@ impl Fault {
         }
     }
 
-    /// The number, the words and what is told of the detail, as `E5 undefined name: x`.
+    /// Returns the number, the words and the printed detail, as in `E5 undefined name: x`.
     pub fn text(&self, alloc: Global) -> Result<String, AllocError>
         ensures { IfOk result (λ text. string_bytes text ≡ fault_text (fault_view self.now)) }
     {
@@ -112,7 +115,7 @@ impl Fault {
         Ok(text)
     }
 
-    /// The number behind the `E`.
+    /// Returns the number after the `E`.
     pub fn number(&self) -> u8
         ensures { result ≡ number_of (fault_view self.now).refusal }
     {

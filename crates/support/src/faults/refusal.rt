@@ -1,64 +1,66 @@
+//! Lists the refusals of a run, with their numbers and words.
+
 ghost use Rattle.std.specs.Prelude.{◌≡◌, option_map};
 ghost use Rattle.support.specs.Faults.{detail_sign, number_of, told_of, words_of};
 
 use thiserror::Error;
 
-/// What a run is refused for. The numbers are fixed: scripts may look for them.
+/// The reason why a run is refused. The numbers are fixed, so scripts may search for them.
 #[derive(Clone, Copy, Debug, Error)]
 #[error("E{} {}", self.number(), self.words())]
 pub enum Refusal {
-    /// E1: the bytes are no UTF-8.
+    /// E1: the bytes are not UTF-8.
     NotUtf8,
     /// E2: no token begins here.
     Token,
-    /// E3: no file can go on so.
+    /// E3: the grammar allows no such token here.
     Grammar,
     /// E4: more than 64 levels are open.
     Nesting,
-    /// E5: a name without a value; the detail is the name.
+    /// E5: a name has no value; the detail is the name.
     UndefinedName,
-    /// E6: no such operator for values of these types, or a condition that is no boolean.
+    /// E6: there is no such operator for values of these types, or a condition is not a boolean.
     Type,
-    /// E7: an integer out of range, or a zero divisor.
+    /// E7: an integer is out of range, or a divisor is zero.
     Range,
-    /// E8: no function or method has this name; the detail is the name.
+    /// E8: there is no function or method with this name; the detail is the name.
     UnknownFunction,
-    /// E9: a call can't take these arguments.
+    /// E9: a call cannot take these arguments.
     Arguments,
-    /// E10: no item at this index, or no value at this key.
+    /// E10: there is no item at this index, or no value for this key.
     Absent,
-    /// E11: something stands twice.
+    /// E11: something occurs twice.
     Duplicate,
-    /// E12: a folder that can't be entered.
+    /// E12: a folder cannot be entered.
     Subdir,
-    /// E13: `project` is called elsewhere than first, or without a language.
+    /// E13: `project` is not the first call, is called again, or names no language.
     ProjectCall,
-    /// E14: a file isn't there; the detail is its path.
+    /// E14: a file is missing; the detail is its path.
     FileMissing,
-    /// E15: an option.
+    /// E15: an option is wrong.
     OptionValue,
-    /// E16: a line of the machine file.
+    /// E16: a line of the machine file is wrong.
     MachineFile,
-    /// E17: something that is required isn't there; the detail is its first name.
+    /// E17: something required was not found; the detail is its first name.
     NotFound,
-    /// E18: the definitions end the run; the detail is their message.
+    /// E18: the build files end the run; the detail is their message.
     Message,
-    /// E19: a line of a template.
+    /// E19: a line of a template is wrong.
     Template,
-    /// E20: a change of configuration data that an output was made with.
+    /// E20: configuration data would change after an output was made with it.
     Frozen,
-    /// E21: a name that a `build.ninja` can't hold.
+    /// E21: a `build.ninja` cannot contain this name.
     NinjaName,
     /// E22: a limit of size is passed.
     Limit,
-    /// E23: a part of Meson that is left out.
+    /// E23: a part of Meson is not supported.
     LeftOut,
-    /// E24: arguments for all targets behind the first target.
+    /// E24: arguments for all targets are added after the first target.
     LateArguments,
 }
 
 impl Refusal {
-    // The number behind the `E`, and the words behind that and a space.
+    // Returns the number after the `E`, and the words that follow it.
     fn tell(self) -> (u8, &'static str)
         ensures { (result.0, result.1.now) ≡ told_of self }
     {
@@ -90,21 +92,21 @@ impl Refusal {
         }
     }
 
-    /// The number behind the `E`.
+    /// Returns the number after the `E`.
     pub fn number(self) -> u8
         ensures { result ≡ number_of self }
     {
         self.tell().0
     }
 
-    /// The words behind the number and a space.
+    /// Returns the words that follow the number and a space.
     pub fn words(self) -> &'static str
         ensures { result.now ≡ words_of self }
     {
         self.tell().1
     }
 
-    /// What stands between the words and the detail, or none where no detail is told.
+    /// Returns what is printed between the words and the detail, and `None` if the detail is not printed.
     pub fn detail_sign(self) -> Option<&'static str>
         ensures { option_map (λ sign. sign.now) result ≡ detail_sign self }
     {

@@ -1,4 +1,4 @@
-//! The paths that texts of a definition file name.
+//! Resolves the paths that texts of a build file name.
 ghost use Rattle.std.specs.Prelude.{◌≡◌, ◌++◌, ◌||◌, not, IfOk, map, None, Some, option_map, option_copied, string_bytes, codes, []};
 ghost use Rattle.std.specs.Prelude.{if◌then◌else◌};
 ghost use Rattle.std.specs.List.{join_with_byte, list_all};
@@ -10,14 +10,14 @@ ghost use Rattle.support.specs.paths.Paths.{is_below, leads_down, named, parts_o
 use crate::paths::below::is_absolute;
 use std::alloc::{AllocError, Global};
 
-// What stands behind the source root and a slash.
+// Returns the text after the source root and a slash, and `None` if the text does not begin with them.
 fn below_root<'a>(source_root: &str, text: &'a str) -> Option<&'a str>
     ensures { option_copied result ≡ rest_after (source_root.now ++ codes "/") text.now }
 {
     text.strip_prefix(source_root)?.strip_prefix("/")
 }
 
-// A folder and a name with a slash between them.
+// Returns a folder and a name with a slash between them.
 fn below(alloc: Global, folder: &str, name: &str) -> Result<String, AllocError>
     ensures { IfOk result (λ path. string_bytes path ≡ folder.now ++ (codes "/" ++ name.now)) }
 {
@@ -29,7 +29,7 @@ fn below(alloc: Global, folder: &str, name: &str) -> Result<String, AllocError>
     Ok(path)
 }
 
-/// The path of a name in a folder, whose path is empty where it is the root.
+/// Returns the path of a name in a folder, which is empty for the root.
 pub fn path_in(alloc: Global, folder: &str, name: &str) -> Result<String, AllocError>
     ensures { IfOk result (λ path. string_bytes path ≡ path_in folder.now name.now) }
 {
@@ -40,7 +40,7 @@ pub fn path_in(alloc: Global, folder: &str, name: &str) -> Result<String, AllocE
     }
 }
 
-// A text of the folder as one that is relative to the root.
+// Returns a text of a build file in the folder as a path relative to the source root.
 fn from_root(
     alloc: Global,
     source_root: &str,
@@ -59,7 +59,7 @@ fn from_root(
     }
 }
 
-// Goes on by one part, unless it leads above the root.
+// Follows one part, and returns false if it leads above the root.
 fn follow<'a>(folder: &mut Vec<&'a str>, part: &'a str) -> Result<bool, AllocError>
     ensures { IfOk result (λ inside. follow_part (folder_of folder.old) part.now ≡ (if inside then Some (folder_of folder.new) else None)) }
 {
@@ -73,7 +73,7 @@ fn follow<'a>(folder: &mut Vec<&'a str>, part: &'a str) -> Result<bool, AllocErr
     }
 }
 
-// The parts of the path from the root, none where one leads above it.
+// Returns the parts of the resolved path from the root, and `None` if one leads above it.
 fn follow_parts(alloc: Global, text: &str) -> Result<Option<Vec<&str>>, AllocError>
     ensures { IfOk result (λ folder. option_map folder_of folder ≡ follow_parts [] (parts_of text.now)) }
 {
@@ -86,7 +86,7 @@ fn follow_parts(alloc: Global, text: &str) -> Result<Option<Vec<&str>>, AllocErr
     Ok(Some(folder))
 }
 
-/// The parts with slashes between them.
+/// Returns the parts joined by slashes.
 pub fn join_parts(alloc: Global, parts: &[&str]) -> Result<String, AllocError>
     ensures { IfOk result (λ path. string_bytes path ≡ join_with_byte 47 (map (λ part. part.now) parts.now)) }
 {
@@ -100,7 +100,7 @@ pub fn join_parts(alloc: Global, parts: &[&str]) -> Result<String, AllocError>
     Ok(path)
 }
 
-// The path of what a text names, the root's being empty, where the text is relative to the root.
+// Returns the resolved path of a text that is relative to the root. It is empty for the root itself.
 fn clean(alloc: Global, text: &str) -> Result<Option<String>, AllocError>
     ensures { IfOk result (λ path. option_map string_bytes path ≡ folder_named (follow_parts [] (parts_of text.now))) }
 {
@@ -110,7 +110,7 @@ fn clean(alloc: Global, text: &str) -> Result<Option<String>, AllocError>
     }
 }
 
-// The same of what is not the root.
+// Returns the resolved path of a text that is relative to the root, and `None` for the root itself.
 fn clean_name(alloc: Global, text: &str) -> Result<Option<String>, AllocError>
     ensures { IfOk result (λ path. option_map string_bytes path ≡ named (follow_parts [] (parts_of text.now))) }
 {
@@ -120,14 +120,14 @@ fn clean_name(alloc: Global, text: &str) -> Result<Option<String>, AllocError>
     }
 }
 
-// Whether a part of a path stays in it as it is.
+// Returns whether a part of a path is kept by resolving it.
 fn stays(part: &str) -> bool
     ensures { result ≡ not (bytes_eq part.now [] || (bytes_eq part.now (codes ".") || bytes_eq part.now (codes ".."))) }
 {
     !matches!(part, "" | "." | "..")
 }
 
-// Whether all parts of a text stay, so that it is the path that it names.
+// Returns whether all parts of a text are kept, so that the text is already resolved.
 fn is_path(text: &str) -> bool
     ensures { result ≡ list_all (λ part. not (bytes_eq part [] || (bytes_eq part (codes ".") || bytes_eq part (codes ".."))))
         (parts_of text.now) }
@@ -135,7 +135,7 @@ fn is_path(text: &str) -> bool
     text.split('/').all(|part| stays(part))
 }
 
-// The path of what a text names, none where that is the root, where the text is relative to the root.
+// Returns the resolved path of a text that is relative to the root, and `None` for the root itself. A resolved text is returned as it is.
 fn named_path(alloc: Global, text: String) -> Result<Option<String>, AllocError>
     ensures { IfOk result (λ path. option_map string_bytes path ≡ named (follow_parts [] (parts_of (string_bytes text)))) }
 {
@@ -146,8 +146,9 @@ fn named_path(alloc: Global, text: String) -> Result<Option<String>, AllocError>
     }
 }
 
-/// The path of the folder that a text names in a definition file of a folder, the root's being empty, with slashes between its parts
-/// and without `.` and `..`. None where the text is an absolute path that is not below the source root or leads above the root.
+/// Returns the path of the folder that a text names, in a build file of a folder, without `.` and `..`. The path is empty for the root.
+///
+/// Returns `None` if the text leads above the root, or is absolute and not below the source root.
 pub fn folder_path(
     alloc: Global,
     source_root: &str,
@@ -162,21 +163,21 @@ pub fn folder_path(
     }
 }
 
-// Whether a path leads to no folder above.
+// Returns whether no part of a path is `..`.
 fn leads_down(text: &str) -> bool
     ensures { result ≡ leads_down text.now }
 {
     !text.split('/').any(|part| ".." == part)
 }
 
-// Whether a text may name a folder below the one that it is read in.
+// Returns whether a text may name a folder below that of its build file.
 fn is_below(text: &str) -> bool
     ensures { result ≡ is_below text.now }
 {
     text != "" && !is_absolute(text) && leads_down(text)
 }
 
-/// The path of the folder below a folder that a text names. None where the text is empty, absolute or has a part `..`.
+/// Returns the path of the folder below a folder that a text names, and `None` if the text is empty, absolute or has a part `..`.
 pub fn folder_below(alloc: Global, folder: &str, text: &str) -> Result<Option<String>, AllocError>
     ensures { IfOk result (λ path. option_map string_bytes path ≡ folder_below folder.now text.now) }
 {
@@ -188,8 +189,8 @@ pub fn folder_below(alloc: Global, folder: &str, text: &str) -> Result<Option<St
     }
 }
 
-/// The path in the tree of the file that a text names in a definition file of a folder. None where `folder_path` answers none, and
-/// where the text names the root itself.
+/// Returns the path relative to the source root of the file that a text names, in a build file of a folder. Returns `None` if `folder_path`
+/// does, or if the text names the root itself.
 pub fn tree_path(
     alloc: Global,
     source_root: &str,

@@ -1,31 +1,31 @@
-//! The names of files: what may be one, and a path's without folders and without endings.
+//! Checks names of files, and returns the name of a path without its folders and without its ending.
 ghost use Rattle.std.specs.Prelude.{◌≡◌, IfOk, string_bytes};
 ghost use Rattle.support.specs.paths.Names.{has, has_slash, is_file_name, plain_name, before_dot, are_dots, without_ending, base_name};
 
 use std::alloc::{AllocError, Global};
 
-// Whether a byte of the text is this one.
+// Returns whether a text contains this byte.
 fn has(text: &str, byte: u8) -> bool
     ensures { result ≡ has byte text.now }
 {
     text.as_bytes().contains(&byte)
 }
 
-/// Whether there is a `/` in the text.
+/// Returns whether a text contains `/`.
 pub fn has_slash(text: &str) -> bool
     ensures { result ≡ has_slash text.now }
 {
     has(text, b'/')
 }
 
-/// Whether a file may have the name: it is not empty, `.` or `..`, and has no `/`.
+/// Returns whether a name is valid for a file: it is not empty, `.` or `..`, and has no `/`.
 pub fn is_file_name(name: &str) -> bool
     ensures { result ≡ is_file_name name.now }
 {
     !matches!(name, "" | "." | "..") && !has_slash(name)
 }
 
-/// What stands behind the last `/`.
+/// Returns the text after the last `/`.
 pub fn plain_name(path: &str) -> &str
     ensures { result.now ≡ plain_name path.now }
 {
@@ -36,7 +36,7 @@ pub fn plain_name(path: &str) -> &str
     name
 }
 
-// What stands before the last dot, or all where there is none.
+// Returns the text before the last dot, or all of it if there is none.
 fn before_dot(alloc: Global, name: &str) -> Result<String, AllocError>
     ensures { IfOk result (λ s. string_bytes s ≡ before_dot name.now) }
 {
@@ -71,7 +71,7 @@ fn without_ending(alloc: Global, name: &str) -> Result<String, AllocError>
     }
 }
 
-/// The file's name without its last ending: `a.tar` of `d/a.tar.gz`, and `.x` of `.x`.
+/// Returns the name of the file without its last ending: `a.tar` for `d/a.tar.gz`, and `.x` for `.x`.
 pub fn base_name(alloc: Global, path: &str) -> Result<String, AllocError>
     ensures { IfOk result (λ s. string_bytes s ≡ base_name path.now) }
 {

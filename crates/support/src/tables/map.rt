@@ -1,4 +1,4 @@
-//! Maps in the order of insertion.
+//! Provides a map in order of insertion.
 ghost use Rattle.std.specs.Prelude.{◌≡◌, [], ◌∷◌, ◌++◌, None, length, position, slice_get, nat_eq, is_some, OnOk, OnErr};
 ghost use Rattle.std.specs.Prelude.{bytes_eq, string_bytes, IfOk};
 ghost use Rattle.std.specs.Map.{lookup, set_value};
@@ -12,7 +12,7 @@ use std::alloc::{AllocError, Global};
 use std::hash::{BuildHasherDefault, Hash};
 use std::marker::Model;
 
-/// A map in the order of insertion, hashed by SipHash: keys, and a value for each.
+/// A map in order of insertion, hashed by SipHash.
 pub struct SipMap<K: Eq + Hash + Drop, V: Drop> {
     map: IndexMap<K, V, SipHasher>,
 }
@@ -31,7 +31,7 @@ impl<K: Eq + Hash + Drop, V: Drop> Drop for SipMap<K, V> {
     }
 }
 
-/// An empty map. It takes no memory until the first key is put in.
+/// Returns an empty map. It allocates nothing until the first key is inserted.
 pub fn new_map<K: Eq + Hash + Drop, V: Drop>(alloc: Global) -> SipMap<K, V>
     ensures entries { result.entries ≡ [] }
 {
@@ -41,8 +41,9 @@ pub fn new_map<K: Eq + Hash + Drop, V: Drop>(alloc: Global) -> SipMap<K, V>
 }
 
 impl<K: Eq + Hash + Drop, V: Drop> SipMap<K, V> {
-    /// Puts a value at a key. Where an equal key is there, that one stays and takes the value, and a new key goes last. Only a new key can
-    /// be refused, for want of memory: then the map is as it was, and the key and the value are let go.
+    /// Sets a key to a value. An equal key that is present stays and takes the value; a new key goes last.
+    ///
+    /// Only a new key can run out of memory. Then the map is unchanged, and the key and the value are dropped.
     pub fn insert(&mut self, key: K, value: V) -> Result<(), AllocError>
         ensures entries { OnOk result (self.new.entries ≡ insert_entry K.eq self.old.entries key value) }
         ensures last { OnOk result
@@ -53,7 +54,7 @@ impl<K: Eq + Hash + Drop, V: Drop> SipMap<K, V> {
         Ok(())
     }
 
-    /// The i-th key takes this value; where there are fewer keys, nothing changes.
+    /// Replaces the i-th value. If there are fewer keys, nothing changes.
     pub fn set_at(&mut self, index: usize, value: V)
         ensures entries { self.new.entries ≡ set_value_at self.old.entries index value }
     {
@@ -63,21 +64,21 @@ impl<K: Eq + Hash + Drop, V: Drop> SipMap<K, V> {
         *there = value;
     }
 
-    /// The i-th key and its value.
+    /// Returns the i-th key and its value, and `None` if there are fewer keys.
     pub fn get_index(&self, index: usize) -> Option<(&K, &V)>
         ensures entry { option_map deref_pair result ≡ slice_get self.now.entries index }
     {
         self.map.get_index(index)
     }
 
-    /// How many keys there are.
+    /// Returns the number of keys.
     pub fn len(&self) -> usize
         ensures { result ≡ length self.now.entries }
     {
         self.map.len()
     }
 
-    /// Whether there are none.
+    /// Returns whether the map is empty.
     pub fn is_empty(&self) -> bool
         ensures { result ≡ nat_eq (length self.now.entries) 0 }
     {
@@ -86,14 +87,14 @@ impl<K: Eq + Hash + Drop, V: Drop> SipMap<K, V> {
 }
 
 impl<V: Drop> SipMap<String, V> {
-    /// The index of the key that is this text.
+    /// Returns the index of the key with this text, and `None` if it is absent.
     pub fn get_index_of(&self, key: &str) -> Option<usize>
         ensures { result ≡ position (λ e. bytes_eq key.now (string_bytes e.0)) self.now.entries }
     {
         self.map.get_index_of(key)
     }
 
-    /// The key that is this text takes this value; where none is, nothing changes.
+    /// Replaces the value of the key with this text. If the key is absent, nothing changes.
     pub fn replace(&mut self, key: &str, value: V)
         ensures entries { self.new.entries ≡ set_value (λ k. bytes_eq key.now (string_bytes k)) self.old.entries value }
     {
@@ -103,14 +104,14 @@ impl<V: Drop> SipMap<String, V> {
         *there = value;
     }
 
-    /// The value at the key that is this text.
+    /// Returns the value of the key with this text, and `None` if it is absent.
     pub fn get(&self, key: &str) -> Option<&V>
         ensures value { option_copied result ≡ get_by_text self.now key.now }
     {
         self.map.get(key)
     }
 
-    /// Whether a key is this text.
+    /// Returns whether there is a key with this text.
     pub fn contains_key(&self, key: &str) -> bool
         ensures { result ≡ is_some (get_by_text self.now key.now) }
     {

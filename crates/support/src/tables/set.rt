@@ -1,4 +1,4 @@
-//! Sets in the order of insertion.
+//! Provides a set in order of insertion.
 ghost use Rattle.std.specs.Prelude.{◌≡◌, ◌<◌, [], length, position, option_copied, slice_get, nat_eq, take, false, not, is_some};
 ghost use Rattle.std.specs.Prelude.{bytes_eq, string_bytes, IfOk, IfSome, OnOk, OnErr};
 ghost use Rattle.std.specs.List.{list_any, IsDistinct, position_or_len};
@@ -9,10 +9,10 @@ use std::alloc::{AllocError, Global};
 use std::hash::{BuildHasherDefault, DefaultHasher, Hash};
 use std::marker::Model;
 
-/// What makes a hasher for each key: SipHash with a fixed key.
+/// Builds a hasher for each key: SipHash with a fixed key.
 pub type SipHasher = BuildHasherDefault<DefaultHasher>;
 
-/// A set in the order of insertion, hashed by SipHash. Its keys have the indices from 0 on.
+/// A set in order of insertion, hashed by SipHash. Its keys have indexes from 0.
 pub struct SipSet<K: Eq + Hash + Drop> {
     set: IndexSet<K, SipHasher>,
 }
@@ -25,14 +25,15 @@ impl<K: Eq + Hash + Drop> Model for SipSet<K> {
     ghost view = { λ s. record { keys = s.set.keys } };
 }
 
-// A table has many parts, and a check goes through each of them wherever one is let go, which is at each `?`, unless a call does so.
+// A table has many parts, and a proof goes through each of them wherever one is dropped, which is at each `?`. With this function it need
+// not.
 impl<K: Eq + Hash + Drop> Drop for SipSet<K> {
     fn drop(self) {
         let SipSet { set: _ } = self;
     }
 }
 
-/// An empty set. It takes no memory until the first key is put in.
+/// Returns an empty set. It allocates nothing until the first key is inserted.
 pub fn new_set<K: Eq + Hash + Drop>(alloc: Global) -> SipSet<K>
     ensures keys { result.keys ≡ [] }
     ensures unique { IsDistinct K.eq result.keys }
@@ -42,7 +43,7 @@ pub fn new_set<K: Eq + Hash + Drop>(alloc: Global) -> SipSet<K>
     }
 }
 
-/// An empty set, with memory for so many keys.
+/// Returns an empty set, with capacity for `n` keys.
 pub fn set_with_capacity<K: Eq + Hash + Drop>(
     alloc: Global,
     n: usize,
@@ -55,16 +56,17 @@ pub fn set_with_capacity<K: Eq + Hash + Drop>(
 }
 
 impl<K: Eq + Hash + Drop> SipSet<K> {
-    /// Takes memory for so many keys more, so that none is moved as they come.
+    /// Reserves capacity for `n` more keys, so that none is moved as they are inserted.
     pub fn reserve(&mut self, n: usize) -> Result<(), AllocError>
         ensures keys { self.new.keys ≡ self.old.keys }
     {
         self.set.reserve(n)
     }
 
-    /// Puts a key last, and gives `true`. Where an equal key is there, that one stays and the answer is `false`. Only a new key can be
-    /// refused, for want of memory: then the set's keys are as they were, and the new one is let go. The time is that of a look-up, on
-    /// average over many keys.
+    /// Inserts a key at the end, and returns true. If an equal key is present, it stays, and the result is false.
+    ///
+    /// Only a new key can run out of memory. Then the keys of the set are unchanged, and the new one is dropped. The time is that of a
+    /// look-up, amortized over many keys.
     #[inline]
     pub fn insert(&mut self, key: K) -> Result<bool, AllocError>
         ensures added { IfOk result (λ new. new ≡ not (list_any (K.eq key) self.old.keys)) }
@@ -77,7 +79,7 @@ impl<K: Eq + Hash + Drop> SipSet<K> {
         Ok(new)
     }
 
-    /// Puts a key in as `insert` does, and gives the index of it or of the equal one that was there, and whether it is new.
+    /// Inserts a key as `insert` does. Returns the index of the key, or of the equal one that was present, and whether the key is new.
     #[inline]
     pub fn insert_full(&mut self, key: K) -> Result<(usize, bool), AllocError>
         ensures added { IfOk result (λ r. r.1 ≡ not (list_any (K.eq key) self.old.keys)) }
@@ -92,7 +94,7 @@ impl<K: Eq + Hash + Drop> SipSet<K> {
         Ok(placed)
     }
 
-    /// The index of a key.
+    /// Returns the index of a key, and `None` if it is absent.
     #[inline]
     pub fn get_index_of(&self, key: &K) -> Option<usize>
         ensures index { result ≡ position (K.eq key.now) self.now.keys }
@@ -102,7 +104,7 @@ impl<K: Eq + Hash + Drop> SipSet<K> {
         self.set.get_index_of(key)
     }
 
-    /// The key at an index.
+    /// Returns the key at an index, and `None` if there are fewer keys.
     #[inline]
     pub fn get_index(&self, index: usize) -> Option<&K>
         ensures key { option_copied result ≡ slice_get self.now.keys index }
@@ -110,7 +112,7 @@ impl<K: Eq + Hash + Drop> SipSet<K> {
         self.set.get_index(index)
     }
 
-    /// The keys, in the order in which they were put in.
+    /// Returns the keys, in order of insertion.
     #[inline]
     pub fn as_slice(&self) -> &[K]
         ensures keys { result.now ≡ self.now.keys }
@@ -119,7 +121,7 @@ impl<K: Eq + Hash + Drop> SipSet<K> {
         self.set.as_slice()
     }
 
-    /// How many keys there are.
+    /// Returns the number of keys.
     #[inline]
     pub fn len(&self) -> usize
         ensures len { result ≡ length self.now.keys }
@@ -128,7 +130,7 @@ impl<K: Eq + Hash + Drop> SipSet<K> {
         self.set.len()
     }
 
-    /// Whether there are none.
+    /// Returns whether the set is empty.
     #[inline]
     pub fn is_empty(&self) -> bool
         ensures { result ≡ nat_eq (length self.now.keys) 0 }
@@ -136,7 +138,7 @@ impl<K: Eq + Hash + Drop> SipSet<K> {
         self.len() == 0
     }
 
-    /// Keeps so many of the first keys, and lets the others go. The memory stays.
+    /// Keeps the first `len` keys, and drops the others. The memory stays allocated.
     #[inline]
     pub fn truncate(&mut self, len: usize)
         ensures keys { self.new.keys ≡ take len self.old.keys }
@@ -147,7 +149,7 @@ impl<K: Eq + Hash + Drop> SipSet<K> {
 }
 
 impl SipSet<String> {
-    /// Whether a text is one of the keys.
+    /// Returns whether a text is one of the keys.
     #[inline]
     pub fn contains(&self, text: &str) -> bool
         ensures { result ≡ list_any (λ k. bytes_eq text.now (string_bytes k)) self.now.keys }
@@ -155,7 +157,7 @@ impl SipSet<String> {
         self.set.contains(text)
     }
 
-    /// The index of the key that is this text.
+    /// Returns the index of the key with this text, and `None` if it is absent.
     #[inline]
     pub fn index_of_text(&self, text: &str) -> Option<usize>
         ensures index { result ≡ position (λ k. bytes_eq text.now (string_bytes k)) self.now.keys }

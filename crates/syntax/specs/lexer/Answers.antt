@@ -1,10 +1,10 @@
--- What an answer says of a source.
+-- Relates the result of a function to a definition.
 use Rattle.std.specs.Prelude.{◌≡◌, Result, Ok, Err}
 use Rattle.syntax.specs.declared.lexer.fault.SyntaxFault.{SyntaxFault}
 use Rattle.syntax.specs.declared.lexer.fault.SyntaxError.{SyntaxError}
 use Rattle.syntax.specs.declared.lexer.fault.SyntaxError.TheVariants as errors
 
--- what a function returned, seen by view, is this, unless memory ran out
+-- Relates a function's result, seen by `view`, to what it has to be, unless memory ran out.
 abbrev pub Refuses : {Y : Type 0} → SyntaxError → Result Y SyntaxFault → Type 0
 Refuses errors.Memory read = Unit {0}
 Refuses (errors.Fault f) read = read ≡ Err f

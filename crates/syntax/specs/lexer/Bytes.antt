@@ -1,4 +1,4 @@
--- The bytes that tokens are made of.
+-- Defines the bytes that tokens are made of.
 use Rattle.std.specs.Prelude.{ℕ, Bool, true, false, List, [], ◌∷◌, ◌==◌, ◌||◌, ◌&&◌, not, nat_lt, if◌then◌else◌, count_by}
 use Rattle.std.specs.Char.{is_ascii_alphabetic, is_ascii_digit}
 use Rattle.std.specs.List.{list_all}
@@ -90,50 +90,50 @@ open_brace = 123
 abbrev pub close_brace : ℕ
 close_brace = 125
 
--- a letter or an underscore
+-- Returns whether the byte is a letter or an underscore.
 abbrev pub is_letter : ℕ → Bool
 is_letter b = is_ascii_alphabetic b || (b == underscore)
 
--- what a word goes on with
+-- Returns whether the byte can follow the first byte of a word.
 abbrev pub continues_word : ℕ → Bool
 continues_word b = is_letter b || is_ascii_digit b
 
--- neither a letter, a digit nor an underscore comes next
+-- Returns whether neither a letter, a digit nor an underscore is next.
 abbrev pub ends_word : List ℕ → Bool
 ends_word [] = true
 ends_word (b ∷ rest) = not (continues_word b)
 
--- what stands for itself between the quotes of a string
+-- Returns whether the byte is itself between the quotes of a string.
 abbrev pub is_plain : ℕ → Bool
 is_plain b = not ((b == quote) || (b == backslash))
 
--- a blank, where so many brackets are open: inside brackets a newline is one
+-- Returns whether the byte is a blank, with `depth` brackets open. A newline is a blank inside brackets.
 abbrev pub is_blank : ℕ → ℕ → Bool
 is_blank depth b = if b == newline then nat_lt 0 depth else (b == space) || (b == tab) || (b == carriage_return)
 
--- what stands in a comment
+-- Returns whether the byte can be in a comment.
 abbrev pub in_line : ℕ → Bool
 in_line b = not (b == newline)
 
--- blanks, and then a comment or nothing
+-- Returns whether the text is blanks, followed by an optional comment.
 abbrev pub is_line_rest : List ℕ → Bool
 is_line_rest [] = true
 is_line_rest (b ∷ rest) = if b == hash then list_all in_line rest else (is_blank 0 b && is_line_rest rest)
 
--- the newlines of a text
+-- Returns the number of newlines in a text.
 abbrev pub newlines : List ℕ → ℕ
 newlines = count_by (λ b. b == newline)
 
--- what a raw string begins and ends with
+-- Returns the quotes with which a raw string begins and ends.
 abbrev pub three_quotes : List ℕ
 three_quotes = quote ∷ quote ∷ quote ∷ []
 
--- a raw string begins or ends
+-- Returns whether a raw string begins or ends.
 abbrev pub opens_raw : List ℕ → Bool
 opens_raw (a ∷ b ∷ c ∷ more) = (a == quote) && (b == quote) && (c == quote)
 opens_raw _ = false
 
--- an f-string begins
+-- Returns whether an f-string begins.
 abbrev pub opens_format : List ℕ → Bool
 opens_format (a ∷ b ∷ more) = (a == lower_f) && (b == quote)
 opens_format _ = false

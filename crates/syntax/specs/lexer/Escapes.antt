@@ -1,4 +1,4 @@
--- What a backslash and what follows it stand for in a string that is not raw.
+-- Defines the escapes of a string that is not raw.
 use Rattle.std.specs.Prelude.{◌≡◌, ℕ, zero, suc, ◌+◌, ◌*◌, ◌<◌, ◌≤◌, Bool, true, false, ◌==◌, ◌||◌, not, nat_lt, if◌then◌else◌, List, []}
 use Rattle.std.specs.Prelude.{◌∷◌, ◌++◌, length, fold, Option, Some, None}
 use Rattle.std.specs.Char.{digit_value, is_digit}
@@ -28,7 +28,7 @@ lower_u = 117
 abbrev pub lower_v : ℕ
 lower_v = 118
 
--- the character that a backslash and this byte alone stand for
+-- Returns the character that a backslash and this one byte name.
 abbrev pub control : ℕ → Option ℕ
 control b =
     if b == backslash then Some backslash
@@ -42,17 +42,17 @@ control b =
     else (if b == lower_r then Some 13
     else None))))))))
 
--- how many hexadecimal digits this byte wants behind it
+-- Returns how many hexadecimal digits must follow this byte.
 abbrev pub digit_count : ℕ → Option ℕ
 digit_count b = if b == lower_x then Some 2 else (if b == lower_u then Some 4 else (if b == upper_u then Some 8 else None))
 
--- the number that `value` and n hexadecimal digits at the front write; nothing where they are fewer
+-- Returns the number that `value` and n hexadecimal digits at the front write, or `None` if there are fewer.
 abbrev pub hexadecimal : ℕ → ℕ → List ℕ → Option ℕ
 hexadecimal zero value bs = Some value
 hexadecimal (suc n) value [] = None
 hexadecimal (suc n) value (b ∷ bs) = if is_digit b 16 then hexadecimal n (16 * value + digit_value b) bs else None
 
--- the number that `value` and the octal digits at the front write, n of them at most, and how many digits that are, `size` the first
+-- Returns the number that `value` and the octal digits at the front write, n at most, and how many digits there are, added to `size`.
 abbrev pub octal : ℕ → ℕ → ℕ → List ℕ → ℕ × ℕ
 octal zero value size bs = (value, size)
 octal (suc n) value size [] = (value, size)
@@ -66,13 +66,13 @@ abbrev pub named : ℕ → Option ℕ → List ℕ → Option (ℕ × ℕ)
 named b None bs = sized 1 (control b)
 named b (Some n) bs = sized (n + 1) (hexadecimal n 0 bs)
 
--- The number that an escape names, of which this comes behind the backslash, and how many bytes it has there. There is none
--- where the backslash stands for itself: each of them wants all of its digits, but the octal one, which wants one to three.
+-- Returns the number that an escape names, and how many bytes it has after the backslash. Returns `None` if the backslash is itself. Each
+-- escape needs all of its digits, except the octal one, which needs one to three.
 unfoldable pub escape_at : List ℕ → Option (ℕ × ℕ)
 escape_at [] = None
 escape_at (b ∷ bs) = if is_octal_digit b then Some (octal 3 0 0 (b ∷ bs)) else named b (digit_count b) bs
 
--- a character's number: at most 10FFFF, and no surrogate
+-- Returns whether a character has this number: at most 10FFFF, and no surrogate.
 abbrev pub is_character : ℕ → Bool
 is_character code = nat_lt code 0xD800 || is_in_range 0xE000 0x10FFFF code
 
@@ -80,13 +80,13 @@ abbrev pub names_none : Option (ℕ × ℕ) → Bool
 names_none None = false
 names_none (Some (code, n)) = not (is_character code)
 
--- an escape that names no character, of which this comes behind the backslash
+-- Returns whether these bytes, after a backslash, form an escape that names no character.
 abbrev pub is_bad_escape : List ℕ → Bool
 is_bad_escape bs = names_none (escape_at bs)
 
 -- ---- the same as a relation
 
--- the number that these digits write in a base
+-- Returns the number that these digits write in a base.
 abbrev pub number_of : ℕ → List ℕ → ℕ
 number_of base digits = fold (λ value d. base * value + digit_value d) 0 digits
 
@@ -94,8 +94,8 @@ abbrev pub begins_octal : List ℕ → Bool
 begins_octal [] = false
 begins_octal (b ∷ rest) = is_octal_digit b
 
--- The text behind a backslash is an escape and names the number, where `rest` comes directly after it: one character; a
--- letter and as many hexadecimal digits as it wants; or one to three octal digits, and fewer than three only where no other follows.
+-- The text after a backslash is an escape that names the number, followed by `rest`. It is one character, a letter with as many hexadecimal
+-- digits as it needs, or one to three octal digits. It has fewer than three only if no other octal digit follows.
 pub data IsEscape : ℕ → List ℕ → List ℕ → Type 0 where
   alone : (b code : ℕ) (rest : List ℕ) → control b ≡ Some code → IsEscape code (b ∷ []) rest
   sixteen : (b : ℕ) (digits rest : List ℕ) → digit_count b ≡ Some (length digits) → list_all (λ d. is_digit d 16) digits ≡ true
@@ -103,6 +103,6 @@ pub data IsEscape : ℕ → List ℕ → List ℕ → Type 0 where
   eight : (digits rest : List ℕ) → 0 < length digits → length digits ≤ 3 → list_all is_octal_digit digits ≡ true
       → (length digits < 3 → begins_octal rest ≡ false) → IsEscape (number_of 8 digits) digits rest
 
--- each escape that begins here, behind a backslash, names a character
+-- Holds if each escape that begins here, after a backslash, names a character.
 abbrev pub NamesCharacters : List ℕ → Type 0
 NamesCharacters bs = (code : ℕ) (written rest : List ℕ) → bs ≡ written ++ rest → IsEscape code written rest → is_character code ≡ true

@@ -1,11 +1,11 @@
--- The kinds of tokens: how they are told apart, and the texts of fixed spelling.
+-- Defines the kinds of tokens: how they are compared, and the texts with a fixed spelling.
 use Rattle.std.specs.Prelude.{ℕ, ◌+◌, ◌-◌, Bool, ◌||◌, List, [], ◌∷◌, Option, Some, None, nat_eq, ◌==◌, if◌then◌else◌, codes}
 use Rattle.std.specs.Str.{bytes_eq}
 use Rattle.syntax.specs.lexer.Bytes as byte
 use Rattle.syntax.specs.declared.lexer.token.Kind.{Kind}
 use Rattle.syntax.specs.declared.lexer.token.Kind.TheVariants as Kinds
 
--- a number for each kind
+-- Returns a number for each kind.
 abbrev pub number : Kind → ℕ
 number Kinds.Name = 0
 number Kinds.String = 1
@@ -52,11 +52,11 @@ number Kinds.RawString = 41
 number Kinds.FormatString = 42
 number Kinds.RawFormatString = 43
 
--- whether two kinds are one
+-- Returns whether two kinds are the same.
 abbrev pub is : Kind → Kind → Bool
 is a b = nat_eq (number a) (number b)
 
--- what a word is: a keyword, or else a name
+-- Returns the kind of a word: a keyword, or else a name.
 abbrev pub word_kind : List ℕ → Kind
 word_kind text =
     if bytes_eq text (codes "true") then Kinds.True
@@ -75,11 +75,11 @@ word_kind text =
     else (if bytes_eq text (codes "continue") then Kinds.Continue
     else Kinds.Name)))))))))))))
 
--- a string of this kind with an `f` before it
+-- Returns the kind of a string of this kind after an `f`.
 abbrev pub format_kind : Kind → Kind
 format_kind k = if is k Kinds.String then Kinds.FormatString else (if is k Kinds.RawString then Kinds.RawFormatString else k)
 
--- a symbol of one byte
+-- Returns the symbol of one byte.
 abbrev pub single_kind : ℕ → Option Kind
 single_kind b =
     if b == byte.open_parenthesis then Some Kinds.OpenParenthesis
@@ -103,7 +103,7 @@ single_kind b =
     else (if b == byte.newline then Some Kinds.Newline
     else None))))))))))))))))))
 
--- a symbol of this byte and an equals sign
+-- Returns the symbol that this byte and an equals sign form.
 abbrev pub with_equals_kind : ℕ → Option Kind
 with_equals_kind b =
     if b == byte.equals then Some Kinds.Equal
@@ -113,14 +113,14 @@ with_equals_kind b =
     else (if b == byte.plus then Some Kinds.PlusAssign
     else None))))
 
--- the symbol that a text is
+-- Returns the symbol that a text is.
 abbrev pub symbol_kind : List ℕ → Option Kind
 symbol_kind [] = None
 symbol_kind (a ∷ []) = single_kind a
 symbol_kind (a ∷ b ∷ []) = if b == byte.equals then with_equals_kind a else None
 symbol_kind (a ∷ b ∷ c ∷ more) = None
 
--- how many brackets are open after a token of this kind, where so many were before it
+-- Returns how many brackets are open after a token of this kind, given how many are open before it.
 abbrev pub depth_after : Kind → ℕ → ℕ
 depth_after k depth =
     if is k Kinds.OpenParenthesis || is k Kinds.OpenBracket || is k Kinds.OpenBrace then depth + 1

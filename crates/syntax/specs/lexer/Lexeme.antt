@@ -1,4 +1,4 @@
--- A token without where its text lies in memory.
+-- Defines a token, without its place in memory.
 use Rattle.std.specs.Prelude.{ℕ, List, map}
 use Rattle.syntax.specs.declared.lexer.token.Kind.{Kind}
 use Rattle.syntax.specs.declared.lexer.token.Token.{Token}

@@ -1,4 +1,4 @@
--- Cutting a source into tokens, as a function.
+-- Defines how a source is cut into tokens, as a function.
 use Rattle.std.specs.Prelude.{ℕ, zero, suc, ◌+◌, Bool, true, false, not, ◌&&◌, ◌||◌, ◌==◌, nat_lt, if◌then◌else◌, List, [], ◌∷◌, length}
 use Rattle.std.specs.Prelude.{take, drop, Option, Some, None, Result, Ok, Err}
 use Rattle.syntax.specs.declared.lexer.token.Kind.{Kind}
@@ -16,16 +16,16 @@ use Rattle.syntax.specs.lexer.Lexeme.{Lexeme}
 use Rattle.syntax.specs.lexer.Numbers.{is_number}
 use Rattle.syntax.specs.lexer.Tokens.{Place, start}
 
--- how many bytes at the front pass the test
+-- Returns how many bytes at the front pass the test.
 abbrev pub run : (ℕ → Bool) → List ℕ → ℕ
 run p [] = 0
 run p (b ∷ bs) = if p b then suc (run p bs) else 0
 
--- whether the byte may stand between a backslash and the newline that it continues; `commented`: it is in the comment there
+-- Returns whether the byte may be between a backslash and the newline that it continues. `commented`: it is in the comment there.
 abbrev pub in_line_rest : Bool → ℕ → Bool
 in_line_rest commented b = commented || (is_blank 0 b || (b == hash))
 
--- blanks, a comment or none and a newline come next
+-- Returns whether blanks, an optional comment and a newline are next.
 abbrev pub continues_line : Bool → List ℕ → Bool
 continues_line commented [] = false
 continues_line commented (b ∷ bs) =
@@ -33,53 +33,53 @@ continues_line commented (b ∷ bs) =
     else (if in_line_rest commented b then continues_line (commented || (b == hash)) bs
     else false)
 
--- whether the byte belongs to a gap, in this part of it; `bs` comes after the byte
+-- Returns whether the byte belongs to a gap, in this part of it. `bs` follows the byte.
 abbrev pub in_gap : ℕ → GapPart → ℕ → List ℕ → Bool
 in_gap depth parts.Blank b bs = is_blank depth b || ((b == hash) || ((b == backslash) && continues_line false bs))
 in_gap depth parts.Comment b bs = not (b == newline) || nat_lt 0 depth
 in_gap depth parts.Continuation b bs = true
 
--- the part of the gap that the byte after this one is in
+-- Returns the part of the gap that the byte after this one is in.
 abbrev pub part_after : GapPart → ℕ → GapPart
 part_after parts.Blank b = if b == hash then parts.Comment else (if b == backslash then parts.Continuation else parts.Blank)
 part_after parts.Comment b = if b == newline then parts.Blank else parts.Comment
 part_after parts.Continuation b = if b == newline then parts.Blank else parts.Continuation
 
--- how many bytes the gap at the front has
+-- Returns how many bytes the gap at the front has.
 abbrev pub gap : ℕ → GapPart → List ℕ → ℕ
 gap depth part [] = 0
 gap depth part (b ∷ bs) = if in_gap depth part b bs then suc (gap depth (part_after part b) bs) else 0
 
--- the kind and length of the word at the front
+-- Returns the kind and length of the word at the front.
 unfoldable pub word_at : List ℕ → Kind × ℕ
 word_at bs = (word_kind (take (run continues_word bs) bs), run continues_word bs)
 
--- the number at the front, which begins with a digit
+-- Returns the number at the front, whose first byte is a digit.
 unfoldable pub number_at : List ℕ → Option (Kind × ℕ)
 number_at bs = if is_number (take (run continues_word bs) bs) then Some (Kinds.Number, run continues_word bs) else None
 
--- one byte more
+-- Adds one byte.
 abbrev pub further : Option ℕ → Option ℕ
 further None = None
 further (Some n) = Some (suc n)
 
--- how many bytes stand before the quote that ends a string; `escaped`: a backslash stands before these
+-- Returns how many bytes precede the quote that ends a string. `escaped`: a backslash precedes these bytes.
 abbrev pub inside : Bool → List ℕ → Option ℕ
 inside escaped [] = None
 inside true (b ∷ bs) = if is_bad_escape (b ∷ bs) then None else further (inside false bs)
 inside false (b ∷ bs) = if b == quote then Some 0 else further (inside (b == backslash) bs)
 
--- how many bytes stand before the first three quotes
+-- Returns how many bytes precede the first three quotes.
 abbrev pub before_quotes : List ℕ → Option ℕ
 before_quotes [] = None
 before_quotes (b ∷ bs) = if opens_raw (b ∷ bs) then Some 0 else further (before_quotes bs)
 
--- a string of this kind, with so many bytes inside and others round them
+-- Returns a string of this kind, with n bytes inside and `round` others around them.
 abbrev pub string_of : Kind → ℕ → Option ℕ → Option (Kind × ℕ)
 string_of k round None = None
 string_of k round (Some n) = Some (k, n + round)
 
--- the string at the front, which begins with a quote
+-- Returns the string at the front, whose first byte is a quote.
 unfoldable pub string_at : List ℕ → Option (Kind × ℕ)
 string_at bs =
     if opens_raw bs then string_of Kinds.RawString 6 (before_quotes (drop 3 bs))
@@ -89,11 +89,11 @@ abbrev pub formatted : Option (Kind × ℕ) → Option (Kind × ℕ)
 formatted None = None
 formatted (Some (k, n)) = Some (format_kind k, n + 1)
 
--- the f-string at the front, which begins with `f` and a quote
+-- Returns the f-string at the front, whose first bytes are `f` and a quote.
 unfoldable pub format_at : List ℕ → Option (Kind × ℕ)
 format_at bs = formatted (string_at (drop 1 bs))
 
--- a symbol of so many bytes
+-- Returns a symbol of n bytes.
 abbrev pub sized : ℕ → Option Kind → Option (Kind × ℕ)
 sized n None = None
 sized n (Some k) = Some (k, n)
@@ -102,16 +102,16 @@ abbrev pub or_else : Option (Kind × ℕ) → Option (Kind × ℕ) → Option (K
 or_else None o = o
 or_else (Some x) o = Some x
 
--- the symbol of two bytes that begins with this byte
+-- Returns the symbol that this byte and the next one form.
 abbrev pub double_kind : ℕ → List ℕ → Option Kind
 double_kind a [] = None
 double_kind a (b ∷ bs) = if b == equals then with_equals_kind a else None
 
--- the kind and length of the symbol at the front, which begins with this byte
+-- Returns the kind and length of the symbol at the front, whose first byte is this one.
 unfoldable pub symbol_at : ℕ → List ℕ → Option (Kind × ℕ)
 symbol_at a bs = or_else (sized 2 (double_kind a bs)) (sized 1 (single_kind a))
 
--- the kind and length of the longest token at the front
+-- Returns the kind and length of the longest token at the front.
 unfoldable pub token_at : List ℕ → Option (Kind × ℕ)
 token_at [] = None
 token_at (a ∷ bs) =
@@ -120,11 +120,11 @@ token_at (a ∷ bs) =
     else (if a == quote then string_at (a ∷ bs)
     else symbol_at a bs))
 
--- so many bytes further on
+-- Returns the place n bytes further on.
 abbrev pub past : ℕ → Place → Place
 past n p = record { rest = drop n p.rest; line = p.line + newlines (take n p.rest); depth = p.depth }
 
--- where the gap from a place on ends
+-- Returns the place at which the gap from a place on ends.
 abbrev pub skipped : Place → Place
 skipped p = past (gap p.depth parts.Blank p.rest) p
 
@@ -135,14 +135,14 @@ abbrev pub with_first : Lexeme → Result (List Lexeme) SyntaxFault → Result (
 with_first t (Ok ts) = Ok (t ∷ ts)
 with_first t (Err e) = Err e
 
--- the token of this kind and length at a place, and the place behind it
+-- Returns the token of this kind and length at a place, and the place after it.
 abbrev pub lexeme_at : Place → Kind × ℕ → Lexeme
 lexeme_at p (k, n) = record { kind = k; text = take n p.rest; line = p.line }
 
 abbrev pub after_lexeme : Place → Kind × ℕ → Place
 after_lexeme p (k, n) = record { rest = drop n p.rest; line = p.line + newlines (take n p.rest); depth = depth_after k p.depth }
 
--- the tokens from a place on, which is no gap; `go` gives those behind the first
+-- Returns the tokens from a place on, at which no gap begins. `go` returns those after the first.
 abbrev pub lex_found : (Place → Result (List Lexeme) SyntaxFault) → Place → Option (Kind × ℕ) → Result (List Lexeme) SyntaxFault
 lex_found go at None = Err (fault_at at.line)
 lex_found go at (Some x) = with_first (lexeme_at at x) (go (after_lexeme at x))
@@ -151,7 +151,7 @@ abbrev pub lex_here : (Place → Result (List Lexeme) SyntaxFault) → Place →
 lex_here go at [] = Ok []
 lex_here go at (b ∷ bs) = lex_found go at (token_at (b ∷ bs))
 
--- the tokens from a place on, where there are fewer than so many
+-- Returns fewer than n tokens from a place on.
 unfoldable pub lex : ℕ → Place → Result (List Lexeme) SyntaxFault
 lex zero p = Ok []
 lex (suc n) p = lex_here (lex n) (skipped p) (skipped p).rest

@@ -1,4 +1,4 @@
--- How numbers are written.
+-- Defines how numbers are written.
 use Rattle.std.specs.Prelude.{ℕ, Bool, true, false, List, [], ◌∷◌, ◌==◌, ◌||◌, if◌then◌else◌}
 use Rattle.std.specs.Char.{is_ascii_digit, is_ascii_hexdigit}
 use Rattle.std.specs.Int.{is_in_range}
@@ -29,7 +29,7 @@ is_octal_digit d = is_in_range 48 55 d
 abbrev pub is_binary_digit : ℕ → Bool
 is_binary_digit d = is_in_range 48 49 d
 
--- a digit of the base that the letter stands for
+-- Returns whether this is a digit of the base that the letter names.
 abbrev pub is_digit_of : ℕ → ℕ → Bool
 is_digit_of letter d =
     if (letter == lower_x) || (letter == upper_x) then is_ascii_hexdigit d
@@ -37,13 +37,13 @@ is_digit_of letter d =
     else (if (letter == lower_b) || (letter == upper_b) then is_binary_digit d
     else false))
 
--- what stands behind a first 0: nothing, or the letter of a base and at least one of its digits
+-- Returns whether this may follow a leading 0: nothing, or the letter of a base and at least one of its digits.
 abbrev pub is_behind_zero : List ℕ → Bool
 is_behind_zero [] = true
 is_behind_zero (letter ∷ []) = false
 is_behind_zero (letter ∷ d ∷ digits) = list_all (is_digit_of letter) (d ∷ digits)
 
--- 0, a decimal number without a 0 in front, or a number of another base
+-- Returns whether the text is 0, a decimal number without a leading 0, or a number of another base.
 abbrev pub is_number : List ℕ → Bool
 is_number [] = false
 is_number (a ∷ others) = if a == digit_zero then is_behind_zero others else list_all is_ascii_digit (a ∷ others)

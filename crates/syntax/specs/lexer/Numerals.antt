@@ -1,30 +1,30 @@
--- What number tokens stand for.
+-- Defines the values of number tokens.
 use Rattle.std.specs.Prelude.{ℕ, ◌+◌, ◌-◌, ◌*◌, ◌||◌, List, [], ◌∷◌, ◌==◌, nat_lt, if◌then◌else◌}
 use Rattle.syntax.specs.lexer.Bytes.{digit_zero}
 use Rattle.syntax.specs.lexer.Numbers.{lower_o, lower_x, upper_o, upper_x}
 
--- what a digit stands for: 0 to 9, and then the letters, from 10 on
+-- Returns the value of a digit: 0 to 9, then the letters from 10 on.
 abbrev pub digit : ℕ → ℕ
 digit d = if nat_lt d 65 then d - 48 else (if nat_lt d 97 then d - 55 else d - 87)
 
--- the number that digits of a base spell behind those that spell n
+-- Returns the number that these digits spell in a base, after digits that spell n.
 unfoldable pub spelled : ℕ → ℕ → List ℕ → ℕ
 spelled base n [] = n
 spelled base n (d ∷ ds) = spelled base (n * base + digit d) ds
 
--- the base that the letter behind a first 0 names
+-- Returns the base that the letter after a leading 0 names.
 abbrev pub base_of : ℕ → ℕ
 base_of letter =
     if (letter == lower_x) || (letter == upper_x) then 16
     else (if (letter == lower_o) || (letter == upper_o) then 8
     else 2)
 
--- what stands behind a first 0: nothing, or the letter of a base and digits
+-- Returns the number of what follows a leading 0: nothing, or the letter of a base and digits.
 abbrev pub behind_zero : List ℕ → ℕ
 behind_zero [] = 0
 behind_zero (letter ∷ digits) = spelled (base_of letter) 0 digits
 
--- the number that the text of a number token spells
+-- Returns the number that the text of a number token spells.
 abbrev pub magnitude : List ℕ → ℕ
 magnitude [] = 0
 magnitude (d ∷ ds) = if d == digit_zero then behind_zero ds else spelled 10 0 (d ∷ ds)

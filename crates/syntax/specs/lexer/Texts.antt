@@ -1,4 +1,4 @@
--- What a token stands for.
+-- Defines the texts of tokens.
 use Rattle.std.specs.Prelude.{◌≡◌, ℕ, zero, suc, ◌+◌, ◌-◌, Bool, true, false, ◌==◌, ◌||◌, ◌&&◌, not, nat_le, if◌then◌else◌, List, [], ◌∷◌}
 use Rattle.std.specs.Prelude.{◌++◌, length, slice_index, slice_range, Option, Some, None, encode_utf8}
 use Rattle.syntax.specs.declared.lexer.token.Kind.{Kind}
@@ -7,7 +7,7 @@ use Rattle.syntax.specs.lexer.Bytes.{quote, backslash, lower_f, three_quotes}
 use Rattle.syntax.specs.lexer.Escapes.{escape_at, is_character, IsEscape}
 use Rattle.syntax.specs.lexer.Kinds.{is}
 
--- a string of any kind
+-- Returns whether the kind is that of a string.
 abbrev pub is_string : Kind → Bool
 is_string k = is k Kinds.String || (is k Kinds.FormatString || (is k Kinds.RawString || is k Kinds.RawFormatString))
 
@@ -15,16 +15,16 @@ abbrev pub character : Option (ℕ × ℕ) → ℕ × ℕ
 character None = (backslash, 0)
 character (Some (code, n)) = if is_character code then (code, n) else (backslash, 0)
 
--- The character that a backslash and what follows it stand for, and how many bytes belong to it there. A backslash that
--- begins no escape, or one that names no character, stands for itself.
+-- Returns the character that a backslash and these bytes name, and how many bytes belong to the escape. A backslash that begins no escape,
+-- or one that names no character, is itself.
 unfoldable pub escaped_by : List ℕ → ℕ × ℕ
 escaped_by bs = character (escape_at bs)
 
--- a byte that stands for itself
+-- Returns whether the byte is itself.
 abbrev pub is_no_backslash : ℕ → Bool
 is_no_backslash b = not (b == backslash)
 
--- the text that stands behind the first `skip` bytes, which belong to an escape before them
+-- Returns the text of these characters, without the first `skip` bytes, which belong to an earlier escape.
 abbrev pub unescaped_behind : ℕ → List ℕ → List ℕ
 unescaped_behind skip [] = []
 unescaped_behind (suc n) (b ∷ bs) = unescaped_behind n bs
@@ -32,20 +32,20 @@ unescaped_behind zero (b ∷ bs) =
     if b == backslash then encode_utf8 (escaped_by bs).0 ++ unescaped_behind (escaped_by bs).1 bs
     else b ∷ unescaped_behind zero bs
 
--- the text that characters between quotes stand for, with each escape replaced by what it names
+-- Returns the text of the characters between quotes, with each escape replaced by the character that it names.
 unfoldable pub unescaped : List ℕ → List ℕ
 unescaped bs = unescaped_behind 0 bs
 
--- whether the first `front` bytes end with a quote, and the last `back` ones, which are others, begin with one
+-- Returns whether the first `front` bytes end with a quote, and the last `back` bytes, which are others, begin with one.
 abbrev pub is_framed : ℕ → ℕ → List ℕ → Bool
 is_framed front back text =
     nat_le (front + back) (length text) && ((slice_index text (front - 1) == quote) && (slice_index text (length text - back) == quote))
 
--- what stands behind the first `front` bytes and before the last `back` ones; all of a text without quotes at these places
+-- Returns the text without its first `front` and last `back` bytes, or the whole text if it has no quotes there.
 unfoldable pub between : ℕ → ℕ → List ℕ → List ℕ
 between front back text = if is_framed front back text then slice_range text front (length text - back) else text
 
--- The text of a string after its escapes, a raw one's as it stands between its quotes. Any other token's is the token itself.
+-- Returns the text of a string after its escapes, or that of a raw string between its quotes. The text of any other token is its slice.
 abbrev pub text_of : Kind → List ℕ → List ℕ
 text_of k text =
     if is k Kinds.String then unescaped (between 1 1 text)
@@ -56,11 +56,11 @@ text_of k text =
 
 -- ---- the same as a relation
 
--- no escape that names a character begins here, behind a backslash
+-- Holds if no escape that names a character begins here, after a backslash.
 abbrev pub NoEscape : List ℕ → Type 0
 NoEscape bs = (code : ℕ) (written rest : List ℕ) → bs ≡ written ++ rest → IsEscape code written rest → is_character code ≡ true → ⊥
 
--- The characters between quotes, and the text that they stand for.
+-- Relates the characters between quotes to the text that they name.
 pub data StandsFor : List ℕ → List ℕ → Type 0 where
   nothing : StandsFor [] []
   itself : (b : ℕ) (bs text : List ℕ) → is_no_backslash b ≡ true → StandsFor bs text → StandsFor (b ∷ bs) (b ∷ text)
@@ -68,7 +68,7 @@ pub data StandsFor : List ℕ → List ℕ → Type 0 where
       → StandsFor (backslash ∷ (written ++ bs)) (encode_utf8 code ++ text)
   kept : (bs text : List ℕ) → NoEscape bs → StandsFor bs text → StandsFor (backslash ∷ bs) (backslash ∷ text)
 
--- The token of this kind and slice, and the text that it stands for.
+-- Relates a token's kind and slice to its text.
 pub data TokenStandsFor : Kind → List ℕ → List ℕ → Type 0 where
   quoted : (inside text : List ℕ) → StandsFor inside text → TokenStandsFor Kinds.String (quote ∷ (inside ++ quote ∷ [])) text
   format : (inside text : List ℕ) → StandsFor inside text

@@ -1,4 +1,4 @@
--- The tokens of a source.
+-- Defines the tokens of a source.
 use Rattle.std.specs.Prelude.{◌≡◌, ◌≢◌, ℕ, ◌+◌, ◌≤◌, if◌then◌else◌, Bool, true, false, ◌==◌, List, [], ◌∷◌, ◌++◌, length, drop, EachIndex}
 use Rattle.std.specs.Prelude.{Some}
 use Rattle.std.specs.List.{list_all}
@@ -14,28 +14,28 @@ use Rattle.syntax.specs.lexer.Numbers.{is_number}
 
 -- ---- one token
 
--- letters, digits and underscores, no digit first
+-- Returns whether the text is letters, digits and underscores, and does not begin with a digit.
 abbrev pub is_word : List ℕ → Bool
 is_word [] = false
 is_word (a ∷ others) = if is_letter a then list_all continues_word others else false
 
--- What may stand between the quotes of a string that is not raw: no quote but behind a backslash, each backslash with the
--- byte behind it, and no escape of a number that no character has.
+-- The characters between the quotes of a string that is not raw: a quote only after a backslash, a byte after each backslash, and no escape
+-- of a number that no character has.
 pub data AreCharacters : List ℕ → Type 0 where
   no_more : AreCharacters []
   plain : (b : ℕ) (text : List ℕ) → is_plain b ≡ true → AreCharacters text → AreCharacters (b ∷ text)
   escaped : (b : ℕ) (text : List ℕ) → NamesCharacters (b ∷ text) → AreCharacters text → AreCharacters (backslash ∷ b ∷ text)
 
--- The text is a string of the kind, without the `f` that may stand before it, where `rest` comes directly after it. Where a
--- raw string opens there is no empty string. A raw string ends with the first three quotes behind those that open it.
+-- The text is a string of the kind, without an `f` before it, and `rest` directly follows it. Three quotes open a raw string, never an
+-- empty string. A raw string ends with the first three quotes after those that open it.
 pub data IsString : Kind → List ℕ → List ℕ → Type 0 where
   quoted : (inside rest : List ℕ) → AreCharacters inside → opens_raw (quote ∷ (inside ++ quote ∷ rest)) ≡ false
       → IsString Kinds.String (quote ∷ (inside ++ quote ∷ [])) rest
   raw : (inside rest : List ℕ) → EachIndex inside (λ i. opens_raw (drop i (inside ++ three_quotes)) ≡ false)
       → IsString Kinds.RawString (three_quotes ++ (inside ++ three_quotes)) rest
 
--- The text is a token of the kind, where `rest` comes directly after it. Where an f-string opens there is no name `f`. No
--- letter, digit or underscore comes directly after a number.
+-- The text is a token of the kind, and `rest` directly follows it. An `f` that opens an f-string is no name. No letter, digit or underscore
+-- directly follows a number.
 pub data IsToken : Kind → List ℕ → List ℕ → Type 0 where
   word : (text rest : List ℕ) → is_word text ≡ true → opens_format (text ++ rest) ≡ false → IsToken (word_kind text) text rest
   number : (text rest : List ℕ) → is_number text ≡ true → ends_word rest ≡ true → IsToken Kinds.Number text rest
@@ -43,19 +43,19 @@ pub data IsToken : Kind → List ℕ → List ℕ → Type 0 where
   format : (k : Kind) (text rest : List ℕ) → IsString k text rest → IsToken (format_kind k) (lower_f ∷ text) rest
   symbol : (k : Kind) (text rest : List ℕ) → symbol_kind text ≡ Some k → IsToken k text rest
 
--- no token begins the source
+-- Holds if no token begins the source.
 abbrev pub NoToken : List ℕ → Type 0
 NoToken source = (k : Kind) (text rest : List ℕ) → source ≡ text ++ rest → IsToken k text rest → ⊥
 
 -- ---- between two tokens
 
--- the line ends here
+-- Returns whether the line ends here.
 abbrev pub ends_line : List ℕ → Bool
 ends_line [] = true
 ends_line (b ∷ rest) = b == newline
 
--- The text is blanks, comments and continuations, where so many brackets are open and `rest` comes after it. A comment
--- goes up to its line's end. A continuation is a backslash, blanks, a comment or none, and the newline.
+-- The text is blanks, comments and continuations, with `depth` brackets open and `rest` after it. A comment extends to the end of its line.
+-- A continuation is a backslash, blanks, an optional comment, and the newline.
 pub data IsGap (depth : ℕ) (rest : List ℕ) : List ℕ → Type 0 where
   nothing : IsGap depth rest []
   blank : (b : ℕ) (text : List ℕ) → is_blank depth b ≡ true → IsGap depth rest text → IsGap depth rest (b ∷ text)
@@ -64,13 +64,13 @@ pub data IsGap (depth : ℕ) (rest : List ℕ) : List ℕ → Type 0 where
   continued : (inside text : List ℕ) → is_line_rest inside ≡ true → IsGap depth rest text
       → IsGap depth rest (backslash ∷ (inside ++ newline ∷ text))
 
--- neither a blank, a comment nor a continuation begins the source
+-- Holds if neither a blank, a comment nor a continuation begins the source.
 abbrev pub NoGap : ℕ → List ℕ → Type 0
 NoGap depth source = (b : ℕ) (text rest : List ℕ) → source ≡ b ∷ (text ++ rest) → IsGap depth rest (b ∷ text) → ⊥
 
 -- ---- the tokens of a source
 
--- a place in a source: what is left from there on, its line, and how many brackets are open
+-- A place in a source: the rest from there on, its line, and how many brackets are open.
 pub record Place : Type 0 where
   pub rest : List ℕ
   pub line : ℕ
@@ -79,7 +79,7 @@ pub record Place : Type 0 where
 abbrev pub start : List ℕ → Place
 start source = record { rest = source; line = 1; depth = 0 }
 
--- `to` is where the blanks, comments and continuations from a place on end
+-- The blanks, comments and continuations from a place on end at `to`.
 pub record Skips (from to : Place) : Type 0 where
   pub gap : List ℕ
   pub parts : from.rest ≡ gap ++ to.rest
@@ -88,7 +88,7 @@ pub record Skips (from to : Place) : Type 0 where
   pub line : to.line ≡ from.line + newlines gap
   pub depth : to.depth ≡ from.depth
 
--- `t` is the longest token that begins at a place, and `after` the place behind it
+-- `t` is the longest token that begins at a place, and `after` is the place after it.
 pub record IsNext (at : Place) (t : Lexeme) (after : Place) : Type 0 where
   pub parts : at.rest ≡ t.text ++ after.rest
   pub token : IsToken t.kind t.text after.rest
@@ -97,18 +97,18 @@ pub record IsNext (at : Place) (t : Lexeme) (after : Place) : Type 0 where
   pub line : after.line ≡ at.line + newlines t.text
   pub depth : after.depth ≡ depth_after t.kind at.depth
 
--- the tokens stand in order from one place on, and up to another, which is no gap, nothing else but gaps lies between
+-- Holds if the tokens are in order from one place to another, at which no gap begins, with only gaps between them.
 abbrev pub Spans : Place → List Lexeme → Place → Type 0
 Spans from [] to = Skips from to
 Spans from (t ∷ ts) to = (at : Place) × (after : Place) × Skips from at × IsNext at t after × Spans after ts to
 
--- the source is these tokens
+-- The source is these tokens.
 pub record AreTokens (source : List ℕ) (ts : List Lexeme) : Type 0 where
   pub end : Place
   pub spans : Spans (start source) ts end
   pub all : end.rest ≡ []
 
--- at the place behind the first tokens, on this line, there is something and no token begins
+-- At the place after the first tokens, on this line, something is left and no token begins.
 pub record IsUnreadable (source : List ℕ) (line : ℕ) : Type 0 where
   pub before : List Lexeme
   pub at : Place

@@ -1,4 +1,4 @@
-//! Cuts a source into tokens, as the Meson manual's page "Syntax" describes them.
+//! Cuts a source into tokens, as the Meson manual describes them (page "Syntax").
 
 ghost use Rattle.std.specs.Prelude.{◌≡◌, ◌+◌, ◌<◌, ◌^◌, List, IfOk, MatchResult};
 ghost use Rattle.syntax.specs.lexer.Kinds.{depth_after};
@@ -17,7 +17,7 @@ use crate::lexer::token::{Kind, Token};
 use crate::lexer::word::word_at;
 use std::alloc::{AllocError, Global};
 
-// The kind and length of the longest token at the front.
+// Returns the kind and the length in bytes of the longest token at the front, or `None` if no token begins there.
 #[tactic(auto, using(crate::proofs::Cuts::token_cases))]
 fn token_at(text: &str) -> Option<(Kind, usize)>
     ensures { result ≡ token_at text.now }
@@ -42,7 +42,7 @@ fn token_at(text: &str) -> Option<(Kind, usize)>
     }
 }
 
-// How many brackets are open after a token, where so many were before it.
+// Returns how many brackets are open after a token, given how many are open before it.
 fn depth_after(kind: Kind, depth: usize) -> usize
     requires { depth + 1 < 2 ^ 64 }
     ensures { result ≡ depth_after kind depth }
@@ -54,17 +54,18 @@ fn depth_after(kind: Kind, depth: usize) -> usize
     }
 }
 
-// Of how many bytes a source is that leaves its room, and that of its tokens, to others.
+// The sizes in bytes of the sources, from the least to the greatest, whose memory the C library keeps.
 const LEAST_KEPT: usize = 16_384;
 
 const MOST_KEPT: usize = 1_048_576;
 
-/// Has the C library keep the room of a source of so many bytes and of its tokens when they are let go, for what is made of them next. A
-/// block of 128 KiB or more it takes from the system and gives back to it, until a block was given back: then it keeps those up to that
-/// size. So one for as many tokens as there may be is asked for and given back, with nothing put into it. It comes before the source is
-/// read, so that this lies among what is kept too.
+/// Makes the C library keep the memory of a source of this many bytes, and of its tokens, after they are freed.
 ///
-/// It is a hint: where that block is refused, nothing is lost, and the run goes on.
+/// The C library takes a block of 128 KiB or more from the system and gives it back when it is freed. After the first such block it keeps
+/// blocks up to that size. So this function allocates a block for the greatest number of tokens and frees it unused. Call it before reading
+/// the source, so that the source's block is kept too.
+///
+/// It is only a hint: if the block can't be allocated, nothing is lost and the run continues.
 pub fn keep_room(alloc: Global, bytes: usize) {
     if bytes >= LEAST_KEPT && bytes <= MOST_KEPT {
         let room: Result<Vec<Token<'_>>, AllocError> = Vec::with_capacity(alloc, bytes);
@@ -72,18 +73,19 @@ pub fn keep_room(alloc: Global, bytes: usize) {
     }
 }
 
-/// The tokens of a source, in order; their texts are slices of it.
+/// Returns the tokens of a source, in order. Their texts are slices of it.
 ///
-/// Names and keywords, numbers of all bases, strings (`'..'`, `'''..'''`, and either with an `f` before it), the symbols of
-/// the Meson manual's page "Syntax", and a token at the end of each line where no bracket is open and no backslash continues
-/// it. A number with a letter, digit or underscore directly after it, a string without an end, a string with an escape of
-/// a surrogate or of a number past 10FFFF, and any other byte are faults: E2, at the line of the first place where no
-/// token begins.
+/// Tokens are names and keywords, numbers of all bases, strings (`'..'`, `'''..'''`, and either with an `f` before it), and the symbols of
+/// the Meson manual's page "Syntax". A further token ends each line outside of brackets, unless a backslash continues the line.
+///
+/// Fails with E2 at the line of the first place at which no token begins. No token begins at a number directly followed by a letter, digit
+/// or underscore, or at a string without an end. Nor does one begin at a string with an escape of a surrogate or of a number above 10FFFF,
+/// or at any other byte.
 pub fn tokens(alloc: Global, source: &str) -> Result<Vec<Token<'_>>, SyntaxError>
-    // Unless memory runs out, it is this function of the source.
+    // Unless memory runs out, the result is this function of the source.
     ensures reads { Answers (λ v. lexemes v.items) result (lexed source.now) }
 
-    // The tokens are those of the source, and it has no others.
+    // The tokens are those of the source, and the source has no others.
     ensures listed { IfOk result (λ v. AreTokens source.now (lexemes v.items)) }
     ensures only { (ts : List Lexeme) → AreTokens source.now ts
         → MatchResult result (λ v. lexemes v.items ≡ ts) (λ e. e ≡ SyntaxError.Memory) }

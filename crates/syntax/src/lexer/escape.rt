@@ -1,10 +1,10 @@
-//! What a backslash stands for in a string.
+//! Reads the escapes of a string.
 
 ghost use Rattle.std.specs.Prelude.{◌≡◌, ◌≤◌, IfSome};
 ghost use Rattle.syntax.specs.lexer.Escapes.{control, digit_count, hexadecimal, octal, escape_at, is_character, is_bad_escape};
 ghost use Rattle.syntax.specs.lexer.Numbers.{is_octal_digit};
 
-// The character that a backslash and this byte alone stand for.
+// Returns the character that a backslash and this one byte name.
 fn control(byte: u8) -> Option<u32>
     ensures { result ≡ control byte }
 {
@@ -22,7 +22,7 @@ fn control(byte: u8) -> Option<u32>
     }
 }
 
-// How many hexadecimal digits this byte wants behind it.
+// Returns how many hexadecimal digits must follow this byte.
 fn digit_count(byte: u8) -> Option<usize>
     ensures count { result ≡ digit_count byte }
     ensures bound { IfSome result (λ n. n ≤ 8) }
@@ -35,7 +35,7 @@ fn digit_count(byte: u8) -> Option<usize>
     }
 }
 
-// The number that so many hexadecimal digits at the front write.
+// Returns the number that the first `count` bytes write as hexadecimal digits, or `None` if they aren't digits.
 #[tactic(auto, using(crate::proofs::Escapes::hex_steps))]
 fn hexadecimal(bytes: &[u8], count: usize) -> Option<u32>
     requires { count ≤ 8 }
@@ -60,7 +60,7 @@ fn is_octal_digit(byte: u8) -> bool
     matches!(byte, b'0'..=b'7')
 }
 
-// The number that the octal digits at the front write, three of them at most, and how many these are.
+// Returns the number that the octal digits at the front write, three at most, and how many they are.
 #[tactic(auto, using(crate::proofs::Escapes::octal_steps))]
 fn octal(bytes: &[u8]) -> (u32, usize)
     ensures { result ≡ octal 3 0 0 bytes.now }
@@ -74,7 +74,8 @@ fn octal(bytes: &[u8]) -> (u32, usize)
     (value, size)
 }
 
-// The number that an escape names, of which this comes behind the backslash, and how many bytes it has there.
+// Returns the number that an escape names, and how many bytes it has after the backslash. `bytes` follow the backslash. Returns `None` if
+// they form no escape.
 #[tactic(auto, using(crate::proofs::Escapes::escape_cases))]
 pub(crate) fn escape_at(bytes: &[u8]) -> Option<(u32, usize)>
     ensures { result ≡ escape_at bytes.now }
@@ -94,14 +95,14 @@ pub(crate) fn escape_at(bytes: &[u8]) -> Option<(u32, usize)>
     }
 }
 
-// Whether a character has this number.
+// Returns whether a character has this number.
 fn is_character(code: u32) -> bool
     ensures { result ≡ is_character code }
 {
     char::from_u32(code).is_some()
 }
 
-// Whether an escape comes that names no character.
+// Returns whether these bytes, after a backslash, form an escape that names no character.
 pub(crate) fn is_bad_escape(bytes: &[u8]) -> bool
     ensures { result ≡ is_bad_escape bytes.now }
 {

@@ -1,4 +1,4 @@
-//! Why a source has no tokens, or its tokens no tree.
+//! Says why a source has no tokens, or why its tokens have no tree.
 
 ghost use Rattle.std.specs.Prelude.{◌≡◌};
 ghost use Rattle.syntax.specs.declared.lexer.fault.SyntaxError.TheVariants.{Memory};
@@ -6,13 +6,13 @@ ghost use Rattle.syntax.specs.declared.lexer.fault.SyntaxError.TheVariants.{Memo
 use std::alloc::{AllocError, AllocFailed};
 use thiserror::Error;
 
-/// What is wrong with a source.
+/// Says what is wrong with a source.
 #[derive(Clone, Copy, Debug, Error)]
 pub enum FaultKind {
     /// E2: no token begins here.
     #[error("E2 token")]
     Token,
-    /// E3: the tokens up to here begin no file.
+    /// E3: no file begins with the tokens up to this one.
     #[error("E3 grammar")]
     Grammar,
     /// E4: more than 64 levels would be open here.
@@ -20,7 +20,7 @@ pub enum FaultKind {
     Nesting,
 }
 
-/// A fault, and the line, from 1, of the token that it is at.
+/// Holds a fault and the line, from 1, of the token at which it is.
 #[derive(Clone, Copy, Debug, Error)]
 #[error("line {line}: {kind}")]
 pub struct SyntaxFault {
@@ -28,7 +28,7 @@ pub struct SyntaxFault {
     pub line: usize,
 }
 
-/// A fault of the source, or want of memory.
+/// Reports a fault of the source, or that memory ran out.
 #[derive(Clone, Copy, Debug, Error)]
 pub enum SyntaxError {
     #[error("out of memory")]

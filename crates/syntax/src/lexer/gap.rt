@@ -1,11 +1,11 @@
-//! What stands between two tokens: blanks, comments and continuations of lines.
+//! Measures the gap between two tokens: blanks, comments and continuations of lines.
 
 ghost use Rattle.std.specs.Prelude.{◌≡◌, false};
 ghost use Rattle.syntax.specs.lexer.Lexing.{in_line_rest, continues_line, in_gap, part_after, gap};
 
 use crate::lexer::bytes::is_blank;
 
-/// Where in a gap a byte is.
+/// Says in which part of a gap a byte is.
 #[derive(Clone, Copy)]
 pub enum GapPart {
     /// In neither of the others.
@@ -16,14 +16,14 @@ pub enum GapPart {
     Continuation,
 }
 
-// Whether a byte may stand between a backslash and the newline that it continues, in a comment there or outside.
+// Returns whether a byte may be between a backslash and the newline that it continues, in a comment there or outside.
 fn in_line_rest(commented: bool, byte: u8) -> bool
     ensures { result ≡ in_line_rest commented byte }
 {
     commented || is_blank(0, byte) || byte == b'#'
 }
 
-// Whether blanks, a comment or none and a newline come next.
+// Returns whether the bytes begin with blanks, an optional comment, and a newline.
 #[tactic(auto, using(crate::proofs::Gaps::line_steps))]
 fn continues_line(bytes: &[u8]) -> bool
     ensures { result ≡ continues_line false bytes.now }
@@ -41,7 +41,7 @@ fn continues_line(bytes: &[u8]) -> bool
     false
 }
 
-// Whether a byte belongs to a gap, in this part of it, where so many brackets are open and these bytes come after it.
+// Returns whether a byte belongs to a gap, in this part of it, with `depth` brackets open and the bytes `after` next.
 fn in_gap(depth: usize, part: GapPart, byte: u8, after: &[u8]) -> bool
     ensures { result ≡ in_gap depth part byte after.now }
 {
@@ -54,7 +54,7 @@ fn in_gap(depth: usize, part: GapPart, byte: u8, after: &[u8]) -> bool
     }
 }
 
-// The part of the gap that the byte after this one is in.
+// Returns the part of the gap that the byte after this one is in.
 fn part_after(part: GapPart, byte: u8) -> GapPart
     ensures { result ≡ part_after part byte }
 {
@@ -66,7 +66,7 @@ fn part_after(part: GapPart, byte: u8) -> GapPart
     }
 }
 
-// How many bytes of blanks, comments and continuations are at the front, where so many brackets are open.
+// Returns how many bytes of blanks, comments and continuations are at the front, with `depth` brackets open.
 #[tactic(auto, using(crate::proofs::Gaps::gap_steps))]
 pub(crate) fn gap_length(bytes: &[u8], depth: usize) -> usize
     ensures { result ≡ gap depth GapPart.Blank bytes.now }

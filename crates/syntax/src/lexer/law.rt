@@ -1,13 +1,15 @@
-//! What holds of every text.
+//! States what holds of the tokens of every text, as functions that do nothing and whose contracts hold.
 ghost use Rattle.syntax.specs.lexer.Laws.{TextsAreLexed, TokensStandForTexts};
 
-/// A text, of whatever bytes, is one list of longest tokens, or has one first place where no token begins, and not both. That is what the
-/// definition `lexed` gives of it, by which contracts speak of a text's tokens.
+/// Proves that every text, of any bytes, is either exactly one list of longest tokens or has exactly one first place at which no token
+/// begins.
+///
+/// The definition `lexed` returns those tokens or that fault. Contracts use it to describe a text's tokens.
 pub fn texts_are_lexed()
     ensures { TextsAreLexed }
 {}
 
-/// A token stands for one text, which the definition `text_of` gives of its kind and its slice.
+/// Proves that a token has exactly one text. The definition `text_of` returns it for the token's kind and slice.
 pub fn tokens_stand_for_texts()
     ensures { TokensStandForTexts }
 {}

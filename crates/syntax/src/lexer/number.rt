@@ -1,4 +1,4 @@
-//! Numbers.
+//! Recognizes numbers.
 
 ghost use Rattle.std.specs.Prelude.{◌≡◌};
 ghost use Rattle.std.specs.Char.{is_ascii_digit};
@@ -9,7 +9,7 @@ ghost use Rattle.syntax.specs.lexer.Numbers.{is_digit_of, is_number};
 use crate::lexer::token::Kind;
 use crate::lexer::word::word_length;
 
-// Whether this is a digit of the base that the letter stands for.
+// Returns whether this is a digit of the base that the letter names.
 fn is_digit_of(letter: u8, digit: u8) -> bool
     ensures { result ≡ is_digit_of letter digit }
 {
@@ -21,21 +21,21 @@ fn is_digit_of(letter: u8, digit: u8) -> bool
     }
 }
 
-// Whether all of these are decimal digits.
+// Returns whether all of these are decimal digits.
 fn are_decimal(digits: &[u8]) -> bool
     ensures { result ≡ list_all is_ascii_digit digits.now }
 {
     digits.iter().all(|digit| digit.is_ascii_digit())
 }
 
-// Whether all of these are digits of the base that the letter stands for.
+// Returns whether all of these are digits of the base that the letter names.
 fn are_digits_of(letter: u8, digits: &[u8]) -> bool
     ensures { result ≡ list_all (is_digit_of letter) digits.now }
 {
     digits.iter().all(|digit| is_digit_of(letter, *digit))
 }
 
-// Whether the text is a number: 0, a decimal number without a 0 in front, or a number of another base.
+// Returns whether the text is a number: 0, a decimal number without a leading 0, or a number of another base.
 #[tactic(auto, using(crate::proofs::Digits::number_cases))]
 pub(crate) fn is_number(text: &[u8]) -> bool
     ensures { result ≡ is_number text.now }
@@ -51,7 +51,7 @@ pub(crate) fn is_number(text: &[u8]) -> bool
     }
 }
 
-// The kind and length of the number at the front, which begins with a digit.
+// Returns the kind and length of the number at the front, whose first byte is a digit.
 #[tactic(auto, using(crate::proofs::Cuts::number_at_cases))]
 pub(crate) fn number_at(bytes: &[u8]) -> Option<(Kind, usize)>
     ensures { result ≡ number_at bytes.now }

@@ -1,9 +1,9 @@
-//! What number tokens stand for.
+//! Computes the values of number tokens.
 
 ghost use Rattle.std.specs.Prelude.{◌≡◌, ◌<◌, ◌≤◌, ◌^◌, SomeIff};
 ghost use Rattle.syntax.specs.lexer.Numerals.{digit, spelled, base_of, magnitude};
 
-// What a digit stands for: 0 to 9, and then the letters.
+// Returns the value of a digit: 0 to 9, then the letters from 10 on.
 fn digit(byte: u8) -> u8
     ensures { result ≡ digit byte }
 {
@@ -16,7 +16,7 @@ fn digit(byte: u8) -> u8
     }
 }
 
-// The number that digits of a base spell, if 128 bits hold it.
+// Returns the number that these digits spell in this base, or `None` if it does not fit in 128 bits.
 fn read_digits(base: u128, digits: &[u8]) -> Option<u128>
     requires { 1 ≤ base }
     ensures { SomeIff result (spelled base 0 digits.now < 2 ^ 128) (spelled base 0 digits.now) }
@@ -30,7 +30,7 @@ fn read_digits(base: u128, digits: &[u8]) -> Option<u128>
     Some(value)
 }
 
-// The base that the letter behind a first 0 names.
+// Returns the base that the letter after a leading 0 names.
 fn base_of(letter: u8) -> u128
     ensures { result ≡ base_of letter }
 {
@@ -41,7 +41,7 @@ fn base_of(letter: u8) -> u128
     }
 }
 
-// The same of the text's bytes.
+// Returns the number that the bytes of a number token spell, or `None` if it does not fit in 128 bits.
 fn magnitude_of(text: &[u8]) -> Option<u128>
     ensures { SomeIff result (magnitude text.now < 2 ^ 128) (magnitude text.now) }
 {
@@ -57,8 +57,9 @@ fn magnitude_of(text: &[u8]) -> Option<u128>
     read_digits(base_of(text[1]), &text[2..])
 }
 
-/// The number that the text of a number token spells, if 128 bits hold it: by decimal digits, or by those of the base that a first
-/// `0x`, `0o` or `0b` names. A minus is no part of a number token.
+/// Returns the number that the text of a number token spells, or `None` if it does not fit in 128 bits.
+///
+/// The digits are decimal, or those of the base that a leading `0x`, `0o` or `0b` names. A minus is not part of a number token.
 pub fn magnitude(text: &str) -> Option<u128>
     ensures { SomeIff result (magnitude text.now < 2 ^ 128) (magnitude text.now) }
 {

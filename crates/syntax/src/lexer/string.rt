@@ -1,4 +1,4 @@
-//! Strings.
+//! Recognizes strings.
 
 ghost use Rattle.std.specs.Prelude.{◌≡◌, ◌+◌, ◌<◌, ◌≤◌, false, length, IfSome};
 ghost use Rattle.syntax.specs.lexer.Kinds.{format_kind};
@@ -8,7 +8,7 @@ use crate::lexer::bytes::opens_raw;
 use crate::lexer::escape::is_bad_escape;
 use crate::lexer::token::Kind;
 
-// How many bytes stand before the quote that ends a string.
+// Returns how many bytes precede the quote that ends a string, or `None` if the string has no end or a bad escape.
 #[tactic(auto, using(crate::proofs::Strings::inside_steps))]
 fn inside_length(bytes: &[u8]) -> Option<usize>
     ensures found { result ≡ inside false bytes.now }
@@ -30,7 +30,7 @@ fn inside_length(bytes: &[u8]) -> Option<usize>
     None
 }
 
-// How many bytes stand before the first three quotes.
+// Returns how many bytes precede the first three quotes.
 #[tactic(auto, using(crate::proofs::Strings::quotes_steps))]
 fn length_before_quotes(bytes: &[u8]) -> Option<usize>
     ensures found { result ≡ before_quotes bytes.now }
@@ -44,7 +44,7 @@ fn length_before_quotes(bytes: &[u8]) -> Option<usize>
     None
 }
 
-// The kind and length of the string at the front, which begins with a quote.
+// Returns the kind and length of the string at the front, whose first byte is a quote.
 #[tactic(auto, using(crate::proofs::Strings::string_cases))]
 pub(crate) fn string_at(bytes: &[u8]) -> Option<(Kind, usize)>
     requires { 0 < length bytes.now }
@@ -60,7 +60,7 @@ pub(crate) fn string_at(bytes: &[u8]) -> Option<(Kind, usize)>
     }
 }
 
-// The kind of a string of this kind with an `f` before it.
+// Returns the kind of a string of this kind after an `f`.
 fn format_kind(kind: Kind) -> Kind
     ensures { result ≡ format_kind kind }
 {
@@ -71,7 +71,7 @@ fn format_kind(kind: Kind) -> Kind
     }
 }
 
-// The kind and length of the f-string at the front, which begins with `f` and a quote.
+// Returns the kind and length of the f-string at the front, whose first bytes are `f` and a quote.
 #[tactic(auto, using(crate::proofs::Strings::format_cases))]
 pub(crate) fn format_at(bytes: &[u8]) -> Option<(Kind, usize)>
     requires { 1 < length bytes.now }

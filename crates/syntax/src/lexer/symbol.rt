@@ -1,4 +1,4 @@
-//! The symbols.
+//! Recognizes symbols.
 
 ghost use Rattle.std.specs.Prelude.{◌≡◌};
 ghost use Rattle.syntax.specs.lexer.Kinds.{single_kind, with_equals_kind};
@@ -6,7 +6,7 @@ ghost use Rattle.syntax.specs.lexer.Lexing.{double_kind, symbol_at};
 
 use crate::lexer::token::Kind;
 
-// The symbol of one byte.
+// Returns the symbol of one byte.
 fn single_kind(byte: u8) -> Option<Kind>
     ensures { result ≡ single_kind byte }
 {
@@ -34,7 +34,7 @@ fn single_kind(byte: u8) -> Option<Kind>
     }
 }
 
-// The symbol of this byte and an equals sign.
+// Returns the symbol that this byte and an equals sign form.
 fn with_equals_kind(byte: u8) -> Option<Kind>
     ensures { result ≡ with_equals_kind byte }
 {
@@ -48,7 +48,7 @@ fn with_equals_kind(byte: u8) -> Option<Kind>
     }
 }
 
-// The symbol of two bytes that begins with this byte.
+// Returns the symbol that this byte and the next one form.
 fn double_kind(first: u8, bytes: &[u8]) -> Option<Kind>
     ensures { result ≡ double_kind first bytes.now }
 {
@@ -59,7 +59,7 @@ fn double_kind(first: u8, bytes: &[u8]) -> Option<Kind>
     }
 }
 
-// The kind and length of the symbol that begins with this byte.
+// Returns the kind and length of the symbol that begins with this byte.
 #[tactic(auto, using(crate::proofs::Cuts::symbol_cases))]
 pub(crate) fn symbol_at(first: u8, bytes: &[u8]) -> Option<(Kind, usize)>
     ensures { result ≡ symbol_at first bytes.now }

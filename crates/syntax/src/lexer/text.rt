@@ -1,4 +1,4 @@
-//! What tokens stand for.
+//! Computes the texts of tokens.
 
 ghost use Rattle.std.specs.Prelude.{◌≡◌, ℕ, ◌<◌, List, IfOk, IfSome, string_bytes};
 ghost use Rattle.syntax.specs.lexer.Lexing.{run};
@@ -9,7 +9,8 @@ use crate::lexer::escape::escape_at;
 use crate::lexer::token::{Kind, Token};
 use std::alloc::{AllocError, Global};
 
-// The character that a backslash stands for, of which these come behind it, and how many of these belong to it.
+// Returns the character that a backslash and these bytes name, and how many of the bytes belong to the escape. A backslash without an
+// escape names itself.
 #[tactic(auto, using(crate::proofs::Texts::escaped_cases))]
 fn unescape_one(bytes: &[u8]) -> (char, usize)
     ensures { result ≡ escaped_by bytes.now }
@@ -23,7 +24,7 @@ fn unescape_one(bytes: &[u8]) -> (char, usize)
     }
 }
 
-// How many bytes stand before the first backslash.
+// Returns how many bytes precede the first backslash.
 #[tactic(auto, using(crate::proofs::Runs::run_steps))]
 fn plain_length(bytes: &[u8]) -> usize
     ensures { result ≡ run is_no_backslash bytes.now }
@@ -35,7 +36,7 @@ fn plain_length(bytes: &[u8]) -> usize
     length
 }
 
-// The text that characters between quotes stand for.
+// Returns the text that the characters between quotes name.
 fn unescape(alloc: Global, text: &str) -> Result<String, AllocError>
     ensures { IfOk result (λ s. string_bytes s ≡ unescaped text.now) }
 {
@@ -55,7 +56,7 @@ fn unescape(alloc: Global, text: &str) -> Result<String, AllocError>
     }
 }
 
-// Whether so many bytes in front end with a quote, and so many others behind begin with one.
+// Returns whether the first `front` bytes end with a quote and the last `back` bytes begin with one.
 #[tactic(auto, using(crate::proofs::Frames::framed_cases))]
 fn is_framed(bytes: &[u8], front: usize, back: usize) -> bool
     requires before { 0 < front }
@@ -70,7 +71,7 @@ fn is_framed(bytes: &[u8], front: usize, back: usize) -> bool
     bytes[front - 1] == b'\'' && bytes[bytes.len() - back] == b'\''
 }
 
-// What stands behind the first bytes and before the last ones, so many each; all of a text without quotes at these places.
+// Returns the text without its first `front` and last `back` bytes, or the whole text if it has no quotes there.
 fn between(text: &str, front: usize, back: usize) -> &str
     requires before { 0 < front }
     requires few { front < 8 }
@@ -85,7 +86,7 @@ fn between(text: &str, front: usize, back: usize) -> &str
     }
 }
 
-// What a token of this kind and slice stands for.
+// Returns the text of a token of this kind and slice.
 fn stood_for(alloc: Global, kind: Kind, text: &str) -> Result<String, AllocError>
     ensures { IfOk result (λ s. string_bytes s ≡ text_of kind text.now) }
 {
@@ -98,7 +99,7 @@ fn stood_for(alloc: Global, kind: Kind, text: &str) -> Result<String, AllocError
     }
 }
 
-// The characters between quotes, where they stand for themselves.
+// Returns the characters between quotes, if none of them is a backslash.
 fn without_escapes(text: &str) -> Option<&str>
     ensures { IfSome result (λ t. t.now ≡ unescaped text.now) }
 {
@@ -109,8 +110,9 @@ fn without_escapes(text: &str) -> Option<&str>
     }
 }
 
-/// The part of its slice that a token of this kind stands for, as [`text_of_slice`] gives it; none where a backslash stands in a string
-/// that is not raw.
+/// Returns the part of a token's slice that is the token's text, without allocating.
+///
+/// The text is the one that [`text_of_slice`] returns. Returns `None` for a string that is not raw and has a backslash.
 pub fn text_in_slice(kind: Kind, slice: &str) -> Option<&str>
     ensures { IfSome result (λ t. t.now ≡ text_of kind slice.now) }
 {
@@ -123,28 +125,28 @@ pub fn text_in_slice(kind: Kind, slice: &str) -> Option<&str>
     }
 }
 
-/// The text that a token of this kind stands for, with its slice of the source: a string's after its escapes, as the Meson
-/// manual's page "Syntax" has them; of any other token the slice.
+/// Returns the text of a token of this kind, given its slice of the source.
 ///
-/// A raw string's text is what stands between its quotes. A slice that no source has as such a token has a text too: an
-/// escape that names no character stays with its backslash, and a string without its quotes is taken as it stands.
+/// The text of a string is the one between its quotes, after its escapes, as the Meson manual describes them (page "Syntax"). A raw string
+/// has no escapes. The text of any other token is its slice. A slice that is no such token of any source has a text too: an escape that
+/// names no character keeps its backslash, and a string without its quotes is taken whole.
 pub fn text_of_slice(alloc: Global, kind: Kind, slice: &str) -> Result<String, AllocError>
-    // Unless memory runs out, it is this function of the kind and the slice, whatever they are.
+    // Unless memory runs out, the result is this function of the kind and the slice, for all values of both.
     ensures value { IfOk result (λ s. string_bytes s ≡ text_of kind slice.now) }
 
-    // It is what a token of a source stands for, and the only text that a token stands for.
+    // The result is the text of a token of a source, and the only one.
     ensures source { (rest : List ℕ) → IsToken kind slice.now rest → IfOk result (λ s. TokenStandsFor kind slice.now (string_bytes s)) }
     ensures only { (text : List ℕ) → TokenStandsFor kind slice.now text → IfOk result (λ s. string_bytes s ≡ text) }
 {
     stood_for(alloc, kind, slice)
 }
 
-/// The text that a token stands for, as [`text_of_slice`] gives it.
+/// Returns the text of a token, as [`text_of_slice`] does.
 pub fn text_of(alloc: Global, token: &Token<'_>) -> Result<String, AllocError>
-    // Unless memory runs out, it is this function of the token, whatever the token is.
+    // Unless memory runs out, the result is this function of the token, for every token.
     ensures value { IfOk result (λ s. string_bytes s ≡ text_of token.now.kind token.now.text.now) }
 
-    // It is what a token of a source stands for, and the only text that a token stands for.
+    // The result is the text of a token of a source, and the only one.
     ensures source { (rest : List ℕ) → IsToken token.now.kind token.now.text.now rest
         → IfOk result (λ s. TokenStandsFor token.now.kind token.now.text.now (string_bytes s)) }
     ensures only { (text : List ℕ) → TokenStandsFor token.now.kind token.now.text.now text → IfOk result (λ s. string_bytes s ≡ text) }

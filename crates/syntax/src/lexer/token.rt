@@ -1,8 +1,8 @@
-//! The tokens of a source.
+//! Defines the tokens of a source.
 
 ghost use Rattle.std.specs.Prelude.{◌≡◌};
 
-/// What a token is.
+/// Lists the kinds of tokens.
 #[derive(Clone, Copy, PartialEq, Eq)]
 pub enum Kind {
     /// A name that is no keyword.
@@ -56,7 +56,7 @@ pub enum Kind {
     Times,
     Divide,
     Remainder,
-    /// The end of a line, where no bracket is open.
+    /// The end of a line outside of brackets.
     Newline,
     /// A decimal number, or one that begins with `0x`, `0o` or `0b`.
     Number,
@@ -68,20 +68,20 @@ pub enum Kind {
     RawFormatString,
 }
 
-/// One token.
+/// Holds one token of a source.
 #[derive(Clone, Copy)]
 pub struct Token<'a> {
     pub kind: Kind,
     /// The line, from 1, of its first byte.
     pub line: usize,
-    /// As it stands in the source, a string with its quotes.
+    /// The slice of the source. A string keeps its quotes.
     pub text: &'a str,
 }
 
 impl Token<'_> {
     ghost use Rattle.syntax.specs.lexer.Kinds.{is};
 
-    /// Whether the token is of this kind.
+    /// Returns whether the token is of this kind.
     pub fn is(&self, kind: Kind) -> bool
         ensures { result ≡ is self.now.kind kind }
     {

@@ -1,4 +1,4 @@
-//! Names and keywords.
+//! Recognizes names and keywords.
 
 ghost use Rattle.std.specs.Prelude.{◌≡◌};
 ghost use Rattle.syntax.specs.lexer.Bytes.{continues_word};
@@ -8,7 +8,7 @@ ghost use Rattle.syntax.specs.lexer.Lexing.{run, word_at};
 use crate::lexer::bytes::continues_word;
 use crate::lexer::token::Kind;
 
-// How many bytes at the front go on with a word.
+// Returns how many bytes at the front can follow the first byte of a word.
 #[tactic(auto, using(crate::proofs::Runs::run_steps))]
 pub(crate) fn word_length(bytes: &[u8]) -> usize
     ensures { result ≡ run continues_word bytes.now }
@@ -20,7 +20,7 @@ pub(crate) fn word_length(bytes: &[u8]) -> usize
     length
 }
 
-// What a word is: a keyword, or else a name.
+// Returns the kind of a word: a keyword, or else a name.
 fn word_kind(word: &str) -> Kind
     ensures { result ≡ word_kind word.now }
 {
@@ -43,7 +43,7 @@ fn word_kind(word: &str) -> Kind
     }
 }
 
-// The kind and length of the word at the front.
+// Returns the kind and length of the word at the front.
 #[tactic(auto, using(crate::proofs::Cuts::word_cases))]
 pub(crate) fn word_at(text: &str) -> (Kind, usize)
     ensures { result ≡ word_at text.now }

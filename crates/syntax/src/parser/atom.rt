@@ -1,4 +1,4 @@
-//! Reads atoms: names, literals, and what stands in brackets.
+//! Reads atoms: names, literals, and expressions in brackets.
 
 ghost use Rattle.std.specs.Prelude.{Bool, IfSome, Ok, Some, ℕ, ◌≡◌, ◌-◌, ◌<◌, ◌≤◌, length, map, OnOk, option_map};
 ghost use Rattle.std.specs.Option.{IfNone, OnSome};
@@ -14,7 +14,7 @@ use super::{Parser, Read, fit, put};
 use crate::lexer::token::{Kind, Token};
 use crate::tree::{Entry, Expression, Literal};
 
-// The literal that a token is.
+// Returns the literal that a token is.
 fn literal_of(kind: Kind) -> Option<Literal>
     ensures { result ≡ literal_of kind }
 {
@@ -30,7 +30,7 @@ fn literal_of(kind: Kind) -> Option<Literal>
     }
 }
 
-// What a token is by itself, if it is a name or a literal.
+// Returns the expression of a single token, if it is a name or a literal.
 fn single_of<'a>(token: &Token<'a>) -> Option<Expression<'a>>
     ensures { option_map expression_of result ≡ single_of (lexeme_of token.now) }
 {
@@ -48,7 +48,7 @@ fn single_of<'a>(token: &Token<'a>) -> Option<Expression<'a>>
     })
 }
 
-// Whether a token comes that goes on with no expression.
+// Returns whether the next token can't continue an expression.
 fn ends_expression(tokens: &[Token<'_>]) -> bool
     ensures { result ≡ head_is ends_expression (lexemes tokens.now) }
 {
@@ -63,8 +63,8 @@ fn ends_expression(tokens: &[Token<'_>]) -> bool
 }
 
 impl<'a> Parser<'_, 'a> {
-    // Takes the expression that the first token is, where it ends behind that token. Most expressions are such, and so aren't handed
-    // through all that may stand in an expression.
+    // Takes the expression of the first token, if the expression ends after it. Most expressions are like that, so this saves the descent
+    // through the grammar.
     #[tactic(auto, using(crate::proofs::Alone::token_alone))]
     pub(super) fn alone(&mut self) -> Option<Expression<'a>>
         ensures read { IfSome result (λ e. (levels : ℕ) (ternaries : Bool)
@@ -83,7 +83,7 @@ impl<'a> Parser<'_, 'a> {
         Some(value)
     }
 
-    // A name or a literal.
+    // Reads a name or a literal.
     #[tactic(auto, using(crate::proofs::Alone::single_cases))]
     fn single(&mut self) -> Read<Expression<'a>>
         ensures read { Gives expression_of result (lexemes self.new.rest.now) (single_at (lexemes self.old.rest.now)) }
@@ -99,7 +99,7 @@ impl<'a> Parser<'_, 'a> {
         Ok(value)
     }
 
-    // Whether a further element of a list comes, with the comma before it taken.
+    // Returns whether another element of a list follows, and takes the comma before it.
     #[tactic(auto, using(crate::proofs::Loops::more_end, crate::proofs::Loops::more_none, crate::proofs::Loops::more_comma))]
     pub(super) fn more(&mut self, close: Kind) -> bool
         ensures read { (result, lexemes self.new.rest.now) ≡ more_at close (lexemes self.old.rest.now) }
@@ -114,7 +114,7 @@ impl<'a> Parser<'_, 'a> {
         }
     }
 
-    // The elements of a list, up to its bracket.
+    // Reads the elements of a list, up to its bracket.
     #[cycle(expression)]
     fn elements(&mut self, levels: u32, ternaries: bool) -> Read<Vec<Expression<'a>>>
         ensures read { Gives (λ v. map expression_of v.items) result (lexemes self.new.rest.now)
@@ -131,7 +131,7 @@ impl<'a> Parser<'_, 'a> {
         Ok(fit(items))
     }
 
-    // A list.
+    // Reads a list.
     #[cycle(expression)]
     #[tactic(auto, unfolding(crate::specs::ReadingExpressions::entered_at, crate::specs::ReadingExpressions::list_at, crate::specs::ReadingExpressions::elements_at))]
     fn list(&mut self, levels: u32, ternaries: bool) -> Read<Expression<'a>>
@@ -148,7 +148,7 @@ impl<'a> Parser<'_, 'a> {
         })
     }
 
-    // A key, a colon and a value.
+    // Reads a key, a colon and a value.
     #[cycle(expression)]
     #[tactic(auto, unfolding(crate::specs::ReadingExpressions::entry_at, crate::specs::Reading::ended_at))]
     fn entry(&mut self, levels: u32, ternaries: bool) -> Read<Entry<'a>>
@@ -161,7 +161,7 @@ impl<'a> Parser<'_, 'a> {
         Ok(Entry { key, value })
     }
 
-    // The entries of a dictionary, up to its brace.
+    // Reads the entries of a dictionary, up to its brace.
     #[cycle(expression)]
     fn entries(&mut self, levels: u32, ternaries: bool) -> Read<Vec<Entry<'a>>>
         ensures read { Gives (λ v. map entry_of v.items) result (lexemes self.new.rest.now)
@@ -178,7 +178,7 @@ impl<'a> Parser<'_, 'a> {
         Ok(fit(entries))
     }
 
-    // A dictionary.
+    // Reads a dictionary.
     #[cycle(expression)]
     #[tactic(auto, unfolding(crate::specs::ReadingExpressions::entered_at, crate::specs::ReadingExpressions::dictionary_at, crate::specs::ReadingExpressions::entries_at))]
     fn dictionary(&mut self, levels: u32, ternaries: bool) -> Read<Expression<'a>>
@@ -195,7 +195,7 @@ impl<'a> Parser<'_, 'a> {
         })
     }
 
-    // A call of a function.
+    // Reads a call of a function.
     #[cycle(expression)]
     #[tactic(auto, unfolding(crate::specs::ReadingExpressions::call_at))]
     fn call(&mut self, levels: u32, ternaries: bool) -> Read<Expression<'a>>
@@ -212,7 +212,7 @@ impl<'a> Parser<'_, 'a> {
         })
     }
 
-    // An expression in parentheses.
+    // Reads an expression in parentheses.
     #[cycle(expression)]
     #[tactic(auto, unfolding(crate::specs::ReadingExpressions::entered_at, crate::specs::ReadingExpressions::group_at, crate::specs::Reading::ended_at))]
     fn group(&mut self, levels: u32, ternaries: bool) -> Read<Expression<'a>>
@@ -224,7 +224,7 @@ impl<'a> Parser<'_, 'a> {
         self.ended(Kind::CloseParenthesis, inside, ternaries)
     }
 
-    // A call of a function, or an atom.
+    // Reads a call of a function, or an atom.
     #[cycle(expression)]
     #[tactic(auto, using(crate::proofs::ExpressionTails::base_cases))]
     pub(super) fn base(&mut self, levels: u32, ternaries: bool) -> Read<Expression<'a>>

@@ -16,7 +16,7 @@ use crate::lexer::token::{Kind, Token};
 use crate::stop::{ReadError, Stop};
 use crate::tree::{Expression, Operand, Operator};
 
-/// Which operators stand between the parts of a chain. They bind tighter from the first to the last.
+/// Names the operators between the parts of a chain, from the loosest to the tightest.
 #[derive(Clone, Copy)]
 enum Rank {
     Or,
@@ -26,7 +26,7 @@ enum Rank {
 }
 
 impl Rank {
-    // The operator of this rank that a token stands for.
+    // Returns the operator of this rank that a token is.
     fn operator(self, kind: Kind) -> Option<Operator>
         ensures { result ≡ operator_of self kind }
     {
@@ -54,7 +54,7 @@ impl Rank {
     }
 }
 
-// The comparison that one token stands for.
+// Returns the comparison that one token is.
 fn comparative(kind: Kind) -> Option<Operator>
     ensures { result ≡ comparative kind }
 {
@@ -70,7 +70,7 @@ fn comparative(kind: Kind) -> Option<Operator>
     }
 }
 
-// Puts an operator and the value behind it, which was read, behind the others.
+// Appends an operator and the value after it, which was read.
 fn put_operand<'a>(
     operands: &mut Vec<Operand<'a>>,
     operator: Operator,
@@ -85,7 +85,7 @@ fn put_operand<'a>(
 }
 
 impl<'a> Parser<'_, 'a> {
-    // The line of the token that comes.
+    // Returns the line of the next token.
     pub(super) fn first_line(&self) -> usize
         ensures { result ≡ first_line (lexemes self.now.rest.now) }
     {
@@ -95,7 +95,7 @@ impl<'a> Parser<'_, 'a> {
         }
     }
 
-    // Takes the operator of this rank that comes, if one does.
+    // Takes the next token if it is an operator of this rank.
     #[tactic(auto, using(crate::proofs::ExpressionTails::taken_cases))]
     fn operator(&mut self, rank: Rank) -> Option<Operator>
         ensures read { (result, lexemes self.new.rest.now) ≡ taken (operator_of rank) (lexemes self.old.rest.now) }
@@ -112,7 +112,7 @@ impl<'a> Parser<'_, 'a> {
         Some(operator)
     }
 
-    // Whether an operator of this rank comes.
+    // Returns whether the next token is an operator of this rank.
     fn operates(&self, rank: Rank) -> bool
         ensures { result ≡ head_is (stands_for (operator_of rank)) (lexemes self.now.rest.now) }
     {
@@ -122,7 +122,7 @@ impl<'a> Parser<'_, 'a> {
         }
     }
 
-    // Takes the comparison of one token that comes, if one does.
+    // Takes the next token if it is a comparison by itself.
     #[tactic(auto, using(crate::proofs::ExpressionTails::taken_cases))]
     fn plain_comparison(&mut self) -> Option<Operator>
         ensures read { (result, lexemes self.new.rest.now) ≡ taken comparative (lexemes self.old.rest.now) }
@@ -161,7 +161,7 @@ impl<'a> Parser<'_, 'a> {
         self.not_in()
     }
 
-    // Whether a comparison comes.
+    // Returns whether a comparison is next.
     fn compares(&self) -> bool
         ensures { result ≡ head_is compares (lexemes self.now.rest.now) }
     {
@@ -171,14 +171,14 @@ impl<'a> Parser<'_, 'a> {
         }
     }
 
-    // Whether a ternary goes on, where one may stand.
+    // Returns whether a ternary continues, if one is allowed.
     fn asks(&self, ternaries: bool) -> bool
         ensures { result ≡ (ternaries && begins Kind.Question (lexemes self.now.rest.now)) }
     {
         ternaries && self.begins(Kind::Question)
     }
 
-    // Whether the first two tokens are of these kinds.
+    // Returns whether the first two tokens are of these kinds.
     pub(super) fn two_begin(&self, first: Kind, second: Kind) -> bool
         ensures { result ≡ two_begin first second (lexemes self.now.rest.now) }
     {
@@ -188,7 +188,7 @@ impl<'a> Parser<'_, 'a> {
         }
     }
 
-    // Takes a token that opens a level, with the levels that may be opened behind it.
+    // Takes a token that opens a level, and returns it with the number of levels that may still be opened inside.
     #[tactic(auto, using(crate::proofs::ExpressionTails::enter_cases))]
     pub(super) fn enter(&mut self, kind: Kind, levels: u32) -> Read<(Token<'a>, u32)>
         ensures read { Gives (λ x. (lexeme_of x.0, x.1)) result (lexemes self.new.rest.now)
@@ -206,7 +206,7 @@ impl<'a> Parser<'_, 'a> {
         }
     }
 
-    // A part of a chain of this rank.
+    // Reads a part of a chain of this rank.
     #[cycle(expression)]
     #[tactic(auto, unfolding(crate::specs::ReadingExpressions::conjunction_at, crate::specs::ReadingExpressions::product_at))]
     fn part(&mut self, levels: u32, ternaries: bool, rank: Rank) -> Read<Expression<'a>>
@@ -222,7 +222,7 @@ impl<'a> Parser<'_, 'a> {
         }
     }
 
-    // Operators of this rank, each with the part behind it.
+    // Reads operators of this rank, each with the part after it.
     #[cycle(expression)]
     fn operands(&mut self, levels: u32, ternaries: bool, rank: Rank) -> Read<Vec<Operand<'a>>>
         ensures read { Gives (λ v. map operand_of v.items) result (lexemes self.new.rest.now)
@@ -237,7 +237,7 @@ impl<'a> Parser<'_, 'a> {
         Ok(fit(others))
     }
 
-    // Parts with operators of this rank between them.
+    // Reads parts with operators of this rank between them.
     #[cycle(expression)]
     #[tactic(auto, using(crate::proofs::ExpressionTails::chain_alone), unfolding(crate::specs::ReadingExpressions::chain_at))]
     fn chain(&mut self, levels: u32, ternaries: bool, rank: Rank) -> Read<Expression<'a>>
@@ -259,7 +259,7 @@ impl<'a> Parser<'_, 'a> {
         })
     }
 
-    // A comparison and the sum behind it, as all that a chain has.
+    // Reads a comparison and the sum after it, as the only operand of a chain.
     #[cycle(expression)]
     fn compared(&mut self, levels: u32, ternaries: bool) -> Read<Vec<Operand<'a>>>
         ensures read { Gives (λ v. map operand_of v.items) result (lexemes self.new.rest.now)
@@ -273,7 +273,7 @@ impl<'a> Parser<'_, 'a> {
         Ok(others)
     }
 
-    // A sum, or two that are compared.
+    // Reads a sum, or two sums with a comparison between them.
     #[cycle(expression)]
     fn comparison(&mut self, levels: u32, ternaries: bool) -> Read<Expression<'a>>
         ensures read { Gives expression_of result (lexemes self.new.rest.now)
@@ -294,7 +294,7 @@ impl<'a> Parser<'_, 'a> {
         })
     }
 
-    // The branches of a ternary.
+    // Reads the branches of a ternary.
     #[cycle(expression)]
     fn branches(&mut self, levels: u32) -> Read<(Box<Expression<'a>>, Box<Expression<'a>>)>
         ensures read { Gives (λ p. (expression_of p.0.value, expression_of p.1.value)) result (lexemes self.new.rest.now)
@@ -310,7 +310,7 @@ impl<'a> Parser<'_, 'a> {
         Ok((yes, no))
     }
 
-    // An expression of more than one token, in which a ternary may stand or not.
+    // Reads an expression of more than one token. `ternaries` says whether it may hold a ternary.
     #[cycle(expression)]
     fn choice(&mut self, levels: u32, ternaries: bool) -> Read<Expression<'a>>
         ensures read { Gives expression_of result (lexemes self.new.rest.now)
@@ -332,7 +332,7 @@ impl<'a> Parser<'_, 'a> {
         })
     }
 
-    // An expression, in which a ternary may stand or not.
+    // Reads an expression. `ternaries` says whether it may hold a ternary.
     #[cycle(expression)]
     pub(super) fn ternary(&mut self, levels: u32, ternaries: bool) -> Read<Expression<'a>>
         ensures read { Gives expression_of result (lexemes self.new.rest.now)
@@ -345,7 +345,7 @@ impl<'a> Parser<'_, 'a> {
         }
     }
 
-    // An expression and the token of this kind behind it.
+    // Reads an expression and the token of this kind after it.
     #[cycle(expression)]
     pub(super) fn ended(&mut self, kind: Kind, levels: u32, ternaries: bool) -> Read<Expression<'a>>
         ensures read { Gives expression_of result (lexemes self.new.rest.now)
@@ -356,7 +356,7 @@ impl<'a> Parser<'_, 'a> {
         self.close(kind, value)
     }
 
-    // An expression, where so many levels may still be opened.
+    // Reads an expression in which `levels` more levels may be opened.
     #[tactic(auto, unfolding(crate::specs::ReadingExpressions::expr_at))]
     pub(super) fn expression(&mut self, levels: u32) -> Read<Expression<'a>>
         ensures read { Gives expression_of result (lexemes self.new.rest.now) (expr_at levels (lexemes self.old.rest.now)) }

@@ -1,4 +1,4 @@
-//! Reads calls, what is asked of a value, and prefix operators.
+//! Reads calls, methods, indexes and prefix operators.
 
 ghost use Rattle.std.specs.Prelude.{IfOk, Some, ◌≡◌, ◌||◌, ◌-◌, ◌<◌, ◌≤◌, length, map, OnOk};
 ghost use Rattle.std.specs.Option.{option_map};
@@ -13,7 +13,7 @@ use super::{Parser, Read, allocate, fit, put};
 use crate::lexer::token::Kind;
 use crate::tree::{Argument, Expression, Link, Prefix};
 
-// The token that a prefix operator is.
+// Returns the token that a prefix operator is.
 fn word_of(prefix: Prefix) -> Kind
     ensures { result ≡ word_of prefix }
 {
@@ -24,7 +24,7 @@ fn word_of(prefix: Prefix) -> Kind
 }
 
 impl<'a> Parser<'_, 'a> {
-    // Whether something more is asked of a value.
+    // Returns whether a method or an index follows.
     fn links_on(&self) -> bool
         ensures { result ≡ head_is links_on (lexemes self.now.rest.now) }
     {
@@ -34,14 +34,14 @@ impl<'a> Parser<'_, 'a> {
         }
     }
 
-    // Whether a name and a colon come, or have to.
+    // Returns whether a name and a colon are next, or have to be.
     fn labels(&self, behind: bool) -> bool
         ensures { result ≡ (behind || two_begin Kind.Name Kind.Colon (lexemes self.now.rest.now)) }
     {
         behind || self.two_begin(Kind::Name, Kind::Colon)
     }
 
-    // The name of an argument and the colon behind it, if they come; they have to behind an argument that has a name.
+    // Reads the name of an argument and its colon, if they are next. They have to be after an argument with a name.
     #[tactic(auto, using(crate::proofs::ExpressionTails::label_cases))]
     fn label(&mut self, behind: bool) -> Read<Option<&'a str>>
         ensures read { Gives (option_map (λ name. name.now)) result (lexemes self.new.rest.now)
@@ -55,7 +55,7 @@ impl<'a> Parser<'_, 'a> {
         }
     }
 
-    // A name and a colon.
+    // Reads a name and a colon.
     #[tactic(auto, unfolding(crate::specs::ReadingExpressions::name_colon_at))]
     fn name_colon(&mut self) -> Read<&'a str>
         ensures read { Gives (λ name. name.now) result (lexemes self.new.rest.now) (name_colon_at (lexemes self.old.rest.now)) }
@@ -66,7 +66,7 @@ impl<'a> Parser<'_, 'a> {
         Ok(name.text)
     }
 
-    // The value of an argument with this name, or none.
+    // Reads the value of an argument with this name, if it has one.
     #[cycle(expression)]
     fn argument(
         &mut self,
@@ -83,7 +83,7 @@ impl<'a> Parser<'_, 'a> {
         Ok(Argument { name, value })
     }
 
-    // The arguments of a call, up to its parenthesis.
+    // Reads the arguments of a call, up to its parenthesis.
     #[cycle(expression)]
     fn given(&mut self, levels: u32, ternaries: bool) -> Read<Vec<Argument<'a>>>
         ensures read { Gives (λ v. map argument_of v.items) result (lexemes self.new.rest.now)
@@ -103,7 +103,7 @@ impl<'a> Parser<'_, 'a> {
         Ok(fit(items))
     }
 
-    // The arguments of a call, in their parentheses.
+    // Reads the arguments of a call, with their parentheses.
     #[cycle(expression)]
     #[tactic(auto, unfolding(crate::specs::ReadingExpressions::entered_at, crate::specs::ReadingExpressions::items_at, crate::specs::ReadingExpressions::given_at))]
     pub(super) fn arguments(&mut self, levels: u32, ternaries: bool) -> Read<Vec<Argument<'a>>>
@@ -116,7 +116,7 @@ impl<'a> Parser<'_, 'a> {
         self.close(Kind::CloseParenthesis, items)
     }
 
-    // A dot, the name of a method, and its arguments.
+    // Reads a dot, the name of a method, and its arguments.
     #[cycle(expression)]
     #[tactic(auto, unfolding(crate::specs::ReadingExpressions::method_at))]
     fn method(&mut self, levels: u32, ternaries: bool) -> Read<Link<'a>>
@@ -133,7 +133,7 @@ impl<'a> Parser<'_, 'a> {
         })
     }
 
-    // An index in its brackets.
+    // Reads an index with its brackets.
     #[cycle(expression)]
     #[tactic(auto, unfolding(crate::specs::ReadingExpressions::entered_at, crate::specs::ReadingExpressions::index_at, crate::specs::Reading::ended_at))]
     fn index(&mut self, levels: u32, ternaries: bool) -> Read<Link<'a>>
@@ -146,7 +146,7 @@ impl<'a> Parser<'_, 'a> {
         Ok(Link::Index { index })
     }
 
-    // What is asked of a value: a method or an index.
+    // Reads a method or an index of a value.
     #[cycle(expression)]
     #[tactic(auto, using(crate::proofs::ExpressionTails::link_method, crate::proofs::ExpressionTails::link_index))]
     fn link(&mut self, levels: u32, ternaries: bool) -> Read<Link<'a>>
@@ -161,7 +161,7 @@ impl<'a> Parser<'_, 'a> {
         }
     }
 
-    // All that is asked of a value.
+    // Reads all methods and indexes that follow a value.
     #[cycle(expression)]
     fn links(&mut self, levels: u32, ternaries: bool) -> Read<Vec<Link<'a>>>
         ensures read { Gives (λ v. map link_of v.items) result (lexemes self.new.rest.now)
@@ -176,7 +176,7 @@ impl<'a> Parser<'_, 'a> {
         Ok(fit(links))
     }
 
-    // A value, and what is asked of it.
+    // Reads a value and the methods and indexes that follow it.
     #[cycle(expression)]
     fn postfix(&mut self, levels: u32, ternaries: bool) -> Read<Expression<'a>>
         ensures read { Gives expression_of result (lexemes self.new.rest.now)
@@ -193,7 +193,7 @@ impl<'a> Parser<'_, 'a> {
         Ok(Expression::Postfix { first, links, line })
     }
 
-    // The prefix operator that comes, if one does.
+    // Returns the prefix operator that is next, if there is one.
     fn prefix(&self) -> Option<Prefix>
         ensures { result ≡ prefix_of (lexemes self.now.rest.now) }
     {
@@ -204,7 +204,7 @@ impl<'a> Parser<'_, 'a> {
         }
     }
 
-    // A prefix operator and its value.
+    // Reads a prefix operator and its value.
     #[cycle(expression)]
     #[tactic(auto, unfolding(crate::specs::ReadingExpressions::entered_at, crate::specs::ReadingExpressions::prefixed_at))]
     fn prefixed(&mut self, prefix: Prefix, levels: u32, ternaries: bool) -> Read<Expression<'a>>
@@ -223,8 +223,8 @@ impl<'a> Parser<'_, 'a> {
         })
     }
 
-    // What stands between operators, where so many levels may still be opened: a prefix operator and its value, or a value and
-    // what is asked of it.
+    // Reads what is between operators: a prefix operator and its value, or a value with its methods and indexes. `levels` more levels may
+    // be opened.
     #[cycle(expression)]
     #[tactic(auto, using(crate::proofs::ExpressionTails::unary_prefixed, crate::proofs::ExpressionTails::unary_postfix))]
     pub(super) fn unary(&mut self, levels: u32, ternaries: bool) -> Read<Expression<'a>>

@@ -17,7 +17,7 @@ use crate::lexer::token::{Kind, Token};
 use crate::stop::{ReadError, Stop};
 use crate::tree::{Branch, Expression, Statement};
 
-// What gives a name a value, or adds one to what it has.
+// Returns the statement that sets a name, or that adds to its value.
 fn set<'a>(name: Token<'a>, adds: bool, value: Box<Expression<'a>>) -> Statement<'a>
     ensures { statement_of result ≡ set_tree adds name.entry.text.now name.entry.line (expression_of value.entry.value) }
 {
@@ -36,7 +36,7 @@ fn set<'a>(name: Token<'a>, adds: bool, value: Box<Expression<'a>>) -> Statement
     }
 }
 
-// What leaves a `foreach`, or its round alone.
+// Returns the `break` or `continue` of a `foreach`.
 fn leaving<'a>(ends: bool, line: usize) -> Statement<'a>
     ensures { statement_of result ≡ leave_tree ends line }
 {
@@ -48,7 +48,7 @@ fn leaving<'a>(ends: bool, line: usize) -> Statement<'a>
 }
 
 impl<'a> Parser<'_, 'a> {
-    // Whether the word of a block comes.
+    // Returns whether a block is next.
     fn begins_block(&self) -> bool
         ensures { result ≡ begins_block (lexemes self.now.rest.now) }
     {
@@ -58,7 +58,7 @@ impl<'a> Parser<'_, 'a> {
         }
     }
 
-    // Whether a body goes on.
+    // Returns whether a body continues.
     fn in_body(&self) -> bool
         ensures { result ≡ in_body (lexemes self.now.rest.now) }
     {
@@ -73,7 +73,7 @@ impl<'a> Parser<'_, 'a> {
         }
     }
 
-    // Whether no token of this line is left.
+    // Returns whether this line has no more tokens.
     fn ends_line(&self) -> bool
         ensures { result ≡ ends_line (lexemes self.now.rest.now) }
     {
@@ -83,7 +83,7 @@ impl<'a> Parser<'_, 'a> {
         }
     }
 
-    // A name, `=` or `+=`, and a value.
+    // Reads a name, `=` or `+=`, and a value.
     #[tactic(auto, unfolding(crate::specs::ReadingStatements::set_at))]
     fn assign(&mut self, adds: bool, levels: u32) -> Read<Statement<'a>>
         ensures read { Gives statement_of result (lexemes self.new.rest.now)
@@ -97,7 +97,7 @@ impl<'a> Parser<'_, 'a> {
         Ok(set(name, adds, value))
     }
 
-    // An expression alone.
+    // Reads an expression as a statement.
     #[tactic(auto, unfolding(crate::specs::ReadingStatements::plain_at))]
     fn plain(&mut self, levels: u32) -> Read<Statement<'a>>
         ensures read { Gives statement_of result (lexemes self.new.rest.now)
@@ -109,7 +109,7 @@ impl<'a> Parser<'_, 'a> {
         Ok(Statement::Expression { value, line })
     }
 
-    // A `break` or a `continue`, where a `foreach` is open.
+    // Reads a `break` or a `continue`, which must be inside a `foreach`.
     #[tactic(auto, using(crate::proofs::StatementTails::leave_cases))]
     fn leave(&mut self, ends: bool, inside: bool) -> Read<Statement<'a>>
         ensures read { Gives statement_of result (lexemes self.new.rest.now)
@@ -124,7 +124,7 @@ impl<'a> Parser<'_, 'a> {
         }
     }
 
-    // A statement of one line.
+    // Reads a statement of one line.
     #[tactic(auto, using(crate::proofs::StatementTails::simple_cases))]
     fn simple(&mut self, inside: bool, levels: u32) -> Read<Statement<'a>>
         ensures read { Gives statement_of result (lexemes self.new.rest.now) (simple_at inside levels (lexemes self.old.rest.now)) }
@@ -143,7 +143,7 @@ impl<'a> Parser<'_, 'a> {
         }
     }
 
-    // A statement, where so many levels may still be opened; inside says whether a `foreach` is open.
+    // Reads a statement in which `levels` more levels may be opened. `inside` says whether it is inside a `foreach`.
     #[cycle(statement)]
     #[tactic(auto, using(crate::proofs::StatementTails::statement_cases))]
     fn statement(&mut self, inside: bool, levels: u32) -> Read<Statement<'a>>
@@ -161,7 +161,7 @@ impl<'a> Parser<'_, 'a> {
         }
     }
 
-    // A comma and a name.
+    // Reads a comma and a name.
     #[tactic(auto, unfolding(crate::specs::ReadingStatements::second_at))]
     fn comma_name(&mut self) -> Read<&'a str>
         ensures read { Gives (λ name. name.now) result (lexemes self.new.rest.now) (second_at (lexemes self.old.rest.now)) }
@@ -172,7 +172,7 @@ impl<'a> Parser<'_, 'a> {
         Ok(name.text)
     }
 
-    // The second name of a `foreach`, if there is one.
+    // Reads the second name of a `foreach`, if there is one.
     #[tactic(auto, using(crate::proofs::StatementTails::optional_cases))]
     fn second(&mut self) -> Read<Option<&'a str>>
         ensures read { Gives (option_map (λ name. name.now)) result (lexemes self.new.rest.now)
@@ -186,7 +186,7 @@ impl<'a> Parser<'_, 'a> {
         }
     }
 
-    // The names of a `foreach`, up to the colon.
+    // Reads the names of a `foreach`, up to the colon.
     #[tactic(auto, unfolding(crate::specs::ReadingStatements::names_at))]
     fn names(&mut self) -> Read<(&'a str, Option<&'a str>)>
         ensures read { Gives (λ p. (p.0.now, option_map (λ name. name.now) p.1)) result (lexemes self.new.rest.now)
@@ -199,7 +199,7 @@ impl<'a> Parser<'_, 'a> {
         Ok((first.text, second))
     }
 
-    // The list of a `foreach` and the statements of a round, up to `endforeach`.
+    // Reads the list of a `foreach` and its statements, up to `endforeach`.
     #[cycle(statement)]
     #[tactic(auto, unfolding(crate::specs::Reading::ended_at))]
     fn round(&mut self, levels: u32) -> Read<Box<Branch<'a>>>
@@ -212,7 +212,7 @@ impl<'a> Parser<'_, 'a> {
         self.close(Kind::EndForeach, round)
     }
 
-    // A `foreach`, up to its `endforeach`.
+    // Reads a `foreach`, up to its `endforeach`.
     #[cycle(statement)]
     #[tactic(auto, unfolding(crate::specs::ReadingStatements::foreach_at, crate::specs::Reading::ended_at))]
     fn foreach(&mut self, levels: u32) -> Read<Statement<'a>>
@@ -231,7 +231,7 @@ impl<'a> Parser<'_, 'a> {
         })
     }
 
-    // The parts of an `if` and what stands behind `else`, up to `endif`.
+    // Reads the branches of an `if` and the statements after `else`, up to `endif`.
     #[cycle(statement)]
     #[tactic(auto, unfolding(crate::specs::ReadingStatements::alternatives_at))]
     fn alternatives(
@@ -248,7 +248,7 @@ impl<'a> Parser<'_, 'a> {
         self.close(Kind::EndIf, (branches, otherwise))
     }
 
-    // An `if`, up to its `endif`.
+    // Reads an `if`, up to its `endif`.
     #[cycle(statement)]
     #[tactic(auto, unfolding(crate::specs::ReadingStatements::conditional_at, crate::specs::ReadingStatements::alternatives_at))]
     fn conditional(&mut self, inside: bool, levels: u32) -> Read<Statement<'a>>
@@ -265,7 +265,7 @@ impl<'a> Parser<'_, 'a> {
         })
     }
 
-    // A condition, or what a `foreach` goes over, and the statements behind it.
+    // Reads a condition, or the list of a `foreach`, and the statements after it.
     #[cycle(statement)]
     #[tactic(auto, unfolding(crate::specs::ReadingStatements::branch_at, crate::specs::Reading::ended_at, crate::specs::ReadingExpressions::expr_at))]
     fn branch(&mut self, inside: bool, levels: u32) -> Read<Branch<'a>>
@@ -283,7 +283,7 @@ impl<'a> Parser<'_, 'a> {
         })
     }
 
-    // The parts of an `if` that have a condition.
+    // Reads the branches of an `if` that have a condition.
     #[cycle(statement)]
     fn parts(&mut self, inside: bool, levels: u32) -> Read<Vec<Branch<'a>>>
         ensures read { Gives (λ v. map branch_of v.items) result (lexemes self.new.rest.now)
@@ -301,7 +301,7 @@ impl<'a> Parser<'_, 'a> {
         Ok(fit(parts))
     }
 
-    // What stands behind `else`, or nothing.
+    // Reads the statements after `else`, or nothing.
     #[cycle(statement)]
     #[tactic(auto, using(crate::proofs::StatementTails::otherwise_cases), unfolding(crate::specs::ReadingStatements::last_part_at))]
     fn otherwise(&mut self, inside: bool, levels: u32) -> Read<Vec<Statement<'a>>>
@@ -317,7 +317,7 @@ impl<'a> Parser<'_, 'a> {
         self.body(inside, levels)
     }
 
-    // The statements up to the next part or the end of a block.
+    // Reads the statements up to the next branch or the end of a block.
     #[cycle(statement)]
     fn body(&mut self, inside: bool, levels: u32) -> Read<Vec<Statement<'a>>>
         ensures read { Gives (λ v. map statement_of v.items) result (lexemes self.new.rest.now)
@@ -332,7 +332,7 @@ impl<'a> Parser<'_, 'a> {
         Ok(fit(statements))
     }
 
-    // Puts the statement of a line behind the others, if there is one.
+    // Appends the statement of a line, if the line has one.
     #[cycle(statement)]
     #[tactic(auto, using(crate::proofs::StatementTails::line_cases))]
     pub(super) fn line(

@@ -1,4 +1,4 @@
--- The functions by their names.
+-- Defines which function each name calls.
 use Rattle.std.specs.Prelude.{ℕ, List, Option, Some, None, codes, if◌then◌else◌, option_map}
 use Rattle.std.specs.Str.{bytes_eq}
 use Rattle.values.specs.declared.language_names.functions.Function.{Function}
@@ -6,7 +6,7 @@ use Rattle.values.specs.declared.language_names.functions.Function.TheVariants a
 use Rattle.values.specs.declared.language_names.functions.ProjectFunction.{ProjectFunction}
 use Rattle.values.specs.declared.language_names.functions.ProjectFunction.TheVariants as project
 
--- the function of a name that says something of the project
+-- Returns the function with this name among those that declare something about the project.
 abbrev pub project_function_named : List ℕ → Option ProjectFunction
 project_function_named name =
     if bytes_eq name (codes "add_project_arguments") then Some project.AddProjectArguments
@@ -30,7 +30,7 @@ project_function_named name =
     else if bytes_eq name (codes "test") then Some project.Test
     else None
 
--- the function of a name
+-- Returns the function with this name.
 abbrev pub function_named : List ℕ → Option Function
 function_named name =
     if bytes_eq name (codes "assert") then Some functions.Assert

@@ -1,4 +1,4 @@
--- What a name names as a method of each kind of receiver.
+-- Defines which method a name calls on each type of receiver.
 use Rattle.std.specs.Prelude.{ℕ, List}
 use Rattle.values.specs.language_names.ObjectMethods.{compiler_method_named, configuration_method_named, dependency_method_named}
 use Rattle.values.specs.language_names.ObjectMethods.{feature_method_named, machine_method_named, meson_method_named, program_method_named}
@@ -9,6 +9,7 @@ use Rattle.values.specs.declared.language_names.method_name.Methods.{Methods}
 use Rattle.values.specs.declared.language_names.method_name.ObjectMethods.{ObjectMethods}
 use Rattle.values.specs.declared.language_names.method_name.ValueMethods.{ValueMethods}
 
+-- Returns the methods of values with this name.
 abbrev pub value_methods_named : List ℕ → ValueMethods
 value_methods_named name = record {
   boolean = boolean_method_named name;
@@ -18,6 +19,7 @@ value_methods_named name = record {
   dictionary = dictionary_method_named name;
 }
 
+-- Returns the methods of objects with this name.
 abbrev pub object_methods_named : List ℕ → ObjectMethods
 object_methods_named name = record {
   compiler = compiler_method_named name;
@@ -32,5 +34,6 @@ object_methods_named name = record {
   output = output_method_named name;
 }
 
+-- Returns all methods with this name.
 abbrev pub methods_named : List ℕ → Methods
 methods_named name = record { values = value_methods_named name; objects = object_methods_named name }

@@ -1,4 +1,4 @@
--- The names that the language gives a meaning to.
+-- Defines the names that the language gives a meaning to.
 use Rattle.std.specs.Prelude.{ℕ, List, [], ◌∷◌, Bool, false, not, ◌||◌, ◌&&◌, ◌==◌, codes, if◌then◌else◌}
 use Rattle.std.specs.Char.{is_ascii_alphabetic, is_ascii_alphanumeric}
 use Rattle.std.specs.List.{list_all}
@@ -7,35 +7,38 @@ use Rattle.support.specs.Among.{is_among}
 use Rattle.values.specs.Data.{Data, object}
 use Rattle.values.specs.declared.object.Object.TheVariants as objects
 
--- the variables that stand for things of the run: no definition file sets them
+-- Returns the predefined variables, which no build file can assign.
 abbrev pub predefined_names : List (List ℕ)
 predefined_names = codes "meson" ∷ codes "host_machine" ∷ codes "build_machine" ∷ codes "target_machine" ∷ []
 
+-- Holds if a name is a predefined variable.
 abbrev pub is_predefined : List ℕ → Bool
 is_predefined name = is_among predefined_names name
 
--- What such a name stands for, whatever the machine file says. Nothing is built for another machine than the one that builds: the three
--- are one.
+-- Returns the value of a predefined variable, which does not depend on the machine file. There is no cross compilation, so the three
+-- machines are the same object.
 abbrev pub predefined : List ℕ → Data
 predefined name = if bytes_eq name (codes "meson") then object objects.Meson else object objects.Machine
 
--- the words that are no names
+-- Returns the keywords, which cannot be names.
 abbrev pub keywords : List (List ℕ)
 keywords = codes "true" ∷ codes "false" ∷ codes "if" ∷ codes "elif" ∷ codes "else" ∷ codes "endif" ∷ codes "and" ∷ codes "or" ∷ codes "not"
     ∷ codes "in" ∷ codes "foreach" ∷ codes "endforeach" ∷ codes "break" ∷ codes "continue" ∷ []
 
+-- Holds if a byte may be in a name.
 abbrev pub is_name_byte : ℕ → Bool
 is_name_byte b = is_ascii_alphanumeric b || b == 95
 
+-- Holds if a text begins like a name.
 abbrev pub begins_name : List ℕ → Bool
 begins_name [] = false
 begins_name (b ∷ bs) = is_ascii_alphabetic b || b == 95
 
--- letters, digits and underscores of which a digit is not the first, and no keyword
+-- Holds if a text is a name: letters, digits and underscores, not beginning with a digit, and no keyword.
 abbrev pub is_name : List ℕ → Bool
 is_name text = begins_name text && (list_all is_name_byte text && not (is_among keywords text))
 
--- the functions of Meson that are left out for good
+-- Returns the functions of Meson that are not supported.
 abbrev pub left_out_names : List (List ℕ)
 left_out_names =
     codes "add_global_arguments" ∷ codes "add_global_link_arguments" ∷ codes "add_languages" ∷ codes "add_test_setup"
@@ -43,5 +46,6 @@ left_out_names =
     ∷ codes "generator" ∷ codes "import" ∷ codes "install_emptydir" ∷ codes "install_subdir" ∷ codes "install_symlink"
     ∷ codes "run_command" ∷ codes "run_target" ∷ codes "shared_module" ∷ codes "subproject" ∷ codes "summary" ∷ codes "vcs_tag" ∷ []
 
+-- Holds if a name is a function of Meson that is not supported.
 abbrev pub is_left_out : List ℕ → Bool
 is_left_out name = is_among left_out_names name

@@ -1,4 +1,4 @@
--- The methods of objects by their names, for each type of the page "Reference manual".
+-- Defines the methods of objects by name, for each type of the page "Reference manual".
 use Rattle.std.specs.Prelude.{ℕ, List, Option, Some, None, codes, bytes_eq, if◌then◌else◌}
 use Rattle.values.specs.declared.language_names.object_methods.CompilerMethod.{CompilerMethod}
 use Rattle.values.specs.declared.language_names.object_methods.CompilerMethod.TheVariants as compilers
@@ -17,7 +17,7 @@ use Rattle.values.specs.declared.language_names.object_methods.ProgramMethod.The
 use Rattle.values.specs.declared.language_names.object_methods.TargetMethod.{TargetMethod}
 use Rattle.values.specs.declared.language_names.object_methods.TargetMethod.TheVariants as targets
 
--- the method of the compiler that a name names
+-- Returns the method of a compiler with this name.
 abbrev pub compiler_method_named : List ℕ → Option CompilerMethod
 compiler_method_named name =
     if bytes_eq name (codes "alignment") then Some compilers.Number
@@ -36,7 +36,7 @@ compiler_method_named name =
     else if bytes_eq name (codes "version") then Some compilers.Version
     else None
 
--- the method of configuration data that a name names
+-- Returns the method of a configuration data object with this name.
 abbrev pub configuration_method_named : List ℕ → Option ConfigurationMethod
 configuration_method_named name =
     if bytes_eq name (codes "get") then Some configurations.Get
@@ -49,7 +49,7 @@ configuration_method_named name =
     else if bytes_eq name (codes "set_quoted") then Some configurations.SetQuoted
     else None
 
--- the method of a dependency that a name names
+-- Returns the method of a dependency with this name.
 abbrev pub dependency_method_named : List ℕ → Option DependencyMethod
 dependency_method_named name =
     if bytes_eq name (codes "found") then Some dependencies.Found
@@ -57,7 +57,7 @@ dependency_method_named name =
     else if bytes_eq name (codes "version") then Some dependencies.Version
     else None
 
--- the method of a feature that a name names
+-- Returns the method of a feature with this name.
 abbrev pub feature_method_named : List ℕ → Option FeatureMethod
 feature_method_named name =
     if bytes_eq name (codes "allowed") then Some features.Allowed
@@ -66,7 +66,7 @@ feature_method_named name =
     else if bytes_eq name (codes "enabled") then Some features.Enabled
     else None
 
--- the method of a machine that a name names
+-- Returns the method of a machine with this name.
 abbrev pub machine_method_named : List ℕ → Option MachineMethod
 machine_method_named name =
     if bytes_eq name (codes "cpu") then Some machines.Cpu
@@ -75,7 +75,7 @@ machine_method_named name =
     else if bytes_eq name (codes "system") then Some machines.System
     else None
 
--- the method of the object `meson` that a name names
+-- Returns the method of the object `meson` with this name.
 abbrev pub meson_method_named : List ℕ → Option MesonMethod
 meson_method_named name =
     if bytes_eq name (codes "backend") then Some meson.Backend
@@ -93,7 +93,7 @@ meson_method_named name =
     else if bytes_eq name (codes "version") then Some meson.Version
     else None
 
--- the method of a program that a name names
+-- Returns the method of a program with this name.
 abbrev pub program_method_named : List ℕ → Option ProgramMethod
 program_method_named name =
     if bytes_eq name (codes "found") then Some programs.Found
@@ -101,14 +101,14 @@ program_method_named name =
     else if bytes_eq name (codes "path") then Some programs.FullPath
     else None
 
--- the method of an executable or a library that a name names
+-- Returns the method of an executable or a library with this name.
 abbrev pub build_target_method_named : List ℕ → Option TargetMethod
 build_target_method_named name =
     if bytes_eq name (codes "full_path") then Some targets.FullPath
     else if bytes_eq name (codes "name") then Some targets.Name
     else None
 
--- the method of a custom target that a name names
+-- Returns the method of a custom target with this name.
 abbrev pub custom_target_method_named : List ℕ → Option TargetMethod
 custom_target_method_named name =
     if bytes_eq name (codes "full_path") then Some targets.FullPath
@@ -116,6 +116,6 @@ custom_target_method_named name =
     else if bytes_eq name (codes "to_list") then Some targets.ToList
     else None
 
--- the method of an output of a custom target that a name names
+-- Returns the method of an output of a custom target with this name.
 abbrev pub output_method_named : List ℕ → Option TargetMethod
 output_method_named name = if bytes_eq name (codes "full_path") then Some targets.FullPath else None

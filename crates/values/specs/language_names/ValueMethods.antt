@@ -1,4 +1,4 @@
--- The methods of values by their names, for each type of the page "Reference manual".
+-- Defines the methods of values by name, for each type of the page "Reference manual".
 use Rattle.std.specs.Prelude.{ℕ, List, Option, Some, None, codes, bytes_eq, if◌then◌else◌}
 use Rattle.values.specs.declared.language_names.value_methods.BooleanMethod.{BooleanMethod}
 use Rattle.values.specs.declared.language_names.value_methods.BooleanMethod.TheVariants as booleans
@@ -11,14 +11,14 @@ use Rattle.values.specs.declared.language_names.value_methods.ListMethod.TheVari
 use Rattle.values.specs.declared.language_names.value_methods.DictionaryMethod.{DictionaryMethod}
 use Rattle.values.specs.declared.language_names.value_methods.DictionaryMethod.TheVariants as dictionaries
 
--- the method of a boolean that a name names
+-- Returns the method of a boolean with this name.
 abbrev pub boolean_method_named : List ℕ → Option BooleanMethod
 boolean_method_named name =
     if bytes_eq name (codes "to_int") then Some booleans.ToInt
     else if bytes_eq name (codes "to_string") then Some booleans.ToString
     else None
 
--- the method of an integer that a name names
+-- Returns the method of an integer with this name.
 abbrev pub integer_method_named : List ℕ → Option IntegerMethod
 integer_method_named name =
     if bytes_eq name (codes "is_even") then Some integers.IsEven
@@ -26,7 +26,7 @@ integer_method_named name =
     else if bytes_eq name (codes "to_string") then Some integers.ToString
     else None
 
--- the method of a text that a name names
+-- Returns the method of a text with this name.
 abbrev pub text_method_named : List ℕ → Option TextMethod
 text_method_named name =
     if bytes_eq name (codes "contains") then Some texts.Contains
@@ -46,7 +46,7 @@ text_method_named name =
     else if bytes_eq name (codes "version_compare") then Some texts.VersionCompare
     else None
 
--- the method of a list that a name names
+-- Returns the method of a list with this name.
 abbrev pub list_method_named : List ℕ → Option ListMethod
 list_method_named name =
     if bytes_eq name (codes "contains") then Some lists.Contains
@@ -54,7 +54,7 @@ list_method_named name =
     else if bytes_eq name (codes "length") then Some lists.Length
     else None
 
--- the method of a dictionary that a name names
+-- Returns the method of a dictionary with this name.
 abbrev pub dictionary_method_named : List ℕ → Option DictionaryMethod
 dictionary_method_named name =
     if bytes_eq name (codes "get") then Some dictionaries.Get

@@ -1,15 +1,15 @@
--- The pieces in which a value is printed.
+-- Defines the pieces in which a value is printed.
 use Rattle.std.specs.Prelude.{ℕ, Bool, true, false, List, [], ◌∷◌, ◌++◌, codes}
 use Rattle.std.specs.Fmt.{signed_decimal}
 use Rattle.values.specs.Data.{Data, boolean, integer, text, list, dictionary, object, Items, no_items, item, Entries, no_entries, entry}
 use Rattle.values.specs.printing.Printed.{boolean_text}
 
--- what stands in front of an item
+-- Returns what is printed before an item: nothing before the first one, a comma and a space before any other.
 abbrev pub separator : Bool → List ℕ
 separator true = []
 separator false = codes ", "
 
--- the pieces of a value inside a list or a dictionary, of items with the end of their list, and of entries with the end of their dictionary
+-- Returns the pieces of a value inside a list or a dictionary. For items and entries the closing bracket is included.
 abbrev mutual
   pub inside_pieces : Data → List (List ℕ)
   inside_pieces (boolean b) = boolean_text b ∷ []
@@ -28,12 +28,12 @@ abbrev mutual
   entry_pieces is_first (entry k d es) =
       (separator is_first ++ codes "'") ∷ k ∷ codes "' : " ∷ (inside_pieces d ++ entry_pieces false es)
 
--- the pieces of a value alone: a text stands for itself
+-- Returns the pieces of a value that is printed alone: a text is printed as it is, without quotes.
 abbrev pub pieces : Data → List (List ℕ)
 pieces (text t) = t ∷ []
 pieces d = inside_pieces d
 
--- the text that pieces make
+-- Returns the text that pieces make when they are joined.
 abbrev pub whole : List (List ℕ) → List ℕ
 whole [] = []
 whole (p ∷ ps) = p ++ whole ps

@@ -1,4 +1,4 @@
--- The text that a value is printed as.
+-- Defines the text that a value is printed as, by `message` and `str.format` of the page "Reference manual".
 use Rattle.std.specs.Prelude.{ℕ, Bool, true, false, ◌&&◌, List, [], ◌∷◌, ◌++◌, codes, Result, Err, if◌then◌else◌}
 use Rattle.std.specs.List.{flat_map}
 use Rattle.std.specs.Fmt.{signed_decimal}
@@ -7,7 +7,7 @@ use Rattle.values.specs.declared.refusal.Refusal.TheVariants as refusal
 use Rattle.values.specs.Limits.{within_bytes}
 use Rattle.values.specs.Data.{Data, boolean, integer, text, list, dictionary, object, Items, no_items, item, Entries, no_entries, entry}
 
--- no object, and nothing that holds one
+-- Holds if a value neither is nor contains an object.
 abbrev mutual
   pub is_printable : Data → Bool
   is_printable (list ds) = are_printable ds
@@ -23,27 +23,28 @@ abbrev mutual
   are_entries_printable no_entries = true
   are_entries_printable (entry k d es) = is_printable d && are_entries_printable es
 
--- a boolean, an integer or a text
+-- Holds if a value is a boolean, an integer or a text.
 abbrev pub is_plain : Data → Bool
 is_plain (boolean b) = true
 is_plain (integer z) = true
 is_plain (text t) = true
 is_plain _ = false
 
+-- Returns `true` or `false` as a text.
 abbrev pub boolean_text : Bool → List ℕ
 boolean_text true = codes "true"
 boolean_text false = codes "false"
 
--- a text in single quotes; nothing in it is escaped
+-- Returns a text in single quotes. Nothing in it is escaped.
 abbrev pub quoted : List ℕ → List ℕ
 quoted t = codes "'" ++ (t ++ codes "'")
 
--- texts with a comma and a space between each two
+-- Returns texts joined by a comma and a space.
 abbrev pub listed : List (List ℕ) → List ℕ
 listed [] = []
 listed (t ∷ ts) = t ++ flat_map (λ next. codes ", " ++ next) ts
 
--- what stands for a value inside a list or a dictionary
+-- Returns the text of a value inside a list or a dictionary.
 abbrev mutual
   pub inside : Data → List ℕ
   inside (boolean b) = boolean_text b
@@ -61,11 +62,11 @@ abbrev mutual
   entry_texts no_entries = []
   entry_texts (entry k d es) = ((quoted k ++ codes " : ") ++ inside d) ∷ entry_texts es
 
--- what stands for a value alone: a text stands for itself
+-- Returns the text of a value that is printed alone: a text is printed as it is, without quotes.
 abbrev pub shown : Data → List ℕ
 shown (text t) = t
 shown d = inside d
 
--- the text that a value is printed as, or why there is none
+-- Returns the text that a value is printed as, or the refusal if it has none.
 abbrev pub printed : Data → Result (List ℕ) Refusal
 printed d = if is_printable d then within_bytes (shown d) else Err refusal.Arguments

@@ -1,9 +1,9 @@
--- What an answer says.
+-- Reads results of the functions on texts.
 use Rattle.std.specs.Prelude.{ℕ, List, map, Vec, Result, Ok, Err}
 use denote.Ref.{Bor}
 use Rattle.values.specs.declared.refusal.Refusal.{Refusal}
 
--- the pieces that it has, or the refusal
+-- Returns the pieces of a result, or its refusal.
 abbrev pub pieces_in : {Z : Type 0} → Result (Vec (Bor (List ℕ)) Z) Refusal → Result (List (List ℕ)) Refusal
 pieces_in (Ok pieces) = Ok (map (λ piece. piece.now) pieces.items)
 pieces_in (Err refusal) = Err refusal

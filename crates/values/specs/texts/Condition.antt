@@ -1,4 +1,4 @@
--- Conditions on a version: a relation, and the version that it is compared with.
+-- Defines conditions on a version: a relation, and the version to compare with.
 use Rattle.std.specs.Prelude.{ℕ, Bool, List, length, take, drop, codes, if◌then◌else◌, bytes_eq}
 use Rattle.std.specs.declared.cmp.Ordering.{Ordering}
 use Rattle.std.specs.Ordering.{is_lt, is_le, is_eq, is_ne, is_gt, is_ge}
@@ -6,7 +6,7 @@ use Rattle.values.specs.declared.texts.versions.Relation.{Relation}
 use Rattle.values.specs.declared.texts.versions.Relation.TheVariants as relation
 use Rattle.values.specs.texts.Version.{version_order}
 
--- whether a relation allows the order in which two versions stand
+-- Holds if a relation allows this order of two versions.
 abbrev pub allows : Relation → Ordering → Bool
 allows relation.AtLeast = is_ge
 allows relation.AtMost = is_le
@@ -15,10 +15,11 @@ allows relation.Equal = is_eq
 allows relation.Above = is_gt
 allows relation.Below = is_lt
 
+-- Holds if a condition begins with this operator.
 abbrev pub begins_with : List ℕ → List ℕ → Bool
 begins_with bytes sign = bytes_eq (take (length sign) bytes) sign
 
--- the relation that a condition's sign asks for; without a sign it asks for an equal version
+-- Returns the relation of a condition's operator. A condition without an operator requires an equal version.
 abbrev pub relation_of : List ℕ → Relation
 relation_of condition =
     if begins_with condition (codes ">=") then relation.AtLeast
@@ -30,7 +31,7 @@ relation_of condition =
     else if begins_with condition (codes "<") then relation.Below
     else relation.Equal
 
--- how many bytes the sign of a condition has
+-- Returns the length of a condition's operator in bytes.
 abbrev pub sign_length : List ℕ → ℕ
 sign_length condition =
     if begins_with condition (codes ">=") then 2
@@ -42,6 +43,6 @@ sign_length condition =
     else if begins_with condition (codes "<") then 1
     else 0
 
--- whether a version meets a condition
+-- Holds if a version meets a condition.
 abbrev pub meets : List ℕ → List ℕ → Bool
 meets version condition = allows (relation_of condition) (version_order version (drop (sign_length condition) condition))

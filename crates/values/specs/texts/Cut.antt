@@ -1,4 +1,4 @@
--- The ways to cut a text, as the code has them.
+-- Defines the ways to cut a text, in terms of the code's own types.
 use Rattle.std.specs.Prelude.{ℕ, ◌<◌, List, [], ◌∷◌, length, Option, Some, None, nat_eq, codes, ◌==◌, if◌then◌else◌}
 use Rattle.std.specs.List.{starts_with}
 use denote.Ref.{Bor}
@@ -6,27 +6,27 @@ use Rattle.values.specs.declared.texts.cut.Cut.{Cut}
 use Rattle.values.specs.declared.texts.cut.Cut.TheVariants as cut
 use Rattle.values.specs.texts.Pieces.{parts, words, lines, lines_after}
 
--- the pieces of a text
+-- Returns the pieces into which a text is cut.
 abbrev pub pieces : Cut → List ℕ → List (List ℕ)
 pieces (cut.At separator) text = parts separator.now text
 pieces cut.Blanks text = words text
 pieces cut.Lines text = lines text
 
--- the pieces of what is left of a text, if more follow
+-- Returns the pieces of the remaining text, and none if nothing remains.
 abbrev pub left : (List ℕ → List (List ℕ)) → Option (Bor (List ℕ)) → List (List ℕ)
 left cut_up None = []
 left cut_up (Some rest) = cut_up rest.now
 
--- the lines behind the end of a line with which a text begins
+-- Returns the lines after the line ending with which a text begins.
 abbrev pub lines_behind : List ℕ → List (List ℕ)
 lines_behind [] = []
 lines_behind (b ∷ bs) = lines_after (b == 13) bs
 
--- how many bytes the end of a line has with which a text begins
+-- Returns the length in bytes of the line ending with which a text begins.
 abbrev pub end_length : List ℕ → ℕ
 end_length text = if starts_with nat_eq text (codes "\r\n") then 2 else 1
 
--- a separator is not empty
+-- Holds if a way to cut has no empty separator.
 abbrev pub CanCut : Cut → Type 0
 CanCut (cut.At separator) = 0 < length separator.now
 CanCut cut.Blanks = Unit {0}

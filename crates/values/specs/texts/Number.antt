@@ -1,4 +1,4 @@
--- The integer that a text spells.
+-- Defines the integer that a text spells.
 use Rattle.std.specs.Prelude.{ℕ, ℤ, Bool, ◌&&◌, List, length, nat_lt, Result, Ok, Err, if◌then◌else◌}
 use Rattle.std.specs.Char.{is_ascii_digit}
 use Rattle.std.specs.List.{list_all}
@@ -7,11 +7,11 @@ use Rattle.support.specs.Limits.{is_in_range}
 use Rattle.values.specs.declared.refusal.Refusal.{Refusal}
 use Rattle.values.specs.declared.refusal.Refusal.TheVariants as refusal
 
--- at least one digit after at most one sign, and nothing else
+-- Holds if a text is at most one sign followed by at least one digit.
 abbrev pub is_numeral : List ℕ → Bool
 is_numeral text = nat_lt 0 (length (without_leading_sign text)) && list_all is_ascii_digit (without_leading_sign text)
 
--- the integer that a text spells, or why it spells none
+-- Returns the integer that a text spells, or the refusal if it spells none or one out of range.
 abbrev pub integer_of : List ℕ → Result ℤ Refusal
 integer_of text =
     if is_numeral text then (if is_in_range (signed_digits_value 10 text) then Ok (signed_digits_value 10 text) else Err refusal.Range)

@@ -1,4 +1,4 @@
-//! The functions by their names.
+//! Looks functions up by name.
 ghost use Rattle.std.specs.Prelude.{◌≡◌, option_map};
 ghost use Rattle.values.specs.language_names.Functions.{function_named};
 ghost use Rattle.values.specs.declared.language_names.functions.Function.TheVariants as functions;
@@ -18,7 +18,7 @@ pub enum Function {
     IsVariable,
     JoinPaths,
     Message,
-    /// One that says something of the project.
+    /// A function that declares something about the project.
     OfProject(ProjectFunction),
     Project,
     Range,
@@ -29,7 +29,7 @@ pub enum Function {
     Warning,
 }
 
-/// A function that says something of the project: its targets and what they are made with, its options, and what is installed and
+/// A function that declares something about the project: its targets and their arguments, its options, what is installed and what is
 /// tested.
 #[derive(Clone, Copy)]
 pub enum ProjectFunction {
@@ -54,7 +54,7 @@ pub enum ProjectFunction {
     Test,
 }
 
-// Those that say nothing of the project.
+// The functions that declare nothing about the project.
 const FUNCTIONS: [(&str, Function); 15] = [
     ("assert", Function::Assert),
     ("disabler", Function::Disabler),
@@ -73,7 +73,7 @@ const FUNCTIONS: [(&str, Function); 15] = [
     ("warning", Function::Warning),
 ];
 
-// The functions that say something of the project.
+// The functions that declare something about the project.
 const PROJECT_FUNCTIONS: [(&str, ProjectFunction); 19] = [
     (
         "add_project_arguments",
@@ -102,8 +102,8 @@ const PROJECT_FUNCTIONS: [(&str, ProjectFunction); 19] = [
     ("test", ProjectFunction::Test),
 ];
 
-/// The name by which a definition file calls a function. Which function it names was looked up when it was made. To whoever uses it, it is
-/// its text.
+/// The name by which a build file calls a function. The function is looked up once, when the name is made. The view of a name is its text
+/// alone.
 #[derive(Drop)]
 pub struct FunctionName {
     text: Text,
@@ -122,7 +122,7 @@ impl Model for FunctionName {
 }
 
 impl FunctionName {
-    /// The name with this text.
+    /// Returns the name with this text.
     pub fn new(text: Text) -> FunctionName
         ensures { result ≡ text }
     {
@@ -130,14 +130,14 @@ impl FunctionName {
         FunctionName { text, function }
     }
 
-    /// Its text.
+    /// Returns the name's text.
     pub fn as_str(&self) -> &str
         ensures { result.now ≡ self.now }
     {
         self.text.as_str()
     }
 
-    /// The function with this name.
+    /// Returns the function with this name, and `None` if there is none.
     pub fn function(&self) -> Option<Function>
         ensures { result ≡ function_named self.now }
     {
@@ -145,7 +145,7 @@ impl FunctionName {
     }
 }
 
-// The function of a name.
+// Returns the function with this name, and `None` if there is none.
 fn function_named(name: &str) -> Option<Function>
     ensures { result ≡ function_named name.now }
 {

@@ -1,4 +1,4 @@
-//! The name of a method, with the methods that it names.
+//! Keeps the name of a method with the methods that it names.
 ghost use Rattle.std.specs.Prelude.{◌≡◌};
 ghost use Rattle.values.specs.language_names.MethodNames.{object_methods_named, value_methods_named};
 ghost use Rattle.values.specs.language_names.ObjectMethods.{build_target_method_named, compiler_method_named, configuration_method_named};
@@ -18,7 +18,7 @@ use crate::language_names::value_methods::{
 };
 use std::marker::Model;
 
-// The methods of values that a name names.
+// The methods of values with one name.
 #[derive(Clone, Copy)]
 struct ValueMethods {
     boolean: Option<BooleanMethod>,
@@ -28,7 +28,7 @@ struct ValueMethods {
     dictionary: Option<DictionaryMethod>,
 }
 
-// The methods of objects that a name names.
+// The methods of objects with one name.
 #[derive(Clone, Copy)]
 struct ObjectMethods {
     compiler: Option<CompilerMethod>,
@@ -43,7 +43,7 @@ struct ObjectMethods {
     output: Option<TargetMethod>,
 }
 
-// The methods that a name names.
+// The methods with one name, for each type of receiver.
 #[derive(Clone, Copy)]
 struct Methods {
     values: ValueMethods,
@@ -83,8 +83,8 @@ impl ObjectMethods {
     }
 }
 
-/// The name by which a definition file asks a receiver for a method. What it names for each kind of receiver was looked up when it was
-/// made. To whoever uses it, it is its text.
+/// The name by which a build file calls a method. The method for each type of receiver is looked up once, when the name is made. The view
+/// of a name is its text alone.
 #[derive(Drop)]
 pub struct MethodName {
     text: Text,
@@ -103,7 +103,7 @@ impl Model for MethodName {
 }
 
 impl MethodName {
-    /// The name with this text.
+    /// Returns the name with this text.
     pub fn new(text: Text) -> MethodName
         ensures { result ≡ text }
     {
@@ -113,112 +113,112 @@ impl MethodName {
         MethodName { text, methods }
     }
 
-    /// Its text.
+    /// Returns the name's text.
     pub fn as_str(&self) -> &str
         ensures { result.now ≡ self.now }
     {
         self.text.as_str()
     }
 
-    /// The method of a boolean with this name.
+    /// Returns the method of a boolean with this name, and `None` if there is none.
     pub fn of_boolean(&self) -> Option<BooleanMethod>
         ensures { result ≡ boolean_method_named self.now }
     {
         self.methods.values.boolean
     }
 
-    /// The method of an integer with this name.
+    /// Returns the method of an integer with this name, and `None` if there is none.
     pub fn of_integer(&self) -> Option<IntegerMethod>
         ensures { result ≡ integer_method_named self.now }
     {
         self.methods.values.integer
     }
 
-    /// The method of a text with this name.
+    /// Returns the method of a text with this name, and `None` if there is none.
     pub fn of_text(&self) -> Option<TextMethod>
         ensures { result ≡ text_method_named self.now }
     {
         self.methods.values.text
     }
 
-    /// The method of a list with this name.
+    /// Returns the method of a list with this name, and `None` if there is none.
     pub fn of_list(&self) -> Option<ListMethod>
         ensures { result ≡ list_method_named self.now }
     {
         self.methods.values.list
     }
 
-    /// The method of a dictionary with this name.
+    /// Returns the method of a dictionary with this name, and `None` if there is none.
     pub fn of_dictionary(&self) -> Option<DictionaryMethod>
         ensures { result ≡ dictionary_method_named self.now }
     {
         self.methods.values.dictionary
     }
 
-    /// The method of the compiler with this name.
+    /// Returns the method of a compiler with this name, and `None` if there is none.
     pub fn of_compiler(&self) -> Option<CompilerMethod>
         ensures { result ≡ compiler_method_named self.now }
     {
         self.methods.objects.compiler
     }
 
-    /// The method of configuration data with this name.
+    /// Returns the method of a configuration data object with this name, and `None` if there is none.
     pub fn of_configuration(&self) -> Option<ConfigurationMethod>
         ensures { result ≡ configuration_method_named self.now }
     {
         self.methods.objects.configuration
     }
 
-    /// The method of a dependency with this name.
+    /// Returns the method of a dependency with this name, and `None` if there is none.
     pub fn of_dependency(&self) -> Option<DependencyMethod>
         ensures { result ≡ dependency_method_named self.now }
     {
         self.methods.objects.dependency
     }
 
-    /// The method of a feature with this name.
+    /// Returns the method of a feature with this name, and `None` if there is none.
     pub fn of_feature(&self) -> Option<FeatureMethod>
         ensures { result ≡ feature_method_named self.now }
     {
         self.methods.objects.feature
     }
 
-    /// The method of a machine with this name.
+    /// Returns the method of a machine with this name, and `None` if there is none.
     pub fn of_machine(&self) -> Option<MachineMethod>
         ensures { result ≡ machine_method_named self.now }
     {
         self.methods.objects.machine
     }
 
-    /// The method of `meson` with this name.
+    /// Returns the method of `meson` with this name, and `None` if there is none.
     pub fn of_meson(&self) -> Option<MesonMethod>
         ensures { result ≡ meson_method_named self.now }
     {
         self.methods.objects.meson
     }
 
-    /// The method of a program with this name.
+    /// Returns the method of a program with this name, and `None` if there is none.
     pub fn of_program(&self) -> Option<ProgramMethod>
         ensures { result ≡ program_method_named self.now }
     {
         self.methods.objects.program
     }
 
-    /// The method of an executable or a library with this name.
+    /// Returns the method of an executable or a library with this name, and `None` if there is none.
     pub fn of_build_target(&self) -> Option<TargetMethod>
         ensures { result ≡ build_target_method_named self.now }
     {
         self.methods.objects.build_target
     }
 
-    /// The method of a custom target with this name.
+    /// Returns the method of a custom target with this name, and `None` if there is none.
     pub fn of_custom_target(&self) -> Option<TargetMethod>
         ensures { result ≡ custom_target_method_named self.now }
     {
         self.methods.objects.custom_target
     }
 
-    /// The method of an output of a custom target with this name.
+    /// Returns the method of an output of a custom target with this name, and `None` if there is none.
     pub fn of_output(&self) -> Option<TargetMethod>
         ensures { result ≡ output_method_named self.now }
     {

@@ -1,4 +1,4 @@
-//! The names that the language gives a meaning to, and which texts are names.
+//! Decides which texts are names, and which names the language gives a meaning to.
 ghost use Rattle.std.specs.Prelude.{◌≡◌, IfOk};
 ghost use Rattle.std.specs.List.{list_all};
 ghost use Rattle.values.specs.language_names.Names.{begins_name, is_left_out, is_name, is_name_byte, is_predefined, predefined};
@@ -8,7 +8,7 @@ use crate::{Object, Value};
 use std::alloc::{AllocError, Global};
 use support::text_lists::is_among;
 
-/// The words that are no names.
+/// The keywords, which cannot be names.
 const KEYWORDS: [&str; 14] = [
     "true",
     "false",
@@ -26,7 +26,7 @@ const KEYWORDS: [&str; 14] = [
     "continue",
 ];
 
-/// The functions of Meson that are left out for good, in the order of the alphabet.
+/// The functions of Meson that are not supported, in alphabetical order.
 const LEFT_OUT: [&str; 21] = [
     "add_global_arguments",
     "add_global_link_arguments",
@@ -51,7 +51,8 @@ const LEFT_OUT: [&str; 21] = [
     "vcs_tag",
 ];
 
-/// Whether a name is a variable that stands for a thing of the run, as `meson`. Most names have other lengths than these.
+/// Returns whether a name is a predefined variable, such as `meson`. Most names differ from these in length, so the length is compared
+/// first.
 pub fn is_predefined(name: &str) -> bool
     ensures { result ≡ is_predefined name.now }
 {
@@ -64,8 +65,8 @@ pub fn is_predefined(name: &str) -> bool
     }
 }
 
-/// What such a name stands for: the object `meson`, or the machine. What the machine file says of the machine is asked by the methods of
-/// that object, so nothing of it is looked at here.
+/// Returns the value of a predefined variable: the object `meson`, or the machine. The methods of the machine object read the machine file
+/// later.
 pub fn predefined_value(alloc: Global, name: &str) -> Result<Value, AllocError>
     ensures { IfOk result (λ value. data_of value ≡ predefined name.now) }
 {
@@ -76,7 +77,7 @@ pub fn predefined_value(alloc: Global, name: &str) -> Result<Value, AllocError>
     }
 }
 
-/// Whether a function of this name is left out, so far or for good.
+/// Returns whether a name is a function of Meson that is not supported.
 pub fn is_left_out(name: &str) -> bool
     ensures { result ≡ is_left_out name.now }
 {
@@ -104,7 +105,7 @@ fn are_name_bytes(text: &[u8]) -> bool
     text.iter().all(|byte| is_name_byte(*byte))
 }
 
-/// Whether a text is a name: letters, digits and underscores of which a digit is not the first, and no keyword.
+/// Returns whether a text is a name: letters, digits and underscores, not beginning with a digit, and no keyword.
 pub fn is_name(text: &str) -> bool
     ensures { result ≡ is_name text.now }
 {

@@ -1,4 +1,4 @@
-//! The methods of objects by their names, for each type of the page "Reference manual".
+//! Looks methods of objects up by name, for each type of the page "Reference manual".
 ghost use Rattle.std.specs.Prelude.{◌≡◌};
 ghost use Rattle.values.specs.language_names.ObjectMethods.{build_target_method_named, compiler_method_named, configuration_method_named};
 ghost use Rattle.values.specs.language_names.ObjectMethods.{custom_target_method_named, dependency_method_named, feature_method_named};
@@ -7,26 +7,26 @@ ghost use Rattle.values.specs.language_names.ObjectMethods.{program_method_named
 
 use crate::language_names::rows::named;
 
-/// A method of the compiler, by what it gives.
+/// A method of a compiler, by what it returns.
 #[derive(Clone, Copy)]
 pub enum CompilerMethod {
-    /// Whether a check of one text is true, as `has_function`.
+    /// A check of one text, such as `has_function`, which returns a boolean.
     Check,
-    /// The same of a text inside another, as `has_member`.
+    /// A check of one text inside another, such as `has_member`, which returns a boolean.
     CheckInside,
-    /// `find_library`
+    /// `find_library`.
     FindLibrary,
-    /// `get_id`
+    /// `get_id`.
     Id,
-    /// `sizeof` and `alignment`
+    /// `sizeof` and `alignment`.
     Number,
-    /// `get_supported_arguments`
+    /// `get_supported_arguments`.
     SupportedArguments,
-    /// `version`
+    /// `version`.
     Version,
 }
 
-// The methods of the compiler.
+// The methods of a compiler.
 const COMPILER_METHODS: [(&str, CompilerMethod); 14] = [
     ("alignment", CompilerMethod::Number),
     ("check_header", CompilerMethod::Check),
@@ -48,7 +48,7 @@ const COMPILER_METHODS: [(&str, CompilerMethod); 14] = [
 ];
 
 impl CompilerMethod {
-    /// The method of a name.
+    /// Returns the method with this name, and `None` if there is none.
     pub(crate) fn from_name(name: &str) -> Option<CompilerMethod>
         ensures { result ≡ compiler_method_named name.now }
     {
@@ -56,7 +56,7 @@ impl CompilerMethod {
     }
 }
 
-/// A method of configuration data.
+/// A method of a configuration data object.
 #[derive(Clone, Copy)]
 pub enum ConfigurationMethod {
     Get,
@@ -69,7 +69,7 @@ pub enum ConfigurationMethod {
     SetQuoted,
 }
 
-// The methods of configuration data.
+// The methods of a configuration data object.
 const CONFIGURATION_METHODS: [(&str, ConfigurationMethod); 8] = [
     ("get", ConfigurationMethod::Get),
     ("get_unquoted", ConfigurationMethod::GetUnquoted),
@@ -82,7 +82,7 @@ const CONFIGURATION_METHODS: [(&str, ConfigurationMethod); 8] = [
 ];
 
 impl ConfigurationMethod {
-    /// The method of a name.
+    /// Returns the method with this name, and `None` if there is none.
     pub(crate) fn from_name(name: &str) -> Option<ConfigurationMethod>
         ensures { result ≡ configuration_method_named name.now }
     {
@@ -90,7 +90,7 @@ impl ConfigurationMethod {
     }
 }
 
-/// A method of dependencies.
+/// A method of a dependency.
 #[derive(Clone, Copy)]
 pub enum DependencyMethod {
     Found,
@@ -99,7 +99,7 @@ pub enum DependencyMethod {
 }
 
 impl DependencyMethod {
-    /// The method of a name.
+    /// Returns the method with this name, and `None` if there is none.
     pub(crate) fn from_name(name: &str) -> Option<DependencyMethod>
         ensures { result ≡ dependency_method_named name.now }
     {
@@ -112,7 +112,7 @@ impl DependencyMethod {
     }
 }
 
-/// A method of features.
+/// A method of a feature.
 #[derive(Clone, Copy)]
 pub enum FeatureMethod {
     Allowed,
@@ -122,7 +122,7 @@ pub enum FeatureMethod {
 }
 
 impl FeatureMethod {
-    /// The method of a name.
+    /// Returns the method with this name, and `None` if there is none.
     pub(crate) fn from_name(name: &str) -> Option<FeatureMethod>
         ensures { result ≡ feature_method_named name.now }
     {
@@ -136,7 +136,7 @@ impl FeatureMethod {
     }
 }
 
-/// A method of machines.
+/// A method of a machine.
 #[derive(Clone, Copy)]
 pub enum MachineMethod {
     Cpu,
@@ -146,7 +146,7 @@ pub enum MachineMethod {
 }
 
 impl MachineMethod {
-    /// The method of a name.
+    /// Returns the method with this name, and `None` if there is none.
     pub(crate) fn from_name(name: &str) -> Option<MachineMethod>
         ensures { result ≡ machine_method_named name.now }
     {
@@ -196,7 +196,7 @@ const MESON_METHODS: [(&str, MesonMethod); 13] = [
 ];
 
 impl MesonMethod {
-    /// The method of a name.
+    /// Returns the method with this name, and `None` if there is none.
     pub(crate) fn from_name(name: &str) -> Option<MesonMethod>
         ensures { result ≡ meson_method_named name.now }
     {
@@ -204,7 +204,7 @@ impl MesonMethod {
     }
 }
 
-/// A method of programs.
+/// A method of a program.
 #[derive(Clone, Copy)]
 pub enum ProgramMethod {
     Found,
@@ -213,7 +213,7 @@ pub enum ProgramMethod {
 }
 
 impl ProgramMethod {
-    /// The method of a name.
+    /// Returns the method with this name, and `None` if there is none.
     pub(crate) fn from_name(name: &str) -> Option<ProgramMethod>
         ensures { result ≡ program_method_named name.now }
     {
@@ -226,7 +226,7 @@ impl ProgramMethod {
     }
 }
 
-/// A method of targets.
+/// A method of a target.
 #[derive(Clone, Copy)]
 pub enum TargetMethod {
     FullPath,
@@ -235,7 +235,7 @@ pub enum TargetMethod {
 }
 
 impl TargetMethod {
-    /// The method of a name, of an executable or a library.
+    /// Returns the method of an executable or a library with this name, and `None` if there is none.
     pub(crate) fn build_named(name: &str) -> Option<TargetMethod>
         ensures { result ≡ build_target_method_named name.now }
     {
@@ -246,7 +246,7 @@ impl TargetMethod {
         }
     }
 
-    /// The method of a name, of a custom target.
+    /// Returns the method of a custom target with this name, and `None` if there is none.
     pub(crate) fn custom_named(name: &str) -> Option<TargetMethod>
         ensures { result ≡ custom_target_method_named name.now }
     {
@@ -258,7 +258,7 @@ impl TargetMethod {
         }
     }
 
-    /// The method of a name, of an output of a custom target.
+    /// Returns the method of an output of a custom target with this name, and `None` if there is none.
     pub(crate) fn output_named(name: &str) -> Option<TargetMethod>
         ensures { result ≡ output_method_named name.now }
     {

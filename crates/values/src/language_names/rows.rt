@@ -1,9 +1,9 @@
-//! What names stand for, row by row.
+//! Looks names up in tables of rows.
 ghost use Rattle.std.specs.Prelude.{◌≡◌, Option, None};
 ghost use Rattle.std.specs.Option.{option_or};
 ghost use Rattle.values.specs.language_names.Rows.{named_or};
 
-/// What a name stands for, by the first row that has it.
+/// Returns the entry of the first row with this name, and `None` if no row has it.
 pub(super) fn named<T: Copy>(rows: &[(&str, T)], name: &str) -> Option<T>
     ensures named { result ≡ named_or rows.now name.now None }
     ensures other { (other : Option T) → option_or result other ≡ named_or rows.now name.now other }

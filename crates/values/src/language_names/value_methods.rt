@@ -1,11 +1,11 @@
-//! The methods of values by their names, for each type of the page "Reference manual".
+//! Looks methods of values up by name, for each type of the page "Reference manual".
 ghost use Rattle.std.specs.Prelude.{◌≡◌};
 ghost use Rattle.values.specs.language_names.ValueMethods.{boolean_method_named, dictionary_method_named, integer_method_named};
 ghost use Rattle.values.specs.language_names.ValueMethods.{list_method_named, text_method_named};
 
 use crate::language_names::rows::named;
 
-/// A method of booleans.
+/// A method of a boolean.
 #[derive(Clone, Copy)]
 pub enum BooleanMethod {
     ToInt,
@@ -13,7 +13,7 @@ pub enum BooleanMethod {
 }
 
 impl BooleanMethod {
-    /// The method of a name.
+    /// Returns the method with this name, and `None` if there is none.
     pub(crate) fn from_name(name: &str) -> Option<BooleanMethod>
         ensures { result ≡ boolean_method_named name.now }
     {
@@ -25,7 +25,7 @@ impl BooleanMethod {
     }
 }
 
-/// A method of integers.
+/// A method of an integer.
 #[derive(Clone, Copy)]
 pub enum IntegerMethod {
     IsEven,
@@ -34,7 +34,7 @@ pub enum IntegerMethod {
 }
 
 impl IntegerMethod {
-    /// The method of a name.
+    /// Returns the method with this name, and `None` if there is none.
     pub(crate) fn from_name(name: &str) -> Option<IntegerMethod>
         ensures { result ≡ integer_method_named name.now }
     {
@@ -47,7 +47,7 @@ impl IntegerMethod {
     }
 }
 
-/// A method of texts.
+/// A method of a text.
 #[derive(Clone, Copy)]
 pub enum TextMethod {
     Contains,
@@ -67,7 +67,7 @@ pub enum TextMethod {
     VersionCompare,
 }
 
-// The methods of texts.
+// The methods of a text.
 const TEXT_METHODS: [(&str, TextMethod); 15] = [
     ("contains", TextMethod::Contains),
     ("startswith", TextMethod::StartsWith),
@@ -87,7 +87,7 @@ const TEXT_METHODS: [(&str, TextMethod); 15] = [
 ];
 
 impl TextMethod {
-    /// The method of a name.
+    /// Returns the method with this name, and `None` if there is none.
     pub(crate) fn from_name(name: &str) -> Option<TextMethod>
         ensures { result ≡ text_method_named name.now }
     {
@@ -95,7 +95,7 @@ impl TextMethod {
     }
 }
 
-/// A method of lists.
+/// A method of a list.
 #[derive(Clone, Copy)]
 pub enum ListMethod {
     Contains,
@@ -104,7 +104,7 @@ pub enum ListMethod {
 }
 
 impl ListMethod {
-    /// The method of a name.
+    /// Returns the method with this name, and `None` if there is none.
     pub(crate) fn from_name(name: &str) -> Option<ListMethod>
         ensures { result ≡ list_method_named name.now }
     {
@@ -117,7 +117,7 @@ impl ListMethod {
     }
 }
 
-/// A method of dictionaries.
+/// A method of a dictionary.
 #[derive(Clone, Copy)]
 pub enum DictionaryMethod {
     Get,
@@ -126,7 +126,7 @@ pub enum DictionaryMethod {
 }
 
 impl DictionaryMethod {
-    /// The method of a name.
+    /// Returns the method with this name, and `None` if there is none.
     pub(crate) fn from_name(name: &str) -> Option<DictionaryMethod>
         ensures { result ≡ dictionary_method_named name.now }
     {

@@ -1,4 +1,4 @@
-//! What a value is printed as, piece by piece.
+//! Prints a value piece by piece.
 
 ghost use Rattle.std.specs.Prelude.{◌≡◌, ◌++◌, ◌∷◌, [], codes, OnOk, IfOk, MatchOption};
 ghost use Rattle.values.specs.Prelude.{data_of, entries_of, items_of};
@@ -10,37 +10,37 @@ use crate::{Text, Value};
 use std::alloc::{AllocError, Global};
 use std::marker::Model;
 
-/// A piece of what a value is printed as.
+/// A piece of a printed value.
 #[derive(Clone, Copy)]
 pub enum Piece<'v> {
     /// A text, which may be empty.
     Text(&'v str),
-    /// An integer, which is printed in decimal.
+    /// An integer, to be printed in decimal.
     Integer(i128),
 }
 
-/// What is left of a value to be printed.
+/// The parts of a value that are still to be printed.
 ///
-/// Its pieces, one after another, are the text that the value is printed as: [`crate::printing::print`] says which. That text may be
-/// longer than any value can be, and is never held as a whole. The work is linear in the value.
+/// The pieces, one after another, are the text that [`crate::printing::print`] describes. That text may be longer than any value can be,
+/// and is never in memory as a whole. The work is linear in the size of the value.
 #[derive(Drop)]
 pub struct Printer<'v> {
-    // the next one last
+    // The next part is last.
     parts: Vec<Part<'v>>,
 }
 
-// What is left to be printed in one go.
+// A part that is still to be printed.
 #[derive(Clone, Copy)]
 enum Part<'v> {
     Text(&'v str),
-    // a value inside a list or a dictionary
+    // A value inside a list or a dictionary.
     Value(&'v Value),
-    // items of a list and its end
+    // Items of a list, and its closing bracket.
     Items {
         items: &'v [Value],
         is_first: bool,
     },
-    // entries of a dictionary and its end
+    // Entries of a dictionary, and its closing brace.
     Entries {
         keys: &'v [Text],
         values: &'v [Value],
@@ -58,7 +58,7 @@ impl<'v> Model for Printer<'v> {
 }
 
 impl<'v> Printer<'v> {
-    /// What a value is printed as.
+    /// Returns a printer of a value.
     pub fn new(alloc: Global, value: &'v Value) -> Result<Printer<'v>, AllocError>
         ensures pieces { IfOk result (λ p. p ≡ pieces (data_of value.entry.now)) }
         ensures whole { IfOk result (λ p. whole p ≡ shown (data_of value.entry.now)) }
@@ -74,7 +74,7 @@ impl<'v> Printer<'v> {
         Ok(printer)
     }
 
-    /// The next piece, or none where all is printed.
+    /// Returns the next piece, and `None` once all is printed.
     pub fn next(&mut self) -> Result<Option<Piece<'v>>, AllocError>
         ensures { IfOk result (λ r. MatchOption r (self.old ≡ []) (λ p. self.old ≡ piece_bytes p ∷ self.new)) }
     {
@@ -101,7 +101,7 @@ impl<'v> Printer<'v> {
         Ok(())
     }
 
-    // The first piece of a value inside a list or a dictionary.
+    // Returns the first piece of a value inside a list or a dictionary, and pushes the other parts of the value.
     fn open(&mut self, value: &'v Value) -> Result<Piece<'v>, AllocError>
         ensures { IfOk result (λ p. inside_pieces (data_of value.entry.now) ++ self.old ≡ piece_bytes p ∷ self.new) }
     {
@@ -136,7 +136,7 @@ impl<'v> Printer<'v> {
         }
     }
 
-    // What stands in front of the first of some items, or behind the last.
+    // Returns what is printed before the next item, or after the last one, and pushes the remaining items.
     fn next_item(&mut self, items: &'v [Value], is_first: bool) -> Result<Piece<'v>, AllocError>
         ensures { IfOk result (λ p. item_pieces is_first (items_of items.entry.now) ++ self.old ≡ piece_bytes p ∷ self.new) }
     {
@@ -151,7 +151,7 @@ impl<'v> Printer<'v> {
         Ok(Piece::Text(if is_first { "" } else { ", " }))
     }
 
-    // What stands in front of the key of the first of some entries, or behind the last.
+    // Returns what is printed before the key of the next entry, or after the last one, and pushes the remaining entries.
     fn next_entry(
         &mut self,
         keys: &'v [Text],
@@ -176,7 +176,7 @@ impl<'v> Printer<'v> {
         Ok(Piece::Text(if is_first { "'" } else { ", '" }))
     }
 
-    // A key, behind its first `'`, and its value.
+    // Pushes a key, whose opening `'` is already printed, and its value.
     fn push_entry(&mut self, key: &'v Text, value: &'v Value) -> Result<(), AllocError>
         ensures { OnOk result (self.new ≡ key.entry.now ∷ codes "' : " ∷ (inside_pieces (data_of value.entry.now) ++ self.old)) }
     {

@@ -1,4 +1,4 @@
-//! Which values have a printed text.
+//! Decides which values can be printed.
 
 ghost use Rattle.std.specs.Prelude.{◌≡◌};
 ghost use Rattle.values.specs.Prelude.{data_of, items_of};
@@ -6,7 +6,7 @@ ghost use Rattle.values.specs.printing.Printed.{is_printable, are_printable};
 
 use crate::Value;
 
-/// Whether a value is no object and holds none.
+/// Returns whether a value neither is nor contains an object.
 #[cycle(printable)]
 pub fn is_printable(value: &Value) -> bool
     ensures { result ≡ is_printable (data_of value.now) }

@@ -1,4 +1,4 @@
-//! Values printed into texts.
+//! Prints values into texts.
 
 ghost use Rattle.std.specs.Prelude.{◌≡◌, true, false, IfOk, MatchOption, Ok};
 ghost use Rattle.values.specs.Prelude.{Appends, data_of};
@@ -12,13 +12,13 @@ use crate::{Refusal, Text, Value};
 use itoa::Buffer;
 use std::alloc::{AllocError, Global};
 
-/// The text that a value is printed as.
+/// Returns the text that a value is printed as.
 ///
-/// A text stands for itself, a boolean is `true` or `false`, an integer is decimal. A list is `[a, b]` and a
-/// dictionary `{'k' : v}`; in these a text stands in `'`, and nothing in it is escaped.
+/// A text is printed as it is, a boolean as `true` or `false`, an integer in decimal. A list is `[a, b]` and a dictionary `{'k' : v}`;
+/// inside these a text is in single quotes, and nothing in it is escaped.
 ///
-/// `Refusal::Arguments` where the value is an object or holds one, else `Refusal::Limit` where the text is longer
-/// than 16,777,216 bytes. No text is made that is longer.
+/// Returns `Refusal::Arguments` if the value is an object or contains one, and otherwise `Refusal::Limit` if the text is longer than
+/// 16,777,216 bytes. No longer text is ever made.
 pub fn print(alloc: Global, value: &Value) -> Result<Result<Text, Refusal>, AllocError>
     ensures { IfOk result (λ r. r ≡ printed (data_of value.now)) }
 {
@@ -32,7 +32,7 @@ pub fn print(alloc: Global, value: &Value) -> Result<Result<Text, Refusal>, Allo
     }
 }
 
-/// What a boolean, an integer or a text is printed as; none for others. The digits of an integer come to stand in the buffer.
+/// Returns the text of a boolean, an integer or a text, and `None` for any other value. The digits of an integer are written to the buffer.
 pub fn plain_text<'v>(value: &'v Value, digits: &'v mut Buffer) -> Option<&'v str>
     ensures { MatchOption result (is_plain (data_of value.entry.now) ≡ false)
         (λ t. (is_plain (data_of value.entry.now) ≡ true) × (printed (data_of value.entry.now) ≡ Ok t.now)
@@ -47,9 +47,9 @@ pub fn plain_text<'v>(value: &'v Value, digits: &'v mut Buffer) -> Option<&'v st
     }
 }
 
-/// Puts what a value is printed as behind a text, or answers `Refusal::Limit` where it becomes longer than 16,777,216 bytes.
+/// Appends the printed value to a text, or returns `Refusal::Limit` if the text would be longer than 16,777,216 bytes.
 ///
-/// Of an object nothing is printed.
+/// An object prints as nothing.
 pub fn write(
     alloc: Global,
     text: &mut Text,
@@ -63,7 +63,7 @@ pub fn write(
     }
 }
 
-// The same, piece by piece.
+// Appends the printed value to a text, piece by piece.
 fn write_pieces(
     alloc: Global,
     text: &mut Text,
@@ -75,7 +75,7 @@ fn write_pieces(
     write_left(alloc, text, &mut printer)
 }
 
-// Puts all that is left to be printed behind a text.
+// Appends all that the printer has left to a text.
 fn write_left(
     alloc: Global,
     text: &mut Text,

@@ -1,4 +1,4 @@
-//! The first piece of a text.
+//! Finds the first piece of a text.
 
 ghost use Rattle.std.specs.Prelude.{◌≡◌, ◌<◌, ◌∷◌, [], length, MatchOption, IfSome, IsTrue, nat_eq, slice_index};
 ghost use Rattle.std.specs.List.{prefix_len, position_or_len};
@@ -6,7 +6,7 @@ ghost use Rattle.values.specs.texts.Strip.{is_blank};
 ghost use Rattle.values.specs.texts.Pieces.{parts, words, lines, is_line_end};
 ghost use Rattle.values.specs.texts.Cut.{pieces, left, lines_behind, end_length, CanCut};
 
-/// How a text is cut: at a separator, at runs of ASCII white space, or at the ends of its lines.
+/// Where a text is cut: at a separator, at runs of ASCII white space, or at line endings.
 #[derive(Clone, Copy)]
 pub enum Cut<'s> {
     At(&'s str),
@@ -15,7 +15,7 @@ pub enum Cut<'s> {
 }
 
 impl Cut<'_> {
-    /// The first piece of a text, and what is left of the text if more pieces follow.
+    /// Returns the first piece of a text, and the rest of the text if more pieces follow. Returns `None` if there is no piece.
     pub fn first<'a>(&self, text: &'a str) -> Option<(&'a str, Option<&'a str>)>
         requires { CanCut self.now }
         ensures first { MatchOption result (pieces self.now text.now ≡ [])
@@ -30,13 +30,14 @@ impl Cut<'_> {
     }
 }
 
-/// The part of a text before the first place of a separator, and the text behind that place, if there is one.
+/// Returns the part of a text before the first separator, and the text after that separator, if there is one. The separator must not be
+/// empty.
 pub fn first_part<'a>(text: &'a str, separator: &str) -> (&'a str, Option<&'a str>)
     requires { 0 < length separator.now }
     ensures first { parts separator.now text.now ≡ result.0.now ∷ left (parts separator.now) result.1 }
     ensures shorter { IfSome result.1 (λ r. length r.now < length text.now) }
 {
-    // most separators are a byte, and a search for a text takes longer to begin
+    // Most separators are one byte, and a search for a string takes longer to begin.
     if let [byte] = separator.as_bytes() {
         if byte.is_ascii() {
             return part_before(text, *byte);
@@ -48,7 +49,7 @@ pub fn first_part<'a>(text: &'a str, separator: &str) -> (&'a str, Option<&'a st
     }
 }
 
-// The same of a separator that is one ASCII character.
+// Returns the part of a text before the first separator, which is one ASCII character, and the text after it.
 fn part_before(text: &str, byte: u8) -> (&str, Option<&str>)
     requires { byte < 128 }
     ensures first { parts (byte ∷ []) text.now ≡ result.0.now ∷ left (parts (byte ∷ [])) result.1 }
@@ -62,7 +63,7 @@ fn part_before(text: &str, byte: u8) -> (&str, Option<&str>)
     (part, Some(behind))
 }
 
-// How many bytes stand before the first of this value.
+// Returns how many bytes precede the first byte with this value.
 fn length_before(bytes: &[u8], byte: u8) -> usize
     ensures { result ≡ position_or_len (λ b. nat_eq b byte) bytes.now }
 {
@@ -74,6 +75,7 @@ fn length_before(bytes: &[u8], byte: u8) -> usize
     bytes.len()
 }
 
+// Returns the first word of a text, and the rest of the text.
 fn first_word(text: &str) -> Option<(&str, Option<&str>)>
     ensures first { MatchOption result (words text.now ≡ []) (λ p. words text.now ≡ p.0.now ∷ left words p.1) }
     ensures shorter { IfSome result (λ p. IfSome p.1 (λ r. length r.now < length text.now)) }
@@ -86,6 +88,7 @@ fn first_word(text: &str) -> Option<(&str, Option<&str>)>
     Some((word, Some(rest)))
 }
 
+// Returns the first line of a text, and the rest of the text if more lines follow.
 fn first_line(text: &str) -> Option<(&str, Option<&str>)>
     ensures first { MatchOption result (lines text.now ≡ []) (λ p. lines text.now ≡ p.0.now ∷ left lines p.1) }
     ensures shorter { IfSome result (λ p. IfSome p.1 (λ r. length r.now < length text.now)) }
@@ -97,7 +100,7 @@ fn first_line(text: &str) -> Option<(&str, Option<&str>)>
     Some((line, without_end(end)))
 }
 
-// What is left behind the end of a line, if the text has one.
+// Returns the text after the line ending with which a text begins, and `None` for an empty text.
 fn without_end(text: &str) -> Option<&str>
     requires { 0 < length text.now → IsTrue (is_line_end (slice_index text.now 0)) }
     ensures lines { lines_behind text.now ≡ left lines result }
@@ -116,7 +119,7 @@ fn end_length(text: &[u8]) -> usize
     if text.starts_with(b"\r\n") { 2 } else { 1 }
 }
 
-// How many bytes of white space stand first.
+// Returns how many bytes of white space a text begins with.
 fn blank_length(bytes: &[u8]) -> usize
     ensures { result ≡ prefix_len is_blank bytes.now }
 {
@@ -128,7 +131,7 @@ fn blank_length(bytes: &[u8]) -> usize
     bytes.len()
 }
 
-// How many bytes stand before the first white space.
+// Returns how many bytes precede the first white space.
 fn word_length(bytes: &[u8]) -> usize
     ensures { result ≡ position_or_len is_blank bytes.now }
 {
@@ -140,7 +143,7 @@ fn word_length(bytes: &[u8]) -> usize
     bytes.len()
 }
 
-// How many bytes stand before the first end of a line.
+// Returns how many bytes precede the first line ending.
 fn line_length(bytes: &[u8]) -> usize
     ensures { result ≡ position_or_len is_line_end bytes.now }
 {

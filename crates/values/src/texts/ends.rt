@@ -1,4 +1,4 @@
-//! Texts without some characters at their ends.
+//! Removes characters from the ends of a text.
 
 ghost use Rattle.std.specs.Prelude.{◌≡◌, IfOk, nat_eq};
 ghost use Rattle.std.specs.HashSet.{IsFromIterResult};
@@ -8,7 +8,7 @@ ghost use Rattle.values.specs.texts.Strip.{is_blank, is_among, is_in, stripped, 
 use std::alloc::{AllocError, Global};
 use std::collections::HashSet;
 
-// Characters that are taken away.
+// The characters to remove.
 #[derive(Drop)]
 enum Set {
     Blanks,
@@ -26,15 +26,14 @@ impl Set {
     }
 }
 
-/// The text without the ASCII white space at its ends: spaces, tabs, newlines, vertical tabs, form feeds and carriage
-/// returns.
+/// Returns the text without the ASCII white space at its ends: spaces, tabs, newlines, vertical tabs, form feeds and carriage returns.
 pub fn strip(text: &str) -> &str
     ensures { result.now ≡ stripped is_blank text.now }
 {
     without_both(text, &Set::Blanks)
 }
 
-/// The text without the characters of `set` at its ends.
+/// Returns the text without the characters of `set` at its ends.
 pub fn strip_of<'a>(alloc: Global, text: &'a str, set: &str) -> Result<&'a str, AllocError>
     ensures { IfOk result (λ s. s.now ≡ stripped (is_among set.now) text.now) }
 {

@@ -1,4 +1,4 @@
-//! Texts made of pieces, within the limit of a text.
+//! Joins pieces into a text, within the limit of its length.
 
 ghost use Rattle.std.specs.Prelude.{◌≡◌, ◌++◌, map, IfOk};
 ghost use Rattle.values.specs.texts.Joined.{joined, replaced};
@@ -8,9 +8,9 @@ use crate::texts::cut::first_part;
 use crate::{Refusal, Text};
 use std::alloc::{AllocError, Global};
 
-/// The pieces in order, with `separator` between each two.
+/// Returns the pieces in order, with `separator` between each two.
 ///
-/// `Refusal::Limit` where the text is longer than 16,777,216 bytes.
+/// Returns `Refusal::Limit` if the text is longer than 16,777,216 bytes.
 pub fn join(
     alloc: Global,
     separator: &str,
@@ -33,9 +33,9 @@ pub fn join(
     Ok(Ok(made))
 }
 
-/// The text with `new` at each place where `old` stands, looked for from the left and never inside the one before.
+/// Returns the text with each occurrence of `old` replaced by `new`. Occurrences are found from the left and never overlap.
 ///
-/// `Refusal::Arguments` where `old` is empty, and `Refusal::Limit` where the result is longer than 16,777,216 bytes.
+/// Returns `Refusal::Arguments` if `old` is empty, and `Refusal::Limit` if the result is longer than 16,777,216 bytes.
 pub fn replace(
     alloc: Global,
     text: &str,
@@ -64,7 +64,7 @@ pub fn replace(
     }
 }
 
-// Two pieces behind the text, unless the text becomes too long.
+// Appends two pieces, unless the text becomes too long.
 fn push_both(
     alloc: Global,
     made: &mut Text,

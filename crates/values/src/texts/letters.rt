@@ -1,4 +1,4 @@
-//! Texts with other characters in place of their own.
+//! Replaces characters of a text by others.
 
 ghost use Rattle.std.specs.Prelude.{◌≡◌, IfOk, map, string_bytes};
 ghost use Rattle.std.specs.Char.{to_ascii_lowercase, to_ascii_uppercase};
@@ -6,21 +6,21 @@ ghost use Rattle.values.specs.texts.Letters.{underscored, underscorified};
 
 use std::alloc::{AllocError, Global};
 
-/// The text with small ASCII letters in place of capital ones.
+/// Returns the text with ASCII letters in lower case.
 pub fn to_lower(alloc: Global, text: &str) -> Result<String, AllocError>
     ensures { IfOk result (λ s. string_bytes s ≡ map to_ascii_lowercase text.now) }
 {
     text.to_ascii_lowercase(alloc)
 }
 
-/// The text with capital ASCII letters in place of small ones.
+/// Returns the text with ASCII letters in upper case.
 pub fn to_upper(alloc: Global, text: &str) -> Result<String, AllocError>
     ensures { IfOk result (λ s. string_bytes s ≡ map to_ascii_uppercase text.now) }
 {
     text.to_ascii_uppercase(alloc)
 }
 
-/// The text with one `_` in place of each character that is neither an ASCII letter nor an ASCII digit.
+/// Returns the text with one `_` in place of each character that is neither an ASCII letter nor an ASCII digit.
 pub fn underscorify(alloc: Global, text: &str) -> Result<String, AllocError>
     ensures { IfOk result (λ s. string_bytes s ≡ underscorified text.now) }
 {

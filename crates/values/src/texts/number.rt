@@ -1,4 +1,4 @@
-//! The integer that a text spells.
+//! Reads the integer that a text spells.
 
 ghost use Rattle.std.specs.Prelude.{◌≡◌};
 ghost use Rattle.std.specs.Char.{is_ascii_digit};
@@ -8,10 +8,9 @@ ghost use Rattle.values.specs.texts.Number.{integer_of, is_numeral};
 
 use crate::Refusal;
 
-/// The integer that `text` spells: digits, with one sign in front at most.
+/// Returns the integer that `text` spells: decimal digits after at most one sign.
 ///
-/// `Refusal::Arguments` where it is no such text, and `Refusal::Range` where the integer is not one of -2^127 to
-/// 2^127-1.
+/// Returns `Refusal::Arguments` for any other text, and `Refusal::Range` if the integer is not in the range from -2^127 to 2^127-1.
 pub fn to_int(text: &str) -> Result<i128, Refusal>
     ensures { result ≡ integer_of text.now }
 {
@@ -31,7 +30,7 @@ fn is_numeral(text: &[u8]) -> bool
     !digits.is_empty() && are_digits(digits)
 }
 
-/// Whether each of some bytes is a digit.
+/// Returns whether each of some bytes is a digit.
 pub fn are_digits(bytes: &[u8]) -> bool
     ensures { result ≡ list_all is_ascii_digit bytes.now }
 {

@@ -1,13 +1,13 @@
-//! Parts of a text, by places that count characters.
+//! Returns substrings by indexes that count characters.
 
 ghost use Rattle.std.specs.Prelude.{◌≡◌, ◌≤◌, ℕ, IfSome, length, drop, min, take};
 ghost use Rattle.std.specs.Str.{chars, encode_utf8_all};
 ghost use Rattle.values.specs.texts.Part.{part, place, place_or};
 
-/// The part of `text` from the character at `from` up to the one at `to`.
+/// Returns the part of `text` from the character at `from` up to the one at `to`, without the latter.
 ///
-/// A negative index counts from the end, and both are cut into range. Without `from` the part begins at the start,
-/// without `to` it goes to the end. Where it would end before it begins, it is empty.
+/// A negative index counts from the end, and both are clamped to the range. Without `from` the part begins at the start, without `to` it
+/// goes to the end. If the end is before the start, the part is empty.
 pub fn substring(text: &str, from: Option<i128>, to: Option<i128>) -> &str
     ensures { result.now ≡ part from to text.now }
 {
@@ -27,7 +27,7 @@ fn place_or(index: Option<i128>, count: usize, other: usize) -> usize
     }
 }
 
-// The place that an index names among `count`.
+// Returns the position that an index denotes among `count` characters.
 fn place(index: i128, count: usize) -> usize
     ensures { result ≡ place index count }
 {
@@ -39,7 +39,7 @@ fn place(index: i128, count: usize) -> usize
     if back { count - steps } else { steps }
 }
 
-// How many characters from the front on decide both places: none where the whole text has to be counted.
+// Returns how many characters from the start decide both positions, and `None` if the whole text has to be counted.
 fn needed(from: Option<i128>, to: Option<i128>) -> Option<usize>
     ensures { IfSome result (λ most. (count : ℕ) → (place_or from (min most count) 0 ≡ place_or from count 0)
         × (place_or to (min most count) (min most count) ≡ place_or to count count)) }
@@ -51,7 +51,7 @@ fn needed(from: Option<i128>, to: Option<i128>) -> Option<usize>
     }
 }
 
-// The number of characters, or as many of them as decide both places: a walk goes no further than these.
+// Returns the number of characters, or as many of them as decide both positions. So a walk goes no further than needed.
 fn count_for(text: &str, from: Option<i128>, to: Option<i128>) -> usize
     ensures start { place_or from result 0 ≡ place_or from (length (chars text.now)) 0 }
     ensures end { place_or to result result ≡ place_or to (length (chars text.now)) (length (chars text.now)) }
@@ -68,14 +68,14 @@ fn char_count(text: &str) -> usize
     text.chars().count()
 }
 
-// The number of characters, or `most` where there are more.
+// Returns the number of characters, or `most` if there are more.
 fn char_count_to(text: &str, most: usize) -> usize
     ensures { result ≡ min most (length (chars text.now)) }
 {
     char_count(first_chars(text, most))
 }
 
-// The text after its first `count` characters.
+// Returns the text after its first `count` characters.
 fn without_chars(text: &str, count: usize) -> &str
     ensures text { result.now ≡ encode_utf8_all (drop count (chars text.now)) }
     ensures within { length result.now ≤ length text.now }
@@ -89,7 +89,7 @@ fn without_chars(text: &str, count: usize) -> &str
     rest.as_str()
 }
 
-// The first `count` characters of a text.
+// Returns the first `count` characters of a text.
 fn first_chars(text: &str, count: usize) -> &str
     ensures { result.now ≡ encode_utf8_all (take count (chars text.now)) }
 {

@@ -1,4 +1,4 @@
-//! Texts with places, as `@0@` or `@name@`.
+//! Splits a text at its placeholders, as `@0@` or `@name@`.
 
 ghost use Rattle.std.specs.Prelude.{◌≡◌, ◌<◌, ◌≤◌, ◌++◌, ◌∷◌, [], ℕ, length, map, drop, OnOk, IfOk, IfSome, MatchOption};
 ghost use Rattle.std.specs.Char.{is_ascii_digit};
@@ -9,27 +9,27 @@ ghost use Rattle.values.specs.texts.Segments.{is_number, is_name_byte, text_segm
 use crate::texts::number::are_digits;
 use std::alloc::{AllocError, Global};
 
-/// What names the places of a text.
+/// How the placeholders of a text are named.
 #[derive(Clone, Copy)]
 pub enum Places {
     /// Digits, as in `@0@`.
     Numbers,
-    /// Letters, digits and underscores, of which no digit is the first, as in `@name@`.
+    /// Letters, digits and underscores, not beginning with a digit, as in `@name@`.
     Names,
 }
 
-/// A part of a text with places.
+/// A part of a text with placeholders.
 #[derive(Clone, Copy)]
 pub enum Segment<'t> {
-    /// What stands between places. It is not empty.
+    /// The text between placeholders. It is not empty.
     Text(&'t str),
-    /// What stands between the two `@` of a place.
+    /// The name between the two `@` of a placeholder.
     Place(&'t str),
 }
 
-/// The segments of a text, in order: its places, and what stands between them.
+/// Returns the segments of a text, in order: its placeholders, and the text between them.
 ///
-/// Places are looked for from the left, and none begins inside the one before.
+/// Placeholders are found from the left and never overlap.
 pub fn segments(alloc: Global, places: Places, text: &str) -> Result<Vec<Segment<'_>>, AllocError>
     ensures segments { IfOk result (λ ss. map segment_data ss.items ≡ segments places text.now) }
     ensures spelled { IfOk result (λ ss. flat_map spelled (map segment_data ss.items) ≡ text.now) }
@@ -39,7 +39,7 @@ pub fn segments(alloc: Global, places: Places, text: &str) -> Result<Vec<Segment
     Ok(found)
 }
 
-// Puts the segments of a text behind others.
+// Appends the segments of a text.
 fn push_segments<'t>(
     found: &mut Vec<Segment<'t>>,
     places: Places,
@@ -56,7 +56,7 @@ fn push_segments<'t>(
     push_text(found, rest)
 }
 
-/// The number that the digits of a place write, where a `usize` holds it.
+/// Returns the number that the digits of a placeholder spell, and `None` for another name or if a `usize` cannot hold the number.
 pub fn number_of(name: &str) -> Option<usize>
     ensures { result ≡ number_of name.now }
 {
@@ -72,7 +72,7 @@ pub fn number_of(name: &str) -> Option<usize>
     }
 }
 
-// The number that a byte alone writes.
+// Returns the number that one byte spells, and `None` if it is no digit.
 fn digit_of(byte: u8) -> Option<usize>
     ensures { result ≡ number_of (byte ∷ []) }
 {
@@ -89,7 +89,7 @@ fn is_number(name: &[u8]) -> bool
     !name.is_empty() && are_digits(name)
 }
 
-// Puts what stands between places behind the segments, unless it is empty.
+// Appends a text as a segment, unless it is empty.
 fn push_text<'t>(found: &mut Vec<Segment<'t>>, text: &'t str) -> Result<(), AllocError>
     ensures { OnOk result (map segment_data found.new.items ≡ map segment_data found.old.items ++ text_segments text.now) }
 {
@@ -99,7 +99,7 @@ fn push_text<'t>(found: &mut Vec<Segment<'t>>, text: &'t str) -> Result<(), Allo
     Ok(())
 }
 
-// What stands before the first place of a text, what names the place, and what stands behind it.
+// Returns the text before the first placeholder, the name of the placeholder, and the text after it.
 fn first_place(places: Places, text: &str) -> Option<(&str, &str, &str)>
     ensures first { MatchOption result (segments places text.now ≡ text_segments text.now)
         (λ p. segments places text.now ≡ text_segments p.0.now ++ (place p.1.now ∷ segments places p.2.now)) }
@@ -113,7 +113,7 @@ fn first_place(places: Places, text: &str) -> Option<(&str, &str, &str)>
     Some((before, &rest[1..count + 1], &rest[count + 2..]))
 }
 
-// How many bytes stand before the first place.
+// Returns how many bytes precede the first placeholder.
 fn bytes_before_place(places: Places, text: &[u8]) -> usize
     ensures within { result ≤ length text.now }
     ensures before { (k : ℕ) → k < result → place_length places (drop k text.now) ≡ 0 }
@@ -127,7 +127,7 @@ fn bytes_before_place(places: Places, text: &[u8]) -> usize
     text.len()
 }
 
-// How many bytes name the place with which a text begins; none where no place begins there.
+// Returns the length of the name if a text begins with a placeholder, and 0 otherwise.
 fn place_length(places: Places, text: &[u8]) -> usize
     ensures { result ≡ place_length places text.now }
 {
@@ -145,7 +145,7 @@ fn place_length(places: Places, text: &[u8]) -> usize
     }
 }
 
-// How many bytes of what names a place stand first.
+// Returns how many bytes at the start of a text can name a placeholder.
 fn name_length(places: Places, bytes: &[u8]) -> usize
     ensures count { result ≡ name_length places bytes.now }
     ensures within { result ≤ length bytes.now }
@@ -165,7 +165,7 @@ fn name_length(places: Places, bytes: &[u8]) -> usize
     }
 }
 
-/// How many ASCII digits stand first.
+/// Returns how many ASCII digits a text begins with.
 pub fn digit_count(bytes: &[u8]) -> usize
     ensures count { result ≡ prefix_len is_ascii_digit bytes.now }
     ensures within { result ≤ length bytes.now }
@@ -178,7 +178,7 @@ pub fn digit_count(bytes: &[u8]) -> usize
     bytes.len()
 }
 
-// How many letters, digits and underscores stand first.
+// Returns how many letters, digits and underscores a text begins with.
 fn name_count(bytes: &[u8]) -> usize
     ensures count { result ≡ prefix_len is_name_byte bytes.now }
     ensures within { result ≤ length bytes.now }

@@ -1,4 +1,4 @@
-//! Texts cut into pieces, which are slices of the text.
+//! Splits a text into pieces, which are slices of it.
 
 ghost use Rattle.std.specs.Prelude.{◌≡◌, [], map, false, All, IfOk, MatchResult, Ok, Err};
 ghost use Rattle.values.specs.texts.Pieces.{words, lines, split_at, within_items};
@@ -12,10 +12,10 @@ use crate::texts::cut::Cut;
 use std::alloc::{AllocError, Global};
 use support::limits::ITEMS;
 
-/// The parts of `text` between the places where `separator` stands: the method `split` with an argument.
+/// Returns the parts of `text` between separators, as the method `split` with an argument does.
 ///
-/// It is looked for from the left, and never inside the one before. Empty parts are kept. `Refusal::Arguments` where
-/// the separator is empty, and `Refusal::Limit` where there are more than 65,536 parts.
+/// Separators are found from the left and never overlap. Empty parts are kept. Returns `Refusal::Arguments` if the separator is empty, and
+/// `Refusal::Limit` if there are more than 65,536 parts.
 pub fn split_at<'a>(
     alloc: Global,
     text: &'a str,
@@ -23,7 +23,7 @@ pub fn split_at<'a>(
 ) -> Result<Result<Vec<&'a str>, Refusal>, AllocError>
     ensures parts { IfOk result (λ r. pieces_in r ≡ split_at text.now separator.now) }
 
-    // Laws of the definition: nothing gets lost, and each place of the separator is found.
+    // Laws of the definition: the joined parts are the text, and no part contains the separator.
     ensures whole { IfOk result (λ r. IfOk (pieces_in r) (λ found. joined separator.now found ≡ text.now)) }
     ensures apart { IfOk result (λ r. IfOk (pieces_in r) (All (λ part. contains part separator.now ≡ false))) }
 {
@@ -33,19 +33,19 @@ pub fn split_at<'a>(
     cut_up(alloc, text, Cut::At(separator))
 }
 
-/// The words of `text` between its ASCII white space: the method `split` without an argument.
+/// Returns the words of `text` between its ASCII white space, as the method `split` without an argument does.
 ///
-/// `Refusal::Limit` where there are more than 65,536 words.
+/// Returns `Refusal::Limit` if there are more than 65,536 words.
 pub fn split_blank(alloc: Global, text: &str) -> Result<Result<Vec<&str>, Refusal>, AllocError>
     ensures { IfOk result (λ r. pieces_in r ≡ within_items (words text.now)) }
 {
     cut_up(alloc, text, Cut::Blanks)
 }
 
-/// The lines of `text`: the method `splitlines`.
+/// Returns the lines of `text`, as the method `splitlines` does.
 ///
-/// A line ends at a newline, a carriage return, or both in this order. Behind the last end there is no line.
-/// `Refusal::Limit` where there are more than 65,536 lines.
+/// A line ends at a newline, a carriage return, or both in this order. There is no line after the last line ending. Returns
+/// `Refusal::Limit` if there are more than 65,536 lines.
 pub fn split_lines(alloc: Global, text: &str) -> Result<Result<Vec<&str>, Refusal>, AllocError>
     ensures { IfOk result (λ r. pieces_in r ≡ within_items (lines text.now)) }
 {
@@ -67,7 +67,7 @@ fn cut_up<'a>(
     }
 }
 
-// Puts the pieces of a text where there is none yet.
+// Appends the pieces of a text to an empty list.
 fn push_pieces<'a>(
     found: &mut Vec<&'a str>,
     text: &'a str,

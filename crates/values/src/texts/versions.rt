@@ -1,4 +1,4 @@
-//! Versions as Meson compares them: `1.10` is above `1.9`, and no number is ever cut.
+//! Compares versions as Meson does: `1.10` is greater than `1.9`, and numbers of any length are compared exactly.
 
 ghost use Rattle.std.specs.Prelude.{◌≡◌, ◌≢◌, Some, slice_get, ◌<◌, ◌≤◌, ◌∷◌, [], length, drop, MatchOption, IfSome};
 ghost use Rattle.std.specs.Ordering.{nat_cmp};
@@ -11,7 +11,7 @@ ghost use Rattle.values.specs.texts.Code.{run_in, IsWellFormed};
 use crate::texts::digit_count;
 use std::cmp::Ordering;
 
-/// What a condition asks of a version, beside the one that it names.
+/// The relation that a condition requires between a version and the one that it names.
 #[derive(Clone, Copy)]
 enum Relation {
     AtLeast,
@@ -22,19 +22,19 @@ enum Relation {
     Below,
 }
 
-/// A run of a version: decimal digits or ASCII letters, at least one.
+/// A run of a version: at least one decimal digit, or at least one ASCII letter.
 #[derive(Clone, Copy)]
 enum Run<'a> {
     Number(&'a [u8]),
     Word(&'a [u8]),
 }
 
-/// Whether `version` meets `condition`: one of `>= <= != == = > <` (none means `==`), blanks and a version.
+/// Returns whether `version` meets `condition`: one of `>= <= != == = > <` (none means `==`), blanks and a version.
 ///
-/// A version is read as its runs of digits and runs of ASCII letters; all else separates them. The runs are
-/// compared in order. A run of digits counts as the whole number that it spells, however long, and is above a
-/// run of letters; letters are compared by bytes. Where all agree, the version with more runs is above. This is
-/// `version_compare` of the page "Reference manual", type `str`. It takes no memory and never fails.
+/// A version is a sequence of runs of digits and runs of ASCII letters; all other bytes separate runs. The runs are compared in order. A
+/// run of digits counts as the integer that it spells, of any length, and is greater than a run of letters; letters are compared by bytes.
+/// If all runs agree, the version with more runs is greater. This is `version_compare` of the page "Reference manual", type `str`. It
+/// allocates nothing and never fails.
 pub fn version_compare(version: &str, condition: &str) -> bool
     ensures { result ≡ meets version.now condition.now }
 {
@@ -57,7 +57,7 @@ impl Relation {
     }
 }
 
-// The relation, and what stands after its sign.
+// Returns the relation of a condition, and the text after its operator.
 fn split_condition(condition: &[u8]) -> (Relation, &[u8])
     ensures relation { result.0 ≡ relation_of condition.now }
     ensures version { result.1.now ≡ drop (sign_length condition.now) condition.now }
@@ -96,7 +96,7 @@ fn compare_versions(version: &[u8], other: &[u8]) -> Ordering
     }
 }
 
-// The first run of a version, and what follows it.
+// Returns the first run of a version, and the rest of the version. Returns `None` if there is no run.
 fn first_run(version: &[u8]) -> Option<(Run<'_>, &[u8])>
     ensures first { MatchOption result (runs version.now ≡ []) (λ r. runs version.now ≡ run_in r.0 ∷ runs r.1.now) }
     ensures digits { IfSome result (λ r. IsWellFormed r.0) }
@@ -114,7 +114,7 @@ fn first_run(version: &[u8]) -> Option<(Run<'_>, &[u8])>
     Some((Run::Word(word), rest))
 }
 
-// A version from its first run on.
+// Returns a version from its first run on.
 fn without_separators(version: &[u8]) -> &[u8]
     ensures same { runs result.now ≡ runs version.now }
     ensures begins { prefix_len is_ascii_digit result.now ≡ 0 → prefix_len is_ascii_alphabetic result.now ≡ 0 → result.now ≡ [] }
@@ -130,7 +130,7 @@ fn without_separators(version: &[u8]) -> &[u8]
     from
 }
 
-// How many ASCII letters a text begins with.
+// Returns how many ASCII letters a text begins with.
 fn letter_count(bytes: &[u8]) -> usize
     ensures count { result ≡ prefix_len is_ascii_alphabetic bytes.now }
     ensures within { result ≤ length bytes.now }
@@ -143,7 +143,7 @@ fn letter_count(bytes: &[u8]) -> usize
     bytes.len()
 }
 
-// Numbers by what they spell, words by bytes, a number above a word.
+// Compares two runs: numbers by value, words by bytes; a number is greater than a word.
 fn compare_runs(run: Run<'_>, other: Run<'_>) -> Ordering
     requires number { IsWellFormed run }
     requires other_number { IsWellFormed other }
@@ -157,7 +157,7 @@ fn compare_runs(run: Run<'_>, other: Run<'_>) -> Ordering
     }
 }
 
-// The order of the numbers that two texts of digits spell: of two without zeros in front, the longer is above.
+// Compares the numbers that two texts of digits spell. Without leading zeros, the longer one is greater.
 fn compare_numbers(digits: &[u8], other: &[u8]) -> Ordering
     requires digits { AllPass is_ascii_digit digits.now }
     requires other_digits { AllPass is_ascii_digit other.now }

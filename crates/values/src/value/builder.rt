@@ -1,4 +1,4 @@
-//! Dictionaries as they are made.
+//! Builds dictionaries.
 
 ghost use Rattle.std.specs.Prelude.{◌≡◌, IfSome, option_map, max, ◌<◌, ◌≤◌, ◌+◌, ◌^◌, length, OnOk, IfOk, is_some, Ok, Err};
 ghost use Rattle.std.specs.Prelude.{option_and_then, if◌then◌else◌};
@@ -16,14 +16,14 @@ use crate::text::Text;
 use std::alloc::{AllocError, Global};
 use std::marker::Model;
 
-/// A dictionary that may pass the limits while it is made; `finish` looks at them once.
+/// A dictionary that may pass the limits while it is built. `finish` checks them once.
 #[derive(Drop)]
 pub struct DictionaryBuilder {
     keys: Keys,
     values: Vec<Value>,
-    // wide enough for the weight of all that memory holds
+    // Wide enough for the weight of all that fits in memory.
     weight: u128,
-    // of the deepest value, where none was replaced since it was counted
+    // The depth of the deepest value, or `None` after one of the deepest was replaced by a shallower one.
     depth: Option<u32>,
 }
 
@@ -64,6 +64,7 @@ impl Dictionary {
 }
 
 impl DictionaryBuilder {
+    /// Returns a builder without entries.
     pub fn new(alloc: Global) -> DictionaryBuilder
         ensures { result ≡ no_entries }
     {
@@ -75,7 +76,7 @@ impl DictionaryBuilder {
         }
     }
 
-    /// Goes on with a dictionary that is there.
+    /// Returns a builder that continues with a dictionary.
     pub fn of_dictionary(dictionary: Dictionary) -> DictionaryBuilder
         ensures same { result ≡ dictionary }
         ensures within { entries_weight result < 2 ^ 61 }
@@ -83,7 +84,7 @@ impl DictionaryBuilder {
         dictionary.into_builder()
     }
 
-    /// Goes on with a copy of a dictionary.
+    /// Returns a builder that continues with a copy of a dictionary.
     pub fn copy_of(alloc: Global, dictionary: &Dictionary) -> Result<DictionaryBuilder, AllocError>
         ensures same { IfOk result (λ b. b ≡ dictionary.now) }
         ensures within { IfOk result (λ b. entries_weight b < 2 ^ 61) }
@@ -93,14 +94,14 @@ impl DictionaryBuilder {
         Ok(copy)
     }
 
-    /// Whether there is a value at a key.
+    /// Returns whether a key is present.
     pub fn contains_key(&self, key: &Text) -> bool
         ensures { result ≡ is_some (find key.now self.now) }
     {
         self.keys.get_index_of(key).is_some()
     }
 
-    /// Puts a value at a key: a key that is there keeps its place, another goes last.
+    /// Sets a key to a value. A key that is present keeps its place; a new key goes last.
     pub fn put(&mut self, key: Text, value: Value) -> Result<(), AllocError>
         requires { entries_weight self.old + (length key + 1) + weight (data_of value) < 2 ^ 126 }
         ensures { OnOk result (self.new ≡ put key (data_of value) self.old) }
@@ -108,7 +109,7 @@ impl DictionaryBuilder {
         let key_weight = key.as_str().len() as u128 + 1;
         let weight = value.weight() as u128;
         let depth = value.depth();
-        // a value that goes last has its room before its key is there, so that the key is hashed once
+        // Room for a new value is reserved before its key is inserted, so that the key is hashed once.
         self.values.reserve(1)?;
         let (index, is_new) = self.keys.insert_full(key)?;
         if is_new {
@@ -125,7 +126,7 @@ impl DictionaryBuilder {
         Ok(())
     }
 
-    /// Puts the entries of a dictionary, in their order.
+    /// Sets the entries of a dictionary, in their order.
     #[inline(always)]
     pub fn put_all(&mut self, dictionary: &Dictionary) -> Result<(), AllocError>
         requires { entries_weight self.old < 2 ^ 125 }
@@ -141,7 +142,7 @@ impl DictionaryBuilder {
         Ok(())
     }
 
-    /// The dictionary, or `Refusal::Limit` where it is too large.
+    /// Returns the dictionary, or `Refusal::Limit` if it is too large.
     #[inline(always)]
     pub fn finish(self) -> Result<Dictionary, Refusal>
         ensures { result ≡ (if entries_fit self then Ok self else Err refusal.Limit) }
@@ -165,15 +166,15 @@ impl DictionaryBuilder {
     }
 }
 
-// The depth with one more value, where it was counted before.
+// Returns the depth with one more value, if the depth is known.
 fn deeper(depth: Option<u32>, more: u32) -> Option<u32>
     ensures { result ≡ option_map (λ d. max d more) depth }
 {
     Some(depth?.max(more))
 }
 
-// The depth with a value in place of another, where it was counted before. Where one of the deepest has gone, it is counted
-// again in the end.
+// Returns the depth after a value is replaced by another, if the depth is known. Returns `None` if the deepest value may have gone; then
+// `finish` counts again.
 fn replaced_depth(depth: Option<u32>, old: u32, new: u32) -> Option<u32>
     ensures { result ≡ option_and_then (replaced_depth old new) depth }
 {
@@ -187,7 +188,7 @@ fn replaced_depth(depth: Option<u32>, old: u32, new: u32) -> Option<u32>
     }
 }
 
-// The depth as it was counted, or counted now.
+// Returns the depth if it is known, and otherwise counts it.
 fn counted_depth(depth: Option<u32>, values: &[Value]) -> u32
     requires counted { IfSome depth (λ d. d ≡ items_depth (items_of values.now)) }
     requires small { IfSome depth (λ d. d ≤ 64) }

@@ -1,4 +1,4 @@
-//! Values that are taken apart.
+//! Takes values apart.
 ghost use Rattle.std.specs.Prelude.{◌≡◌};
 ghost use Rattle.values.specs.Content.{content_of};
 
@@ -12,12 +12,12 @@ pub enum Content {
     Text(Text),
     List(Rc<List>),
     Dictionary(Rc<Dictionary>),
-    /// It was none of these, and is let go.
+    /// The value had another type, and was dropped.
     Other,
 }
 
 impl Value {
-    /// The text, the list or the dictionary that it is.
+    /// Returns the text, the list or the dictionary of the value, and `Other` for another type.
     #[inline(always)]
     pub fn into_content(self) -> Content
         ensures { result ≡ content_of self }

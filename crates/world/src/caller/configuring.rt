@@ -1,4 +1,4 @@
-//! What a function makes of configuration data.
+//! Changes configuration data for a function.
 ghost use Rattle.template.specs.ConfigData.{content_of};
 ghost use Rattle.world.specs.Configuring.{add_configuration, copy_configuration, freeze_configured, merge_configured};
 ghost use Rattle.world.specs.Configuring.{set_configured, set_quoted};
@@ -14,7 +14,7 @@ impl<'a, T: Tree, O: Outputs> Caller<'a, T, O> {
     ghost use Rattle.world.specs.Answering.{IsConfigured};
     ghost use Rattle.world.specs.Store.{world_of};
 
-    // What a change of configuration data came to, or its stop.
+    // Returns the result of a change of configuration data, or stops with its refusal.
     fn configure(&self, answer: Result<(), SetStop>) -> Result<(), Stop>
         ensures { IsConfigured (world_of self.now.store.now) answer result }
     {
@@ -25,7 +25,7 @@ impl<'a, T: Tree, O: Outputs> Caller<'a, T, O> {
         }
     }
 
-    /// Keeps further configuration data, and gives their number.
+    /// Adds configuration data, and returns its number.
     pub fn add_configuration(&mut self, values: ConfigData) -> Result<usize, Stop>
         ensures { Does T.seen O.seen (λ n. n) (add_configuration values) self.old result self.new }
     {
@@ -33,7 +33,7 @@ impl<'a, T: Tree, O: Outputs> Caller<'a, T, O> {
         Ok(number)
     }
 
-    /// Keeps a copy of the configuration data with a number, which may be changed, and gives its own number.
+    /// Adds a copy of the configuration data with a number, which is not frozen, and returns the number of the copy.
     pub fn copy_configuration(&mut self, number: usize) -> Result<usize, Stop>
         ensures { Does T.seen O.seen (λ n. n) (copy_configuration number) self.old result self.new }
     {
@@ -41,7 +41,7 @@ impl<'a, T: Tree, O: Outputs> Caller<'a, T, O> {
         self.add_configuration(copy)
     }
 
-    /// Gives a name a value in the data with a number, or refuses the call where they are frozen.
+    /// Sets a name to a value in the data with a number, or refuses the call if the data is frozen (E20).
     pub fn set_configured(
         &mut self,
         number: usize,
@@ -54,7 +54,7 @@ impl<'a, T: Tree, O: Outputs> Caller<'a, T, O> {
         self.configure(answer)
     }
 
-    /// Gives a name a text in quotes in the data with a number, or refuses the call where they are frozen.
+    /// Sets a name to a text in quotes in the data with a number, or refuses the call if the data is frozen (E20).
     pub fn set_quoted(&mut self, number: usize, name: &str, text: &str) -> Result<(), Stop>
         ensures { Does T.seen O.seen (λ u. u) (set_quoted number name.now text.now) self.old result self.new }
     {
@@ -62,7 +62,7 @@ impl<'a, T: Tree, O: Outputs> Caller<'a, T, O> {
         self.configure(answer)
     }
 
-    /// Gives each name of other data the value that it has there, in the data with a number, or refuses the call where these are frozen.
+    /// Sets each name of other data to its value there, in the data with a number, or refuses the call if that data is frozen (E20).
     pub fn merge_configured(&mut self, number: usize, others: &ConfigData) -> Result<(), Stop>
         ensures { Does T.seen O.seen (λ u. u) (merge_configured number others.now) self.old result self.new }
     {
@@ -70,7 +70,7 @@ impl<'a, T: Tree, O: Outputs> Caller<'a, T, O> {
         self.configure(answer)
     }
 
-    /// Lets no call change the data with a number from now on.
+    /// Freezes the data with a number: no later call may change it.
     pub fn freeze_configured(&mut self, number: usize) -> Result<(), Stop>
         ensures { Does T.seen O.seen (λ u. u) (freeze_configured number) self.old result self.new }
     {

@@ -1,4 +1,4 @@
-//! What a function declares of the project.
+//! Declares for a function what the project has.
 ghost use Rattle.std.specs.Prelude.{◌≡◌, Result};
 ghost use Rattle.build.specs.edge.Texts.{texts};
 ghost use Rattle.build.specs.project.View.{answer_view, install_view, test_view};
@@ -17,7 +17,7 @@ use build::{Facts, Target};
 use ports::{Outputs, Tree};
 use support::faults::Refusal;
 
-/// The refusal that one of the project is.
+/// Returns the refusal of a run for that of the project.
 pub fn of_project(refusal: build::project::Refusal) -> Refusal
     ensures { result ≡ of_project refusal }
 {
@@ -34,7 +34,7 @@ pub fn of_project(refusal: build::project::Refusal) -> Refusal
 impl<'a, T: Tree, O: Outputs> Caller<'a, T, O> {
     ghost use Rattle.world.specs.Caller.{Does, state_of};
 
-    /// What the project answered, or the stop of its refusal, with what that is about.
+    /// Returns what the project returned, or stops with its refusal and detail.
     pub fn allow<A>(&self, answer: Result<A, Refused>) -> Result<A, Stop>
         ensures { IsAllowed (world_of self.now.store.now) answer result }
     {
@@ -44,7 +44,7 @@ impl<'a, T: Tree, O: Outputs> Caller<'a, T, O> {
         }
     }
 
-    /// Begins the project, of which nothing is declared yet.
+    /// Begins the project, with nothing declared yet.
     pub fn begin(&mut self, facts: Facts) -> Result<(), Stop>
         ensures { Does T.seen O.seen (λ u. u) (begin_project (facts_view facts)) self.old result self.new }
     {
@@ -52,7 +52,7 @@ impl<'a, T: Tree, O: Outputs> Caller<'a, T, O> {
         Ok(())
     }
 
-    /// Adds a target and gives its number, or refuses the call as the project does.
+    /// Adds a target and returns its number, or refuses the call as the project does.
     pub fn add_target(&mut self, target: Target) -> Result<usize, Stop>
         ensures { Does T.seen O.seen (λ n. n) (add_target (target_view target)) self.old result self.new }
     {
@@ -60,8 +60,8 @@ impl<'a, T: Tree, O: Outputs> Caller<'a, T, O> {
         self.allow(answer)
     }
 
-    /// Takes the path of a file of a folder that `configure_file` makes, or refuses the call as the project does. So begins the deed
-    /// `make`, and who calls this has to end it.
+    /// Reserves the path of a file of a folder that `configure_file` makes, or refuses the call as the project does. This begins the deed
+    /// `make`, and the caller has to finish it.
     pub fn take_output(&mut self, folder: &str, name: &str) -> Result<(), Stop>
         ensures { Acts (λ u. u) (λ files. taken folder.now name.now)
             (state_of T.seen O.seen self.old) result (state_of T.seen O.seen self.new) }
@@ -70,7 +70,7 @@ impl<'a, T: Tree, O: Outputs> Caller<'a, T, O> {
         self.allow(answer)
     }
 
-    /// Adds words to those of all compile commands, or refuses the call as the project does.
+    /// Adds arguments to all compile commands, or refuses the call as the project does.
     pub fn add_arguments(&mut self, words: &[String]) -> Result<(), Stop>
         ensures { Does T.seen O.seen (λ u. u) (add_arguments (texts words.now)) self.old result self.new }
     {
@@ -78,7 +78,7 @@ impl<'a, T: Tree, O: Outputs> Caller<'a, T, O> {
         self.allow(answer)
     }
 
-    /// Adds words to those of all link commands, or refuses the call as the project does.
+    /// Adds arguments to all link commands, or refuses the call as the project does.
     pub fn add_link_arguments(&mut self, words: &[String]) -> Result<(), Stop>
         ensures { Does T.seen O.seen (λ u. u) (add_link_arguments (texts words.now)) self.old result self.new }
     {
@@ -86,7 +86,7 @@ impl<'a, T: Tree, O: Outputs> Caller<'a, T, O> {
         self.allow(answer)
     }
 
-    /// Notes what a call of `dependency` answered.
+    /// Records the result of a call of `dependency`.
     pub fn add_dependency(&mut self, answer: Answer) -> Result<(), Stop>
         ensures { Does T.seen O.seen (λ u. u) (add_dependency (answer_view answer)) self.old result self.new }
     {
@@ -94,7 +94,7 @@ impl<'a, T: Tree, O: Outputs> Caller<'a, T, O> {
         Ok(())
     }
 
-    /// Notes a file that is installed.
+    /// Records a file to be installed.
     pub fn add_install(&mut self, install: Install) -> Result<(), Stop>
         ensures { Does T.seen O.seen (λ u. u) (add_install (install_view install)) self.old result self.new }
     {
@@ -102,7 +102,7 @@ impl<'a, T: Tree, O: Outputs> Caller<'a, T, O> {
         Ok(())
     }
 
-    /// Notes a test.
+    /// Records a test.
     pub fn add_test(&mut self, test: Test) -> Result<(), Stop>
         ensures { Does T.seen O.seen (λ u. u) (add_test (test_view test)) self.old result self.new }
     {

@@ -1,4 +1,4 @@
-//! Holds the arguments of a call against its row, and refuses them.
+//! Checks the arguments of a call by its row.
 ghost use Rattle.arguments.specs.Arguments.{arguments_data};
 ghost use Rattle.arguments.specs.RowView.{row_data};
 ghost use Rattle.world.specs.Answering.{IsPassed};
@@ -13,7 +13,7 @@ use ports::{Outputs, Tree};
 impl<'a, T: Tree, O: Outputs> Caller<'a, T, O> {
     ghost use Rattle.world.specs.Caller.{Does};
 
-    /// What the arguments say, or the stop of their refusal, with what that is about.
+    /// Returns what the arguments say, or stops with their refusal and its detail.
     pub fn pass<A>(&self, answer: Result<A, Refused>) -> Result<A, Stop>
         ensures { IsPassed (world_of self.now.store.now) answer result }
     {
@@ -23,7 +23,7 @@ impl<'a, T: Tree, O: Outputs> Caller<'a, T, O> {
         }
     }
 
-    /// Refuses a call whose arguments are not what its row says, and tells what does not fit.
+    /// Refuses a call whose arguments do not fit its row, and reports what does not fit.
     pub fn fit(&self, row: &Row, arguments: &Arguments) -> Result<(), Stop>
         ensures { Does T.seen O.seen (λ u. u) (fit (row_data row.now) (arguments_data arguments.now)) self.now result self.now }
     {

@@ -1,4 +1,4 @@
-//! Where a call stands.
+//! Describes the place of a call.
 ghost use Rattle.std.specs.Prelude.{◌≡◌};
 ghost use Rattle.world.specs.Here.{here_of};
 ghost use Rattle.world.specs.HereView.{here_view};
@@ -8,25 +8,25 @@ use build::Linked;
 use ports::{Outputs, Tree};
 use std::alloc::Global;
 
-/// The roots, the present folder and the targets so far.
+/// The place of a call: the roots, the present folder and the targets so far.
 #[derive(Clone, Copy)]
 pub struct Here<'a> {
     pub alloc: Global,
-    /// An absolute path, as is `build_root`.
+    /// An absolute path, like `build_root`.
     pub source_root: &'a str,
     pub build_root: &'a str,
-    /// How many folders the build folder lies below the source root.
+    /// How many levels the build directory is below the source root.
     pub depth: usize,
-    /// The folder of the definition file, `""` for the root.
+    /// The folder of the build file, `""` for the root.
     pub folder: &'a str,
-    /// The targets before the call.
+    /// The targets declared before the call.
     pub earlier: &'a [Linked],
 }
 
 impl<'a, T: Tree, O: Outputs> Caller<'a, T, O> {
     ghost use Rattle.world.specs.Caller.{state_of};
 
-    /// Where the call stands.
+    /// Returns the place of the call.
     pub fn here(&self) -> Here<'_>
         ensures { here_view result ≡ here_of (state_of T.seen O.seen self.now).world.facts }
     {

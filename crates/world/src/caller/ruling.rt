@@ -16,7 +16,7 @@ use support::faults::Refusal;
 impl<'a, T: Tree, O: Outputs> Caller<'a, T, O> {
     ghost use Rattle.world.specs.Caller.{Does};
 
-    /// Refuses the call as this, since this text breaks the rule. The words are made only here.
+    /// Refuses the call with this refusal, since this text breaks the rule. Only here the message is made.
     pub fn refuse_for<A>(&self, refusal: Refusal, rule: Rule, text: &str) -> Result<A, Stop>
         ensures { Refuses (fault_here (world_of self.now.store.now) refusal (broken rule text.now)) result }
     {
@@ -24,14 +24,14 @@ impl<'a, T: Tree, O: Outputs> Caller<'a, T, O> {
         self.refuse(refusal, detail.as_str())
     }
 
-    /// Refuses the call's arguments, since this text breaks the rule, or the keyword of this name.
+    /// Refuses the call's arguments, since this text, or the keyword with this name, breaks the rule.
     pub fn refuse_by<A>(&self, rule: Rule, text: &str) -> Result<A, Stop>
         ensures { Refuses (fault_here (world_of self.now.store.now) ArgumentsRefused (broken rule text.now)) result }
     {
         self.refuse_for(Refusal::Arguments, rule, text)
     }
 
-    /// What an operation on values answered, or the stop of its refusal; where that is of the arguments, this text breaks the rule.
+    /// Returns the value of an operation on values, or stops with its refusal. If its arguments are refused, this text breaks the rule.
     pub fn answer_by<A>(
         &self,
         rule: Rule,
@@ -47,7 +47,7 @@ impl<'a, T: Tree, O: Outputs> Caller<'a, T, O> {
         }
     }
 
-    /// Refuses the call unless the rule is kept, which else this text breaks, or the keyword of this name.
+    /// Refuses the call's arguments unless `is_so` is true: otherwise this text, or the keyword with this name, breaks the rule.
     pub fn obey(&self, is_so: bool, rule: Rule, text: &str) -> Result<(), Stop>
         ensures { Does T.seen O.seen (λ u. u) (obeyed is_so rule text.now) self.now result self.now }
     {

@@ -1,4 +1,4 @@
-//! What stands at the path of a definition file.
+//! Looks at the path of a build file.
 ghost use Rattle.std.specs.Prelude.{◌≡◌, ℕ, List, nat_le, length, IfOk};
 ghost use Rattle.ports.specs.Endings.{HasRoom as HasRoomOf};
 ghost use Rattle.ports.specs.Tree.{bytes_at, Stays};
@@ -15,21 +15,21 @@ use crate::stop::Stop;
 use ports::{Outputs, Tree};
 use std::alloc::Global;
 
-/// The most bytes of a definition file.
+/// The most bytes of a build file.
 pub const MOST_BYTES: u64 = support::limits::TEXT_BYTES as u64;
 
-/// What stands at the path of a definition file.
+/// What is at the path of a build file.
 #[derive(Drop)]
 pub enum Found {
     /// There is no file.
     Nothing,
-    /// A file of more bytes than a definition file may have.
+    /// A file that is longer than a build file may be.
     TooLong,
     /// All bytes of a file.
     Bytes(Vec<u8>),
 }
 
-// What a file is that has so many bytes.
+// Returns the bytes of a file of this size, or `TooLong`.
 fn content<T: Tree>(alloc: Global, tree: &mut T, path: &str, size: u64) -> Result<Found, Stop>
     requires { HasRoomOf (T.seen tree.old).failures }
     ensures found { (files : List (List ℕ × List ℕ)) → Holds (T.seen tree.old) files → size ≡ length (bytes_at files path.now)
@@ -45,7 +45,7 @@ fn content<T: Tree>(alloc: Global, tree: &mut T, path: &str, size: u64) -> Resul
     Ok(Found::Bytes(bytes))
 }
 
-/// Looks at the path of a definition file, which counts as looked at. No more bytes are read than such a file may have.
+/// Looks at the path of a build file, which counts as looked at. No more bytes are read than a build file may have.
 pub fn find<T: Tree, O: Outputs>(caller: &mut Caller<'_, T, O>, path: &str) -> Result<Found, Stop>
     requires { MayFail T.seen O.seen caller.old }
     ensures { Does T.seen O.seen found_in (find path.now) caller.old result caller.new }

@@ -1,4 +1,4 @@
-//! The bytes of a definition file.
+//! Reads the bytes of a build file.
 ghost use Rattle.std.specs.Prelude.{◌≡◌, ℕ, ◌≤◌, List, length, take, IfOk};
 ghost use Rattle.ports.specs.Endings.{HasRoom, ended};
 ghost use Rattle.ports.specs.Reading.{GivenWhole};
@@ -13,7 +13,7 @@ use std::alloc::Global;
 use support::faults::Refusal;
 use syntax::fault::FaultKind;
 
-// Reads until the buffer is full or the file ends, and says how many bytes it read.
+// Reads until the buffer is full or the file ends, and returns how many bytes it read.
 fn fill<T: Tree>(tree: &mut T, path: &str, buffer: &mut [u8]) -> Result<usize, DeviceFault>
     requires { HasRoom (T.seen tree.old).failures }
     ensures within { IfOk result (λ n. n ≤ length buffer.old) }
@@ -34,7 +34,7 @@ fn fill<T: Tree>(tree: &mut T, path: &str, buffer: &mut [u8]) -> Result<usize, D
     Ok(at)
 }
 
-/// The first bytes of the file at this path, at most `size` of them. Of a file that ends before them they are all that it has.
+/// Returns the first bytes of the file at this path, at most `size` of them. A shorter file is read as a whole.
 pub fn read_file<T: Tree>(
     alloc: Global,
     tree: &mut T,
@@ -45,7 +45,8 @@ pub fn read_file<T: Tree>(
     ensures bytes { (files : List (List ℕ × List ℕ)) → Holds (T.seen tree.old) files → size ≡ length (bytes_at files path.now)
         → IfOk result (λ bytes. bytes.items ≡ bytes_at files path.now) }
 
-    // Of any tree, steady or not: just the bytes that the tree gave. No byte behind the size is asked for, and an earlier end is the end.
+    // For any tree, steady or not: these are just the bytes that the tree gave. No byte past `size` is requested, and an earlier end ends
+    // the read.
     ensures given { IfOk result (λ bytes. GivenWhole T.gives path.now size tree.old bytes.items tree.new) }
     ensures within { IfOk result (λ bytes. length bytes.items ≤ size) }
     ensures no_fault { IsNoFault result }
@@ -58,7 +59,7 @@ pub fn read_file<T: Tree>(
     Ok(buffer)
 }
 
-/// The line of the byte at a place, from 1.
+/// Returns the line of the byte at an offset, from 1.
 pub fn line_at(bytes: &[u8], at: usize) -> usize
     requires { at ≤ length bytes.now }
     ensures { result ≡ line_at bytes.now at }
@@ -66,7 +67,7 @@ pub fn line_at(bytes: &[u8], at: usize) -> usize
     1 + bytes[..at].iter().filter(|b| b'\n' == **b).count()
 }
 
-/// What a source is refused for that has no tree.
+/// Returns the refusal for a source that has no syntax tree.
 pub fn refusal_of(kind: FaultKind) -> Refusal
     ensures { result ≡ refusal_of kind }
 {

@@ -1,4 +1,4 @@
-//! The configuration data of a run.
+//! Keeps the configuration data of a run.
 ghost use Rattle.std.specs.Prelude.{◌≡◌, ◌↔◌, IfOk, IsErrOf, IsTrue, OnErr, OnOk, length, option_map, slice_get};
 ghost use Rattle.template.specs.Config.{Bytes, quoted, unfrozen};
 ghost use Rattle.template.specs.ConfigData.{content_of};
@@ -10,14 +10,14 @@ use std::alloc::{AllocError, Global};
 use template::{ConfigData, ConfigValue, SetStop};
 
 impl Store {
-    /// The configuration data with a number.
+    /// Returns the configuration data with a number.
     pub fn configuration(&self, number: usize) -> Option<&ConfigData>
         ensures { option_map (λ c. c.now) result ≡ slice_get self.now.configurations number }
     {
         self.configurations.get(number)
     }
 
-    /// A copy of the configuration data with a number, which may be changed.
+    /// Returns a copy of the configuration data with a number. The copy is not frozen.
     pub fn copy_of_configuration(
         &self,
         alloc: Global,
@@ -31,7 +31,7 @@ impl Store {
         }
     }
 
-    /// Keeps further configuration data, and gives their number.
+    /// Adds configuration data, and returns its number.
     pub fn add_configuration(&mut self, values: ConfigData) -> Result<usize, AllocError>
         ensures number { IfOk result (λ number. number ≡ length self.old.configurations) }
         ensures world { OnOk result (world_of self.new ≡ changing (with_more values) (world_of self.old)) }
@@ -42,7 +42,7 @@ impl Store {
         Ok(number)
     }
 
-    /// Gives a name a value in the data with a number, unless they are frozen.
+    /// Sets a name to a value in the data with a number, or returns `SetStop::Frozen` if the data is frozen.
     pub fn set_configured(
         &mut self,
         number: usize,
@@ -62,7 +62,7 @@ impl Store {
         }
     }
 
-    /// Gives a name a text in quotes in the data with a number, unless they are frozen.
+    /// Sets a name to a text in quotes in the data with a number, or returns `SetStop::Frozen` if the data is frozen.
     pub fn set_quoted(&mut self, number: usize, name: &str, text: &str) -> Result<(), SetStop>
         ensures world { OnOk result (world_of self.new
             ≡ changing (with_configured (with_content name.now (Bytes (quoted text.now))) number) (world_of self.old)) }
@@ -77,7 +77,7 @@ impl Store {
         }
     }
 
-    /// Gives each name of other data the value that it has there, in the data with a number, unless these are frozen.
+    /// Sets each name of other data to its value there, in the data with a number, or returns `SetStop::Frozen` if that data is frozen.
     pub fn merge_configured(&mut self, number: usize, others: &ConfigData) -> Result<(), SetStop>
         ensures world { OnOk result (world_of self.new ≡ changing (with_configured (merged_with others.now) number) (world_of self.old)) }
         ensures frozen { IsErrOf result SetStop.Frozen ↔ IsTrue (is_frozen_at number self.old.configurations) }
@@ -91,7 +91,7 @@ impl Store {
         }
     }
 
-    /// Lets no call change the data with a number from now on.
+    /// Freezes the data with a number: no later call may change it.
     pub fn freeze_configured(&mut self, number: usize)
         ensures world { world_of self.new ≡ changing (with_configured frozen number) (world_of self.old) }
         ensures names { self.new.names ≡ self.old.names }

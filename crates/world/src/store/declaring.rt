@@ -1,4 +1,4 @@
-//! The project of a run.
+//! Keeps the project of a run.
 ghost use Rattle.std.specs.Prelude.{◌≡◌, IfOk, OnOk, string_bytes};
 ghost use Rattle.build.specs.edge.Texts.{put_all_new, texts};
 ghost use Rattle.build.specs.project.Adding.{after_target, arguments_answer, output_answer, target_answer, with_dependency, with_install};
@@ -16,7 +16,7 @@ use build::project::{Answer, Install, Project, Refused, Test};
 use build::{Facts, Target};
 use std::alloc::{AllocError, Global};
 
-// Notes again which paths were there.
+// Notes again which paths were present.
 fn note_present(project: &mut Project, paths: &[String]) -> Result<(), AllocError>
     ensures { OnOk result (project.new ≡ record project.old { present = put_all_new project.old.present (texts paths.now) }) }
 {
@@ -26,7 +26,7 @@ fn note_present(project: &mut Project, paths: &[String]) -> Result<(), AllocErro
     Ok(())
 }
 
-// Notes again which paths were not there.
+// Notes again which paths were absent.
 fn note_absent(project: &mut Project, paths: &[String]) -> Result<(), AllocError>
     ensures { OnOk result (project.new ≡ record project.old { absent = put_all_new project.old.absent (texts paths.now) }) }
 {
@@ -36,7 +36,7 @@ fn note_absent(project: &mut Project, paths: &[String]) -> Result<(), AllocError
     Ok(())
 }
 
-// A project of which nothing is declared yet, with the paths that were looked at before.
+// Returns a project without declarations, which notes the paths that were looked at before.
 fn begun_project(alloc: Global, facts: Facts, before: &Project) -> Result<Project, AllocError>
     ensures { IfOk result (λ p. p ≡ begun_project (facts_view facts) before.now) }
 {
@@ -47,21 +47,21 @@ fn begun_project(alloc: Global, facts: Facts, before: &Project) -> Result<Projec
 }
 
 impl Store {
-    /// The project so far.
+    /// Returns the project so far.
     pub fn project(&self) -> &Project
         ensures { result.now ≡ self.now.project }
     {
         &self.project
     }
 
-    /// Whether `project` was called.
+    /// Returns whether `project` was called.
     pub fn is_begun(&self) -> bool
         ensures { result ≡ self.now.is_begun }
     {
         self.is_begun
     }
 
-    /// Notes that `project` was called, and what it says of the project, of which nothing is declared yet.
+    /// Records that `project` was called with these facts, and begins a project without declarations.
     pub fn begin(&mut self, alloc: Global, facts: Facts) -> Result<(), AllocError>
         ensures world { OnOk result (world_of self.new ≡ changing (begun (facts_view facts)) (world_of self.old)) }
         ensures names { self.new.names ≡ self.old.names }
@@ -72,7 +72,7 @@ impl Store {
         Ok(())
     }
 
-    /// Notes that a path is looked at, and whether a file is there.
+    /// Records that a path was looked at, and whether a file is there.
     pub fn note_look(&mut self, alloc: Global, path: &str, is_there: bool) -> Result<(), AllocError>
         ensures world { OnOk result (world_of self.new ≡ looking (world_of self.old) path.now is_there) }
         ensures names { self.new.names ≡ self.old.names }
@@ -80,7 +80,7 @@ impl Store {
         self.note_own_look(String::from_str(alloc, path)?, is_there)
     }
 
-    /// The same of a path that is given away.
+    /// Records that a path, which is passed by value, was looked at, and whether a file is there.
     pub fn note_own_look(&mut self, path: String, is_there: bool) -> Result<(), AllocError>
         ensures world { OnOk result (world_of self.new ≡ looking (world_of self.old) (string_bytes path) is_there) }
         ensures names { self.new.names ≡ self.old.names }
@@ -93,9 +93,9 @@ impl Store {
         }
     }
 
-    // ---- what is declared
+    // ---- declarations
 
-    /// Adds a target and gives its number, or answers why the project refuses it.
+    /// Adds a target and returns its number, or the reason why the project refuses it.
     pub fn add_target(&mut self, target: Target) -> Result<Result<usize, Refused>, AllocError>
         ensures answer { IfOk result (λ r. answer_data r ≡ target_answer self.old.project (target_view target)) }
         ensures world { OnOk result (world_of self.new
@@ -105,7 +105,7 @@ impl Store {
         self.project.add_target(target)
     }
 
-    /// Takes the path of a file of a folder that `configure_file` makes, or answers why the project refuses it.
+    /// Reserves the path of a file of a folder that `configure_file` makes, or returns the reason why the project refuses it.
     pub fn add_output(
         &mut self,
         folder: &str,
@@ -118,7 +118,7 @@ impl Store {
         self.project.add_output(folder, name)
     }
 
-    /// Adds words to those of all compile commands, or answers why the project refuses them.
+    /// Adds arguments to all compile commands, or returns the reason why the project refuses them.
     pub fn add_arguments(&mut self, words: &[String]) -> Result<Result<(), Refused>, AllocError>
         ensures answer { IfOk result (λ r. answer_data r ≡ arguments_answer self.old.project (texts words.now)) }
         ensures world { OnOk result (world_of self.new ≡ changing (declaring (after_arguments (texts words.now))) (world_of self.old)) }
@@ -127,7 +127,7 @@ impl Store {
         self.project.add_arguments(words)
     }
 
-    /// Adds words to those of all link commands, or answers why the project refuses them.
+    /// Adds arguments to all link commands, or returns the reason why the project refuses them.
     pub fn add_link_arguments(
         &mut self,
         words: &[String],
@@ -140,7 +140,7 @@ impl Store {
         self.project.add_link_arguments(words)
     }
 
-    /// Notes what a call of `dependency` answered.
+    /// Records the result of a call of `dependency`.
     pub fn add_dependency(&mut self, answer: Answer) -> Result<(), AllocError>
         ensures world { OnOk result (world_of self.new
             ≡ changing (declaring (λ p. with_dependency p (answer_view answer))) (world_of self.old)) }
@@ -149,7 +149,7 @@ impl Store {
         self.project.add_dependency(answer)
     }
 
-    /// Notes a file that is installed.
+    /// Records a file to be installed.
     pub fn add_install(&mut self, install: Install) -> Result<(), AllocError>
         ensures world { OnOk result (world_of self.new
             ≡ changing (declaring (λ p. with_install p (install_view install))) (world_of self.old)) }
@@ -158,7 +158,7 @@ impl Store {
         self.project.add_install(install)
     }
 
-    /// Notes a test.
+    /// Records a test.
     pub fn add_test(&mut self, test: Test) -> Result<(), AllocError>
         ensures world { OnOk result (world_of self.new ≡ changing (declaring (λ p. with_test p (test_view test))) (world_of self.old)) }
         ensures names { self.new.names ≡ self.old.names }
