@@ -18,11 +18,11 @@ use Rattle.expressions.specs.Contexts.{Stand, Given, Leads}
 use Rattle.interp.specs.Bounds.{Bounds}
 use Rattle.interp.specs.Evaluates.{HaltsTo, Comes}
 use Rattle.interp.specs.Folders.{folder}
-use Rattle.interp.specs.Inside.{HaltEnds, IsDeeper, RuleEnds, ended_all, enters, inside}
+use Rattle.interp.specs.FolderEntries.{HaltEnds, IsDeeper, RuleEnds, ended_all, enters, inside}
 use Rattle.interp.specs.declared.flow.Flow.{Flow}
 use Rattle.interp.specs.declared.halt.Halt.{Halt}
 use Rattle.interp.specs.declared.halt.Halt.TheVariants as halts
-use Rattle.interp.specs.declared.halt.Inside.{Inside}
+use Rattle.interp.specs.declared.halt.FolderEntry.{FolderEntry}
 use Rattle.expressions.proofs.Evaluating.{follow-after, given_none, given_rule, given_stop, given_then, leads_as, leads_end, leads_further}
 use Rattle.expressions.proofs.Evaluating.{leads_next, with_end-after}
 
@@ -54,7 +54,7 @@ ended-alike files (suc n) p q w h =
     let a = ended-alike files n p q w h in
     record { fault = a.fault; world = a.world; marks = a.marks ++ Ended ∷ []; one = ap with_end a.one; other = ap with_end a.other }
 
-inside-alike : (A B : Type 0) (files : Files) (left : Bounds) (entry : Inside) (w : World)
+inside-alike : (A B : Type 0) (files : Files) (left : Bounds) (entry : FolderEntry) (w : World)
     → Alike (carry files (inside {A = A} left entry) w) (carry files (inside {A = B} left entry) w)
 inside-alike A B files left entry w =
     ended-alike files entry.rules (enters {A = A} left entry) (enters {A = B} left entry) w
@@ -65,7 +65,7 @@ alike-follow others a = ap (λ x. follow x others) a.one ∙ sym a.other
 
 -- ---- what was left for a folder
 
-pub leads_left : {A B : Type 0} {files : Files} (left : Bounds) (entry : Inside) {p : Plan A} {others : A → Plan B} {s0 s1 : Stand}
+pub leads_left : {A B : Type 0} {files : Files} (left : Bounds) (entry : FolderEntry) {p : Plan A} {others : A → Plan B} {s0 s1 : Stand}
     → Leads files p s0 (inside left entry) s1 → Leads files (next p others) s0 (inside left entry) s1
 leads_left {A = A} {B = B} {files = files} left entry {others = others} {s1 = s1} l = record {
   continues = record {
@@ -180,17 +180,17 @@ ended-same A B (stops.Refused fault) = refl
 ended-same A B stops.Device = refl
 ended-same A B stops.Memory = refl
 
-ruled-inside : {A : Type 0} (left : Bounds) (entry : Inside)
+ruled-inside : {A : Type 0} (left : Bounds) (entry : FolderEntry)
     → ruled (inside {A = A} left entry) ≡ inside left (record { text = entry.text; line = entry.line; rules = entry.rules + 1 })
 ruled-inside left entry = ap (λ n. ended_all n (enters left entry)) (sym (add-one entry.rules))
 
 -- the expression was left before it
-rule-left : {A : Type 0} {files : Files} (left : Bounds) {p : Plan A} {s0 s1 : Stand} (entry : Inside) (halt : Halt)
+rule-left : {A : Type 0} {files : Files} (left : Bounds) {p : Plan A} {s0 s1 : Stand} (entry : FolderEntry) (halt : Halt)
     → IsDeeper entry halt → Leads files p s0 (inside left entry) s1 → HaltsTo files left (ruled p) s0 halt s1
 rule-left {A = A} {files = files} left {p = p} {s0 = s0} {s1 = s1} entry (halts.Stops stop) d l =
     subst (λ e. Given {B = A} (λ a. a) files (ruled p) s0 (Err e) s1) (sym d) (leads_end (leads_rule l) (given_none l.holds refl))
 rule-left {files = files} left {p = p} {s0 = s0} {s1 = s1} entry (halts.Enters other) d l =
-    subst (λ (e : Inside). Leads files (ruled p) s0 (inside left e) s1) (sym d) (leads_as (ruled-inside left entry) (leads_rule l))
+    subst (λ (e : FolderEntry). Leads files (ruled p) s0 (inside left e) s1) (sym d) (leads_as (ruled-inside left entry) (leads_rule l))
 
 -- an expression that halts
 rule-halted : (A : Type 0) (files : Files) (left : Bounds) (p : Plan A) (s0 : Stand) (w : World) (names : List (List ℕ)) (tree : TreeState) (out : OutputState) (n m : ℕ) (halt now : Halt)

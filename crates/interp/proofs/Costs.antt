@@ -70,11 +70,11 @@ use Rattle.interp.specs.declared.flow.Flow.TheVariants.{Next, Continued, Broken,
 use Rattle.expressions.specs.declared.conditions.Choice.{Choice}
 use Rattle.expressions.specs.declared.conditions.Choice.TheVariants.{Body, Others, Skip}
 use Rattle.expressions.specs.Conditions.{choice_of, choice_without}
-use Rattle.interp.specs.Statements.{by_choice, on_next, after_round, rounds_of, walked, walked_by, stated, does, branches_of, do_all}
-use Rattle.interp.specs.declared.acting.Action.{Action}
-use Rattle.interp.specs.declared.acting.Action.TheVariants.{Call, Enter, Leave}
-use Rattle.interp.specs.Acting.{acted_by, done_by, performed}
-use Rattle.interp.specs.Entering.{WayData, Ends, Enters, action_of, by_way, subdir_by}
+use Rattle.interp.specs.Statements.{by_choice, on_next, after_round, rounds_of, rounds_within, rounds_if, expression_statement, does, branches_of, do_all}
+use Rattle.interp.specs.declared.statement_calls.Action.{Action}
+use Rattle.interp.specs.declared.statement_calls.Action.TheVariants.{Call, Enter, Leave}
+use Rattle.interp.specs.StatementCalls.{call_by_action, subdir_done_unless, named_call}
+use Rattle.interp.specs.Subdir.{AfterCallData, Ends, Enters, action_of, on_call_end, subdir_unless}
 use Rattle.expressions.specs.Assignments.{configuration_in, own_by, own, added, appended, summed, assigned_by, assigned, bound}
 use Rattle.expressions.specs.Rounds.{Round, looped, item_rounds, entry_rounds}
 use Rattle.expressions.specs.Folders.{opened_by, opened, fresh_by, fresh, go_back}
@@ -296,46 +296,46 @@ module _ (files : Files) where
   rounds-cost round c p (r ∷ rs) = more (omega (arith, suc-mul (length rs) (c + 1))) (chain (rules (p r)) (λ flow. after_round-cost flow (rounds-cost round c p rs)))
 
   rounds_few-cost : (line : ℕ) (round : Round → Plan Flow) (c : ℕ) → ((r : Round) → Takes file_cost files c (round r)) → (rs : List Round) (b : Bool) → nat_le (length rs) 65536 ≡ b
-      → Takes file_cost files (65536 * (c + 1)) (walked_by b line (rounds_of round rs))
+      → Takes file_cost files (65536 * (c + 1)) (rounds_if b line (rounds_of round rs))
   rounds_few-cost line round c p rs true few = let fit : length rs ≤ 65536 = grind (arith, nat_tests, few) in more (mul-le-mul_right (c + 1) fit) (rounds-cost round c p rs)
   rounds_few-cost line round c p rs false few = refuse-cost line refusals.Limit []
 
-  walked-cost : (line : ℕ) (round : Round → Plan Flow) (c : ℕ) → ((r : Round) → Takes file_cost files c (round r)) → (second : Option (List ℕ)) (d : Data)
-      → Takes file_cost files (65536 * (c + 1)) (walked true line round (looped second d))
-  walked-cost line round c p None (list ds) = rounds_few-cost line round c p (item_rounds ds) (nat_le (length (item_rounds ds)) 65536) refl
-  walked-cost line round c p (Some second) (dictionary es) = rounds_few-cost line round c p (entry_rounds es) (nat_le (length (entry_rounds es)) 65536) refl
-  walked-cost line round c p None (boolean b) = refuse-cost line refusals.Type []
-  walked-cost line round c p None (integer z) = refuse-cost line refusals.Type []
-  walked-cost line round c p None (text t) = refuse-cost line refusals.Type []
-  walked-cost line round c p None (dictionary es) = refuse-cost line refusals.Type []
-  walked-cost line round c p None (object o) = refuse-cost line refusals.Type []
-  walked-cost line round c p (Some second) (boolean b) = refuse-cost line refusals.Type []
-  walked-cost line round c p (Some second) (integer z) = refuse-cost line refusals.Type []
-  walked-cost line round c p (Some second) (text t) = refuse-cost line refusals.Type []
-  walked-cost line round c p (Some second) (list ds) = refuse-cost line refusals.Type []
-  walked-cost line round c p (Some second) (object o) = refuse-cost line refusals.Type []
+  rounds_within-cost : (line : ℕ) (round : Round → Plan Flow) (c : ℕ) → ((r : Round) → Takes file_cost files c (round r)) → (second : Option (List ℕ)) (d : Data)
+      → Takes file_cost files (65536 * (c + 1)) (rounds_within true line round (looped second d))
+  rounds_within-cost line round c p None (list ds) = rounds_few-cost line round c p (item_rounds ds) (nat_le (length (item_rounds ds)) 65536) refl
+  rounds_within-cost line round c p (Some second) (dictionary es) = rounds_few-cost line round c p (entry_rounds es) (nat_le (length (entry_rounds es)) 65536) refl
+  rounds_within-cost line round c p None (boolean b) = refuse-cost line refusals.Type []
+  rounds_within-cost line round c p None (integer z) = refuse-cost line refusals.Type []
+  rounds_within-cost line round c p None (text t) = refuse-cost line refusals.Type []
+  rounds_within-cost line round c p None (dictionary es) = refuse-cost line refusals.Type []
+  rounds_within-cost line round c p None (object o) = refuse-cost line refusals.Type []
+  rounds_within-cost line round c p (Some second) (boolean b) = refuse-cost line refusals.Type []
+  rounds_within-cost line round c p (Some second) (integer z) = refuse-cost line refusals.Type []
+  rounds_within-cost line round c p (Some second) (text t) = refuse-cost line refusals.Type []
+  rounds_within-cost line round c p (Some second) (list ds) = refuse-cost line refusals.Type []
+  rounds_within-cost line round c p (Some second) (object o) = refuse-cost line refusals.Type []
 
-  done_by-cost : (b : Bool) (line : ℕ) (a : ArgumentsData) → Takes file_cost files 0 (done_by b line a)
-  done_by-cost true line a = free _
-  done_by-cost false line a = first (fitted-cost line _) (λ v. none _)
+  subdir_done_unless-cost : (b : Bool) (line : ℕ) (a : ArgumentsData) → Takes file_cost files 0 (subdir_done_unless b line a)
+  subdir_done_unless-cost true line a = free _
+  subdir_done_unless-cost false line a = first (fitted-cost line _) (λ v. none _)
 
-  subdir-cost : (b : Bool) (line : ℕ) (a : ArgumentsData) → Takes file_cost files 0 (subdir_by b line a)
+  subdir-cost : (b : Bool) (line : ℕ) (a : ArgumentsData) → Takes file_cost files 0 (subdir_unless b line a)
   subdir-cost true line a = free _
   subdir-cost false line a = first (fitted-cost line _) (λ u. first (none _) (λ v. none _))
 
-  acted_by-cost : (action : Action) (line : ℕ) (f : Function) (a : ArgumentsData) → Takes file_cost files 0 (acted_by action line f a)
-  acted_by-cost Enter line f a = subdir-cost (gives_disabler a) line a
-  acted_by-cost Leave line f a = done_by-cost (gives_disabler a) line a
-  acted_by-cost Call line f a = first (called-cost line f a) (λ d. none _)
+  call_by_action-cost : (action : Action) (line : ℕ) (f : Function) (a : ArgumentsData) → Takes file_cost files 0 (call_by_action action line f a)
+  call_by_action-cost Enter line f a = subdir-cost (gives_disabler a) line a
+  call_by_action-cost Leave line f a = subdir_done_unless-cost (gives_disabler a) line a
+  call_by_action-cost Call line f a = first (called-cost line f a) (λ d. none _)
 
   module _ (into : List ℕ → Plan Flow) (into-cost : (t : List ℕ) → Takes file_cost files 0 (into t)) where
-    by_way-cost : (way : WayData) → Takes file_cost files 0 (by_way into way)
-    by_way-cost (Ends flow) = free _
-    by_way-cost (Enters t) = into-cost t
+    on_call_end-cost : (way : AfterCallData) → Takes file_cost files 0 (on_call_end into way)
+    on_call_end-cost (Ends flow) = free _
+    on_call_end-cost (Enters t) = into-cost t
 
     entered_inside-cost : (b : Bool) (line : ℕ) (a : ArgumentsData) → Takes file_cost files 0 (entered_inside into b line a)
     entered_inside-cost true line a = free _
-    entered_inside-cost false line a = first (subdir-cost (gives_disabler a) line a) (λ way. first (by_way-cost way) (λ flow. refuse-cost line refusals.Type []))
+    entered_inside-cost false line a = first (subdir-cost (gives_disabler a) line a) (λ way. first (on_call_end-cost way) (λ flow. refuse-cost line refusals.Type []))
 
     inside-cost : (action : Action) (line : ℕ) (f : Function) (a : ArgumentsData) → Takes file_cost files 0 (inside_by into action line f a)
     inside-cost Enter line f a = entered_inside-cost (gives_disabler a) line a
@@ -378,8 +378,8 @@ module _ (files : Files) where
       chain-cost line d NoOperand = free _
       chain-cost line d (MoreOperands operator e es) = chain (combined-cost line (meaning_of operator) d (value-cost e)) (λ x. chain-cost line x es)
 
-    performed-cost : (line : ℕ) (name : List ℕ) (es : ArgumentTrees) → Takes file_cost files (arguments_cost es) (performed into line name es)
-    performed-cost line name es = first (function_at-cost line name) (λ f. last (arguments-cost no_arguments es) (λ a. acted_by-cost (action_of f) line f a))
+    named_call-cost : (line : ℕ) (name : List ℕ) (es : ArgumentTrees) → Takes file_cost files (arguments_cost es) (named_call into line name es)
+    named_call-cost line name es = first (function_at-cost line name) (λ f. last (arguments-cost no_arguments es) (λ a. call_by_action-cost (action_of f) line f a))
 
     added-cost : (line : ℕ) (name : List ℕ) (d e : Data) → Takes file_cost files 0 (added line name d e)
     added-cost line name d e = first (answered-cost line (binary_answer Add d e)) (λ sum. assigned-cost line name sum)
@@ -390,31 +390,31 @@ module _ (files : Files) where
     appended-cost : (line : ℕ) (name : List ℕ) (value : ExpressionTree) → Takes file_cost files (value_cost value) (appended line name (ruled (value_of into value)))
     appended-cost line name value = first (variable-cost line name) (λ o. last (value-cost value) (λ e. summed-cost line name e))
 
-    alone-cost : {p : Plan Data} {c : ℕ} → Takes file_cost files c p
+    eval_statement-cost : {p : Plan Data} {c : ℕ} → Takes file_cost files c p
         → Takes file_cost files (1 + c) (next_plan (ruled (next_plan p (λ d. give (Some d)))) (λ o. give Next))
-    alone-cost p = last (rules (last p (λ d. none _))) (λ o. none _)
+    eval_statement-cost p = last (rules (last p (λ d. none _))) (λ o. none _)
 
-    stated-cost : (e : ExpressionTree) → Takes file_cost files (value_cost e) (stated into e)
-    stated-cost (FunctionTree name es line) = rules (last (performed-cost line name es) (λ way. by_way-cost way))
-    stated-cost (NameTree name line) = alone-cost (variable-cost line name)
-    stated-cost (LiteralTree literal t line) = alone-cost (literal-cost line literal t)
-    stated-cost (ListTree es line) = alone-cost (last (values-cost no_items es) (λ ds. answered-cost line (within (list ds))))
-    stated-cost (DictionaryTree es line) = alone-cost (last (entries-cost [] es) (λ ps. paired_by-cost line (literal_answer ps)))
-    stated-cost (PostfixTree e ls line) = last (rules (chain (value-cost e) (λ d. links-cost line (Some d) ls))) (λ o. none _)
-    stated-cost (PrefixTree prefix value line) = alone-cost (last (value-cost value) (λ d. answered-cost line _))
-    stated-cost (ChainTree e others line) = alone-cost (chain (value-cost e) (λ d. chain-cost line d others))
-    stated-cost (TernaryTree test one other line) = alone-cost (chain (value-cost test) (λ d. chosen-cost line (boolean_in d) (is_disabler d) (value-cost one) (value-cost other)))
+    expression_statement-cost : (e : ExpressionTree) → Takes file_cost files (value_cost e) (expression_statement into e)
+    expression_statement-cost (FunctionTree name es line) = rules (last (named_call-cost line name es) (λ way. on_call_end-cost way))
+    expression_statement-cost (NameTree name line) = eval_statement-cost (variable-cost line name)
+    expression_statement-cost (LiteralTree literal t line) = eval_statement-cost (literal-cost line literal t)
+    expression_statement-cost (ListTree es line) = eval_statement-cost (last (values-cost no_items es) (λ ds. answered-cost line (within (list ds))))
+    expression_statement-cost (DictionaryTree es line) = eval_statement-cost (last (entries-cost [] es) (λ ps. paired_by-cost line (literal_answer ps)))
+    expression_statement-cost (PostfixTree e ls line) = last (rules (chain (value-cost e) (λ d. links-cost line (Some d) ls))) (λ o. none _)
+    expression_statement-cost (PrefixTree prefix value line) = eval_statement-cost (last (value-cost value) (λ d. answered-cost line _))
+    expression_statement-cost (ChainTree e others line) = eval_statement-cost (chain (value-cost e) (λ d. chain-cost line d others))
+    expression_statement-cost (TernaryTree test one other line) = eval_statement-cost (chain (value-cost test) (λ d. chosen-cost line (boolean_in d) (is_disabler d) (value-cost one) (value-cost other)))
 
     mutual
       does-cost : (s : StatementTree) → Takes file_cost files (statement_cost s) (ruled (does into true s))
       does-cost (AssignTree name line value) = rules (last (value-cost value) (λ d. first (own-cost d) (λ e. first (assigned-cost line name e) (λ u. none _))))
       does-cost (AppendTree name line value) = rules (last (appended-cost line name value) (λ u. none _))
-      does-cost (ValueTree e line) = rules (stated-cost e)
+      does-cost (ValueTree e line) = rules (expression_statement-cost e)
       does-cost (BreakTree line) = rules (none _)
       does-cost (ContinueTree line) = rules (none _)
       does-cost (IfTree line branches otherwise) = rules (branches-cost branches otherwise (all-cost otherwise))
       does-cost (ForeachTree line name second items items_line body) =
-          rules (chain (value-cost items) (walked-cost line (λ r. next_plan (bound line name second r) (λ u. do_all into true body)) (statements_cost body) (λ r. first (bound-cost line name second r) (λ u. all-cost body)) second))
+          rules (chain (value-cost items) (rounds_within-cost line (λ r. next_plan (bound line name second r) (λ u. do_all into true body)) (statements_cost body) (λ r. first (bound-cost line name second r) (λ u. all-cost body)) second))
 
       branches-cost : (bs : Branches) (otherwise : Statements) → Takes file_cost files (statements_cost otherwise) (do_all into true otherwise) → Takes file_cost files (branches_cost bs + statements_cost otherwise) (branches_of into true bs (do_all into true otherwise))
       branches-cost NoBranch otherwise p = more (omega arith) p

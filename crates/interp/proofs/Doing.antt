@@ -18,7 +18,7 @@ use Rattle.interp.specs.Bounds.{Bounds}
 use Rattle.interp.specs.Evaluates.{Comes, HaltsTo}
 use Rattle.interp.specs.Folders.{folder}
 use Rattle.interp.specs.Frames.{DoneHere, DoneTo, Parts, Rested, parts_by, round_by, tour_left, walk_left}
-use Rattle.interp.specs.Inside.{inside}
+use Rattle.interp.specs.FolderEntries.{inside}
 use Rattle.interp.specs.Statements.{after_round, do_all, does, on_next, rounds_of}
 use Rattle.expressions.specs.Rounds.{Round}
 use Rattle.interp.specs.declared.frames.LoopHead.{LoopHead}
@@ -26,11 +26,11 @@ use Rattle.interp.specs.declared.flow.Flow.{Flow}
 use Rattle.interp.specs.declared.flow.Flow.TheVariants.{Next, Continued, Broken, Finished}
 use Rattle.interp.specs.declared.halt.Halt.{Halt}
 use Rattle.interp.specs.declared.halt.Halt.TheVariants as halts
-use Rattle.interp.specs.declared.halt.Inside.{Inside}
-use Rattle.interp.specs.declared.touring.Tour.{Tour}
-use Rattle.interp.specs.declared.touring.Tour.TheVariants as tours
-use Rattle.interp.specs.declared.walking.Walk.{Walk}
-use Rattle.interp.specs.declared.walking.Walk.TheVariants as walks
+use Rattle.interp.specs.declared.halt.FolderEntry.{FolderEntry}
+use Rattle.interp.specs.declared.loop_rounds.LoopProgress.{LoopProgress}
+use Rattle.interp.specs.declared.loop_rounds.LoopProgress.TheVariants as tours
+use Rattle.interp.specs.declared.block_statements.BlockProgress.{BlockProgress}
+use Rattle.interp.specs.declared.block_statements.BlockProgress.TheVariants as walks
 use Rattle.interp.proofs.Coming.{leads_rule}
 use Rattle.interp.proofs.Spelling.{drop_all}
 
@@ -56,7 +56,7 @@ done_none {files = files} {left = left} {plan = plan} {s0 = s0} {s1 = s1} is d =
 pub done_stops : {files : Files} {left : Bounds} {plan : Plan Flow} {s0 s1 : Stand} {halt : Halt} {stop : Stop} → halt ≡ halts.Stops stop → DoneHere files left plan s0 (Err halt) s1 → Given {B = Flow} (λ f. f) files plan s0 (Err stop) s1
 done_stops {files = files} {left = left} {plan = plan} {s0 = s0} {s1 = s1} is d = subst (λ (x : Halt). HaltsTo files left plan s0 x s1) is d.done
 
-pub done_enters : {files : Files} {left : Bounds} {plan : Plan Flow} {s0 s1 : Stand} {halt : Halt} {entry : Box Inside Global} → halt ≡ halts.Enters entry → DoneHere files left plan s0 (Err halt) s1 → Leads files plan s0 (inside left entry.value) s1
+pub done_enters : {files : Files} {left : Bounds} {plan : Plan Flow} {s0 s1 : Stand} {halt : Halt} {entry : Box FolderEntry Global} → halt ≡ halts.Enters entry → DoneHere files left plan s0 (Err halt) s1 → Leads files plan s0 (inside left entry.value) s1
 done_enters {files = files} {left = left} {plan = plan} {s0 = s0} {s1 = s1} is d = subst (λ (x : Halt). HaltsTo files left plan s0 x s1) is d.done
 
 -- ---- which need the stack
@@ -67,28 +67,28 @@ deep_as e d = subst (λ x. IsDeep x) (sym e) d
 pub deep_none : (node : StatementNode) {o : Option Flow} → o ≡ None → DeepIfNone node (Ok o) → IsDeep node
 deep_none node is d = subst (λ (x : Option Flow). DeepIfNone node (Ok x)) is d
 
-pub begins_deep : (c : Code) (walk : Walk) (number at : ℕ) → walk ≡ walks.Begins number at → BeginsDeep c (Ok walk) → (number < length c.statements.items) × IsDeep (node_at c number)
-begins_deep c walk number at is b = subst (λ (x : Walk). BeginsDeep c (Ok x)) is b
+pub begins_deep : (c : Code) (progress : BlockProgress) (number at : ℕ) → progress ≡ walks.Begins number at → BeginsDeep c (Ok progress) → (number < length c.statements.items) × IsDeep (node_at c number)
+begins_deep c progress number at is b = subst (λ (x : BlockProgress). BeginsDeep c (Ok x)) is b
 
-pub begins_of : {c d : Code} (walk : Walk) → d ≡ c → BeginsDeep d (Ok walk) → BeginsDeep c (Ok walk)
-begins_of walk e b = subst (λ (x : Code). BeginsDeep x (Ok walk)) e b
+pub begins_of : {c d : Code} (progress : BlockProgress) → d ≡ c → BeginsDeep d (Ok progress) → BeginsDeep c (Ok progress)
+begins_of progress e b = subst (λ (x : Code). BeginsDeep x (Ok progress)) e b
 
-pub stands_of : {c d : Code} (tour : Tour) (walk : Walk) (at : ℕ) → d ≡ c → tour ≡ tours.Stands walk at → ToursDeep d (Ok tour) → BeginsDeep c (Ok walk)
-stands_of {d = d} tour walk at e is b = let h : BeginsDeep d (Ok walk) = subst (λ (x : Tour). ToursDeep d (Ok x)) is b in begins_of walk e h
+pub stands_of : {c d : Code} (rounds : LoopProgress) (progress : BlockProgress) (at : ℕ) → d ≡ c → rounds ≡ tours.Stands progress at → ToursDeep d (Ok rounds) → BeginsDeep c (Ok progress)
+stands_of {d = d} rounds progress at e is b = let h : BeginsDeep d (Ok progress) = subst (λ (x : LoopProgress). ToursDeep d (Ok x)) is b in begins_of progress e h
 
-pub none_begins : (c : Code) (stop : Stop) (result : Result Walk Stop) → IsErrAnd result (λ e. e ≡ stop) → BeginsDeep c result
-none_begins c stop (Ok walk) is = absurd is
+pub none_begins : (c : Code) (stop : Stop) (result : Result BlockProgress Stop) → IsErrAnd result (λ e. e ≡ stop) → BeginsDeep c result
+none_begins c stop (Ok progress) is = absurd is
 none_begins c stop (Err e) is = tt
 
-pub ended_begins : (c : Code) {stop : Stop} (result : Result Walk Stop) → result ≡ Err stop → BeginsDeep c result
-ended_begins c result is = subst (λ (r : Result Walk Stop). BeginsDeep c r) (sym is) tt
+pub ended_begins : (c : Code) {stop : Stop} (result : Result BlockProgress Stop) → result ≡ Err stop → BeginsDeep c result
+ended_begins c result is = subst (λ (r : Result BlockProgress Stop). BeginsDeep c r) (sym is) tt
 
-pub none_tours : (c : Code) (stop : Stop) (result : Result Tour Stop) → IsErrAnd result (λ e. e ≡ stop) → ToursDeep c result
-none_tours c stop (Ok tour) is = absurd is
+pub none_tours : (c : Code) (stop : Stop) (result : Result LoopProgress Stop) → IsErrAnd result (λ e. e ≡ stop) → ToursDeep c result
+none_tours c stop (Ok progress) is = absurd is
 none_tours c stop (Err e) is = tt
 
-pub ended_tours : (c : Code) {stop : Stop} (result : Result Tour Stop) → result ≡ Err stop → ToursDeep c result
-ended_tours c result is = subst (λ (r : Result Tour Stop). ToursDeep c r) (sym is) tt
+pub ended_tours : (c : Code) {stop : Stop} (result : Result LoopProgress Stop) → result ≡ Err stop → ToursDeep c result
+ended_tours c result is = subst (λ (r : Result LoopProgress Stop). ToursDeep c r) (sym is) tt
 
 -- ---- one after another
 
@@ -176,16 +176,16 @@ pub rested_then : {X : Type 0} {rest : X → Plan Flow} {files : Files} {whole m
 rested_then {result = Ok x} l r = record { rested = leads_further l r.rested }
 rested_then {result = Err stop} l r = record { rested = leads_end l r.rested }
 
-pub walk_of : {files : Files} (parts : Parts) (left : Bounds) {whole : Plan Flow} {s0 s : Stand} {walk other : Walk} → walk ≡ other → Rested (walk_left parts left) files whole s0 (Ok walk) s
+pub walk_of : {files : Files} (parts : Parts) (left : Bounds) {whole : Plan Flow} {s0 s : Stand} {progress other : BlockProgress} → progress ≡ other → Rested (walk_left parts left) files whole s0 (Ok progress) s
     → Leads files whole s0 (walk_left parts left other) s
 walk_of parts left is r = leads_as (ap (walk_left parts left) is) r.rested
 
-pub tour_of : {files : Files} (parts : Parts) (left : Bounds) (rounds : ℕ → Plan Flow) {whole : Plan Flow} {s0 s : Stand} {tour other : Tour} → tour ≡ other → Rested (tour_left parts left rounds) files whole s0 (Ok tour) s
+pub tour_of : {files : Files} (parts : Parts) (left : Bounds) (rounds : ℕ → Plan Flow) {whole : Plan Flow} {s0 s : Stand} {progress other : LoopProgress} → progress ≡ other → Rested (tour_left parts left rounds) files whole s0 (Ok progress) s
     → Leads files whole s0 (tour_left parts left rounds other) s
 tour_of parts left rounds is r = leads_as (ap (tour_left parts left rounds) is) r.rested
 
 -- the same of the code that is lent
-pub toured_of : (left : Bounds) (table : List (List ℕ)) (head : LoopHead) (xs : List Round) (from : ℕ) {c d : Code} {files : Files} {s0 s : Stand} {result : Result Tour Stop} → d ≡ c
+pub toured_of : (left : Bounds) (table : List (List ℕ)) (head : LoopHead) (xs : List Round) (from : ℕ) {c d : Code} {files : Files} {s0 s : Stand} {result : Result LoopProgress Stop} → d ≡ c
     → Rested (tour_left (parts_by table d left head.body) left (λ at. rounds_of (round_by table d left head) (drop at xs))) files (rounds_of (round_by table d left head) (drop from xs)) s0 result s
     → Rested (tour_left (parts_by table c left head.body) left (λ at. rounds_of (round_by table c left head) (drop at xs))) files (rounds_of (round_by table c left head) (drop from xs)) s0 result s
 toured_of left table head xs from {files = files} {s0 = s0} {s = s} {result = result} e w =

@@ -8,12 +8,12 @@ use Rattle.expressions.specs.Contexts.{Leads, Stand}
 use Rattle.interp.specs.Bounds.{Bounds}
 use Rattle.interp.specs.Evaluates.{HaltsTo}
 use Rattle.interp.specs.Frames.{Begun, BeginsTo, Moves, Rest, Stacked, Waits, behind_all}
-use Rattle.interp.specs.Inside.{inside}
+use Rattle.interp.specs.FolderEntries.{inside}
 use Rattle.interp.specs.declared.flow.Flow.{Flow}
 use Rattle.interp.specs.declared.frames.Frame.{Frame}
 use Rattle.interp.specs.declared.halt.Halt.{Halt}
 use Rattle.interp.specs.declared.halt.Halt.TheVariants as halts
-use Rattle.interp.specs.declared.halt.Inside.{Inside}
+use Rattle.interp.specs.declared.halt.FolderEntry.{FolderEntry}
 use Rattle.interp.proofs.Stack.{leads_under, moves_given, moves_none, stacked_on}
 
 -- ---- how it begins
@@ -65,7 +65,7 @@ pub moves_stopped : {files : Files} {left : Bounds} {whole : Plan Flow} {s0 s1 :
 moves_stopped {files = files} {left = left} {whole = whole} {s0 = s0} {s1 = s1} {fs = fs} is b =
     record { moves = subst (λ x. BeginsTo files left whole s0 (Err x) fs s1) is b.begun }
 
-pub waits_begun : {files : Files} {left : Bounds} {whole : Plan Flow} {s0 s1 : Stand} {halt : Halt} {entry : Box Inside Global} {fs : List Frame}
+pub waits_begun : {files : Files} {left : Bounds} {whole : Plan Flow} {s0 s1 : Stand} {halt : Halt} {entry : Box FolderEntry Global} {fs : List Frame}
     → halt ≡ halts.Enters entry → Begun files left whole s0 (Err halt) fs s1 → Waits files left whole s0 entry.value fs s1
 waits_begun {files = files} {left = left} {whole = whole} {s0 = s0} {s1 = s1} {fs = fs} is b =
     subst (λ x. BeginsTo files left whole s0 (Err x) fs s1) is b.begun

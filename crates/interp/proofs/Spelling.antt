@@ -32,7 +32,7 @@ use Rattle.interp.specs.Frames.{Chooses, Made, above_branch, part_done}
 use Rattle.interp.specs.Parts.{above}
 use Rattle.expressions.specs.Rounds.{RoundAt, round_data, Round}
 use Rattle.expressions.specs.Assignments.{bound}
-use Rattle.interp.specs.Statements.{do_all, stated}
+use Rattle.interp.specs.Statements.{do_all, expression_statement}
 use Rattle.expressions.specs.declared.loops.Round.{Round as Declared}
 use Rattle.interp.specs.declared.flow.Flow.{Flow}
 use Rattle.interp.specs.declared.flow.Flow.TheVariants.{Next}
@@ -165,7 +165,7 @@ call_at table c value x call line l at is = node_opens table c.names c.nodes.ite
 
 stated_other : (into : List ℕ → Plan Flow) (table : List (List ℕ)) (ts : List ExpressionTree) (x : Node)
     → ((call : Box CallNode Global) (line : ℕ) → x ≡ nodes.Call call line → ⊥)
-    → stated into (tree_of table ts x) ≡ next (ruled (given_by into (tree_of table ts x))) (λ _. give Next)
+    → expression_statement into (tree_of table ts x) ≡ next (ruled (given_by into (tree_of table ts x))) (λ _. give Next)
 stated_other into table ts (nodes.Name number line) h = refl
 stated_other into table ts (nodes.Literal line node) h = refl
 stated_other into table ts (nodes.List items line) h = refl
@@ -179,10 +179,10 @@ stated_other into table ts (nodes.Ternary test one other line) h = refl
 -- what is stated by a node that is none
 pub stated_at : (into : List ℕ → Plan Flow) (table : List (List ℕ)) (c : Code) (value : ℕ) (x : Node) → value < length c.nodes.items → x ≡ get_or c.nodes.items value x
     → ((call : Box CallNode Global) (line : ℕ) → x ≡ nodes.Call call line → ⊥)
-    → next (ruled (given_by into (tree_at (expressions_by table c) value))) (λ _. give Next) ≡ stated into (tree_at (expressions_by table c) value)
+    → next (ruled (given_by into (tree_at (expressions_by table c) value))) (λ _. give Next) ≡ expression_statement into (tree_at (expressions_by table c) value)
 stated_at into table c value x l at h =
     let e : tree_at (expressions_by table c) value ≡ tree_of table (expressions_by table c) x = node_opens table c.names c.nodes.items value x c.ordered l ∙ ap (tree_of table (expressions_by table c)) (sym at) in
-    sym (ap (stated into) e ∙ stated_other into table (expressions_by table c) x h ∙ ap (λ (t : ExpressionTree). next (ruled (given_by into t)) (λ _. give Next)) (sym e))
+    sym (ap (expression_statement into) e ∙ stated_other into table (expressions_by table c) x h ∙ ap (λ (t : ExpressionTree). next (ruled (given_by into t)) (λ _. give Next)) (sym e))
 
 given_other : (into : List ℕ → Plan Flow) (table : List (List ℕ)) (ts : List ExpressionTree) (x : Node)
     → ((first : ℕ) (ls : Vec LinkNode Global) (line : ℕ) → x ≡ nodes.Postfix first ls line → ⊥)

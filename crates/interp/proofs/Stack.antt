@@ -29,7 +29,7 @@ use Rattle.interp.specs.declared.frames.Frame.{Frame}
 use Rattle.interp.specs.declared.frames.Frame.TheVariants as frames
 use Rattle.interp.specs.Frames.{Rest, Others, Rounds, End, Left, Refuses, one_round, gone_back, behind, behind_all, Made, Means, EachMeans}
 use Rattle.interp.specs.Frames.{Stacked, ends_in, pending, unwound, Moved, Moves, Stepped, others_by, round_by, rounds_left}
-use Rattle.interp.specs.Inside.{ended_all}
+use Rattle.interp.specs.FolderEntries.{ended_all}
 use Rattle.expressions.proofs.Evaluating.{follow-after, with_end-after, given_give, given_none, given_rule, given_stop, leads_as, leads_end}
 use Rattle.expressions.proofs.Evaluating.{leads_further, leads_given, leads_next}
 

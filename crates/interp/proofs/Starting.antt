@@ -32,7 +32,7 @@ use Rattle.world.specs.declared.stop.Stop.TheVariants as stops
 use Rattle.world.proofs.Follow.{begun, refused_later}
 use Rattle.syntax.specs.Tree.{StatementTree, AssignTree, AppendTree, ValueTree, BreakTree, ContinueTree, IfTree, ForeachTree, Statements}
 use Rattle.syntax.specs.Tree.{NoStatement, MoreStatements}
-use Rattle.interp.specs.Beginnings.{Reads, RootGives, Starts, begun_at, line_before, line_unless, other_line}
+use Rattle.interp.specs.FirstStatement.{Reads, RootGives, Starts, begun_at, line_before, line_unless, other_line}
 use Rattle.interp.specs.Evaluation.{MachineSaid, begins, begins_all, begun_by, defined, evaluation, is_project, sections_of}
 
 -- the tree of a statement that is there

@@ -10,10 +10,10 @@ use Rattle.interp.specs.declared.block.Block.TheVariants as blocks
 use Rattle.interp.specs.declared.flow.Flow.{Flow}
 use Rattle.interp.specs.declared.flow.Flow.TheVariants.{Next, Continued, Broken, Finished}
 use Rattle.interp.specs.declared.halt.Halt.{Halt}
-use Rattle.interp.specs.declared.touring.Tour.{Tour}
-use Rattle.interp.specs.declared.touring.Tour.TheVariants as tours
-use Rattle.interp.specs.declared.walking.Walk.{Walk}
-use Rattle.interp.specs.declared.walking.Walk.TheVariants as walks
+use Rattle.interp.specs.declared.loop_rounds.LoopProgress.{LoopProgress}
+use Rattle.interp.specs.declared.loop_rounds.LoopProgress.TheVariants as tours
+use Rattle.interp.specs.declared.block_statements.BlockProgress.{BlockProgress}
+use Rattle.interp.specs.declared.block_statements.BlockProgress.TheVariants as walks
 use Rattle.world.specs.declared.stop.Stop.{Stop}
 
 -- Returns the statements of a branch, or those of `else` if there is no such branch.
@@ -73,16 +73,16 @@ DeepIfNone node (Ok (Some flow)) = Unit {0}
 DeepIfNone node (Err halt) = Unit {0}
 
 -- Holds if a statement that is still to begin needs the stack.
-abbrev pub BeginsDeep : Code → Result Walk Stop → Type 0
+abbrev pub BeginsDeep : Code → Result BlockProgress Stop → Type 0
 BeginsDeep c (Ok (walks.Begins number at)) = (number < length c.statements.items) × IsDeep (node_at c number)
 BeginsDeep c (Ok (walks.Ends flow)) = Unit {0}
 BeginsDeep c (Ok (walks.Enters entry at)) = Unit {0}
 BeginsDeep c (Err stop) = Unit {0}
 
 -- Holds if, in the iteration at which a loop stopped, a statement that is still to begin needs the stack.
-abbrev pub ToursDeep : Code → Result Tour Stop → Type 0
+abbrev pub ToursDeep : Code → Result LoopProgress Stop → Type 0
 ToursDeep c (Ok (tours.Ends flow)) = Unit {0}
-ToursDeep c (Ok (tours.Stands walk at)) = BeginsDeep c (Ok walk)
+ToursDeep c (Ok (tours.Stands progress at)) = BeginsDeep c (Ok progress)
 ToursDeep c (Err stop) = Unit {0}
 
 -- ---- how statements end

@@ -16,7 +16,7 @@ use Rattle.interp.specs.declared.halt.Halt.{Halt}
 use Rattle.interp.specs.declared.halt.Halt.TheVariants as halts
 use Rattle.interp.specs.Bounds.{Bounds}
 use Rattle.interp.specs.Folders.{folder}
-use Rattle.interp.specs.Inside.{failures_inside, inside}
+use Rattle.interp.specs.FolderEntries.{failures_inside, inside}
 
 -- Holds if the call stopped as the plan does, or if it was left for a folder. Then the rest of the whole plan is what is done for that
 -- folder.

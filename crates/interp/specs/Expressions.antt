@@ -19,10 +19,10 @@ use Rattle.objects.specs.Methods.{has_method as has_object_method, object_method
 use Rattle.world.specs.Plan.{Plan, deed, ruled, ◌>>=◌, give, at, refuse}
 use Rattle.expressions.specs.Forms.{asked_of, chosen, combined, disabler_method, function_inside, known_method, listed, literal_value}
 use Rattle.expressions.specs.Forms.{meaning_of, needed, paired, part_at, prefixed, refused_name, value_method, variable}
-use Rattle.interp.specs.declared.acting.Action.{Action}
-use Rattle.interp.specs.declared.acting.Action.TheVariants.{Call, Enter, Leave}
+use Rattle.interp.specs.declared.statement_calls.Action.{Action}
+use Rattle.interp.specs.declared.statement_calls.Action.TheVariants.{Call, Enter, Leave}
 use Rattle.interp.specs.declared.flow.Flow.{Flow}
-use Rattle.interp.specs.Entering.{action_of, by_way, entering}
+use Rattle.interp.specs.Subdir.{action_of, on_call_end, subdir_call}
 
 -- ---- calls
 
@@ -94,8 +94,8 @@ module _ (into : List ℕ → Plan Flow) where
   abbrev pub entered_inside : Bool → ℕ → ArgumentsData → Plan Data
   entered_inside true line a = give disabler
   entered_inside false line a = do
-    way ← entering line a
-    _ ← by_way into way
+    way ← subdir_call line a
+    _ ← on_call_end into way
     refuse line refusals.Type []
 
   -- Calls a function inside an expression, by what it does as a statement.

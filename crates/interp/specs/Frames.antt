@@ -23,11 +23,11 @@ use Rattle.interp.specs.declared.flow.Flow.{Flow}
 use Rattle.interp.specs.declared.flow.Flow.TheVariants.{Next}
 use Rattle.interp.specs.declared.halt.Halt.{Halt}
 use Rattle.interp.specs.declared.halt.Halt.TheVariants as halts
-use Rattle.interp.specs.declared.halt.Inside.{Inside}
-use Rattle.interp.specs.declared.touring.Tour.{Tour}
-use Rattle.interp.specs.declared.touring.Tour.TheVariants as tours
-use Rattle.interp.specs.declared.walking.Walk.{Walk}
-use Rattle.interp.specs.declared.walking.Walk.TheVariants as walks
+use Rattle.interp.specs.declared.halt.FolderEntry.{FolderEntry}
+use Rattle.interp.specs.declared.loop_rounds.LoopProgress.{LoopProgress}
+use Rattle.interp.specs.declared.loop_rounds.LoopProgress.TheVariants as tours
+use Rattle.interp.specs.declared.block_statements.BlockProgress.{BlockProgress}
+use Rattle.interp.specs.declared.block_statements.BlockProgress.TheVariants as walks
 use Rattle.world.specs.declared.store.Place.{Place}
 use Rattle.interp.specs.declared.frames.BlockRest.{BlockRest}
 use Rattle.interp.specs.declared.frames.LoopHead.{LoopHead}
@@ -40,7 +40,7 @@ use Rattle.expressions.specs.Contexts.{Stand, Given, Leads, stand_of}
 use Rattle.interp.specs.Evaluates.{Comes, HaltsTo, Reads}
 use Rattle.interp.specs.Bounds.{Bounds, bounds}
 use Rattle.interp.specs.Folders.{folder}
-use Rattle.interp.specs.Inside.{inside}
+use Rattle.interp.specs.FolderEntries.{inside}
 use Rattle.expressions.specs.Rounds.{rounds_in, Round}
 use Rattle.interp.specs.Statements.{after_round, branches_of, do_all, does, on_next, rounds_of}
 use Rattle.expressions.specs.Assignments.{bound}
@@ -194,7 +194,7 @@ pub record Stepped (files : Files) (whole : Plan Flow) (old : Stand) (result : R
   pub steps : StepsTo files whole old result fs now
 
 -- The whole plan is to enter this folder, followed by what the stack still does.
-pub record Waits (files : Files) (left : Bounds) (whole : Plan Flow) (old : Stand) (entry : Inside) (fs : List Frame) (now : Stand)
+pub record Waits (files : Files) (left : Bounds) (whole : Plan Flow) (old : Stand) (entry : FolderEntry) (fs : List Frame) (now : Stand)
     : Type 0 where
   pub rests : List Rest
   pub stacked : Stacked now.names fs rests
@@ -237,7 +237,7 @@ parts_by table c left block = record {
 }
 
 -- Returns what is left of statements: nothing, one and the rest after it, or a folder that is entered and the rest after it.
-abbrev pub walk_left : Parts → Bounds → Walk → Plan Flow
+abbrev pub walk_left : Parts → Bounds → BlockProgress → Plan Flow
 walk_left parts left (walks.Ends flow) = give flow
 walk_left parts left (walks.Begins number at) = ruled (parts.begun number) >>= λ flow. on_next flow (parts.rest at)
 walk_left parts left (walks.Enters entry at) = ruled (inside left entry.value) >>= λ flow. on_next flow (parts.rest at)
@@ -253,9 +253,9 @@ pub record Rested {X : Type 0} (rest : X → Plan Flow) (files : Files) (whole :
   pub rested : LeadsOr rest files whole old result now
 
 -- Returns what is left of iterations: nothing, or what is left of one and the iterations after it.
-abbrev pub tour_left : Parts → Bounds → (ℕ → Plan Flow) → Tour → Plan Flow
+abbrev pub tour_left : Parts → Bounds → (ℕ → Plan Flow) → LoopProgress → Plan Flow
 tour_left parts left rounds (tours.Ends flow) = give flow
-tour_left parts left rounds (tours.Stands walk at) = ruled (walk_left parts left walk) >>= λ flow. after_round flow (rounds at)
+tour_left parts left rounds (tours.Stands progress at) = ruled (walk_left parts left progress) >>= λ flow. after_round flow (rounds at)
 
 -- Holds if a frame and the end of a rule were put on a stack, or if memory ran out.
 abbrev pub Lays : List Frame → Frame → Result (Unit {0}) Stop → List Frame → Type 0
@@ -340,7 +340,7 @@ module _ {T O L : Type 0} where
 
   -- Holds if the call does the statements of a block, unless one needs the stack.
   abbrev pub Walks : (T → TreeState) → (O → OutputState) → (List (List ℕ) → Bounds → Plan Flow) → Block → Code
-      → Context T O L → Result Walk Stop → Context T O L → Type 0
+      → Context T O L → Result BlockProgress Stop → Context T O L → Type 0
   Walks tree out plan block code old result new =
       (files : Files) (left : Bounds) (table : List (List ℕ)) → Holds (tree old.tree.now) files → Made code old.store.now.names table
       → Rested (walk_left (parts_by table code left block) left) files (plan table left) (stand_of tree out old) result
@@ -348,7 +348,7 @@ module _ {T O L : Type 0} where
 
   -- Holds if the call does the iterations of a loop with this head, from an index on, unless one needs the stack.
   abbrev pub Tours : (T → TreeState) → (O → OutputState) → LoopHead → List Round → ℕ → Code
-      → Context T O L → Result Tour Stop → Context T O L → Type 0
+      → Context T O L → Result LoopProgress Stop → Context T O L → Type 0
   Tours tree out head all from code old result new =
       (files : Files) (left : Bounds) (table : List (List ℕ)) → Holds (tree old.tree.now) files → Made code old.store.now.names table
       → Rested (tour_left (parts_by table code left head.body) left (λ at. rounds_of (round_by table code left head) (drop at all))) files

@@ -14,8 +14,8 @@ use Rattle.expressions.specs.declared.conditions.Choice.{Choice}
 use Rattle.expressions.specs.declared.conditions.Choice.TheVariants.{Body, Others, Skip}
 use Rattle.interp.specs.declared.flow.Flow.{Flow}
 use Rattle.interp.specs.declared.flow.Flow.TheVariants.{Next, Continued, Broken, Finished}
-use Rattle.interp.specs.Acting.{performed}
-use Rattle.interp.specs.Entering.{by_way}
+use Rattle.interp.specs.StatementCalls.{named_call}
+use Rattle.interp.specs.Subdir.{on_call_end}
 use Rattle.interp.specs.Expressions.{value_of, given_by}
 
 -- Continues after a statement.
@@ -45,14 +45,14 @@ are_allowed false rounds = true
 are_allowed true rounds = nat_le (length rounds) 65536
 
 -- Runs the iterations of a loop, or refuses with E22 if there are too many.
-abbrev pub walked_by : Bool → ℕ → Plan Flow → Plan Flow
-walked_by true line rounds = rounds
-walked_by false line rounds = refuse line refusals.Limit []
+abbrev pub rounds_if : Bool → ℕ → Plan Flow → Plan Flow
+rounds_if true line rounds = rounds
+rounds_if false line rounds = refuse line refusals.Limit []
 
 -- Runs the iterations of a loop, or refuses the value that it is over.
-abbrev pub walked : Bool → ℕ → (Round → Plan Flow) → Result (List Round) Refusal → Plan Flow
-walked few line round (Ok rounds) = walked_by (are_allowed few rounds) line (rounds_of round rounds)
-walked few line round (Err refusal) = refuse line refusal []
+abbrev pub rounds_within : Bool → ℕ → (Round → Plan Flow) → Result (List Round) Refusal → Plan Flow
+rounds_within few line round (Ok rounds) = rounds_if (are_allowed few rounds) line (rounds_of round rounds)
+rounds_within few line round (Err refusal) = refuse line refusal []
 
 -- Continues with the part of an `if` that was chosen.
 abbrev pub by_choice : Choice → Plan Flow → Plan Flow → Plan Flow
@@ -63,9 +63,9 @@ by_choice Skip body others = give Next
 -- `into` is what the run does to enter the folder that a text names.
 module _ (into : List ℕ → Plan Flow) where
   -- Runs an expression as a statement. A call may have no value.
-  abbrev pub stated : ExpressionTree → Plan Flow
-  stated (FunctionTree name es line) = ruled (performed into line name es >>= λ way. by_way into way)
-  stated e = do
+  abbrev pub expression_statement : ExpressionTree → Plan Flow
+  expression_statement (FunctionTree name es line) = ruled (named_call into line name es >>= λ way. on_call_end into way)
+  expression_statement e = do
     _ ← ruled (given_by into e)
     give Next
 
@@ -84,13 +84,13 @@ module _ (into : List ℕ → Plan Flow) (few : Bool) where
     does (AppendTree name line value) = do
       _ ← appended line name (ruled (value_of into value))
       give Next
-    does (ValueTree e line) = stated into e
+    does (ValueTree e line) = expression_statement into e
     does (BreakTree line) = give Broken
     does (ContinueTree line) = give Continued
     does (IfTree line branches otherwise) = branches_of branches (do_all otherwise)
     does (ForeachTree line first second items items_line body) = do
       d ← ruled (value_of into items)
-      walked few line (λ r. bound line first second r >>= λ _. do_all body) (looped second d)
+      rounds_within few line (λ r. bound line first second r >>= λ _. do_all body) (looped second d)
 
     pub branches_of : Branches → Plan Flow → Plan Flow
     branches_of NoBranch otherwise = otherwise

@@ -5,14 +5,14 @@ ghost use Rattle.machine.specs.machine_file.View.{machine_in};
 ghost use Rattle.ports.specs.Endings.{HasRoom};
 ghost use Rattle.world.specs.Prelude.{Files, Holds, failures_after, settings_view};
 ghost use Rattle.world.specs.Trace.{seen};
-ghost use Rattle.interp.specs.Beginnings.{Reads, RootGives, Starts};
+ghost use Rattle.interp.specs.FirstStatement.{Reads, RootGives, Starts};
 ghost use Rattle.expressions.specs.Codes.{file_by};
 ghost use Rattle.interp.specs.Cost.{tree_cost};
 ghost use Rattle.interp.specs.Evaluated.{Evaluated, FailsOnce, Ticked};
 ghost use Rattle.interp.specs.Evaluation.{IsSaid, MachineSaid, defined, evaluated, root};
 
-use crate::beginning::line_before_project;
 use crate::evaluator::Evaluator;
+use crate::first_statement::line_before_project;
 use crate::flow::Flow;
 use arguments::no_arguments;
 use code::Code;

@@ -1,6 +1,6 @@
 //! Says why an expression has no value.
 ghost use Rattle.std.specs.Prelude.{◌≡◌, ℕ};
-ghost use Rattle.interp.specs.Inside.{HaltEnds, RuleEnds, failures_halted, failures_inside};
+ghost use Rattle.interp.specs.FolderEntries.{HaltEnds, RuleEnds, failures_halted, failures_inside};
 
 use std::alloc::{AllocError, AllocFailed};
 use std::mem;
@@ -9,7 +9,7 @@ use world::{Steps, Stop};
 
 /// Holds a folder that a call of `subdir` enters inside an expression.
 #[derive(Drop)]
-pub struct Inside {
+pub struct FolderEntry {
     /// The text that names it.
     pub text: String,
     /// The line of the call.
@@ -24,7 +24,7 @@ pub enum Halt {
     /// The run stops.
     Stops(Stop),
     /// The expression is left for a folder, and refused after it.
-    Enters(Box<Inside>),
+    Enters(Box<FolderEntry>),
 }
 
 impl From<Stop> for Halt {

@@ -17,29 +17,29 @@
 //! own, so a run copies them once, and callers keep theirs.
 #![tactic(auto)]
 
-mod acting;
-mod beginning;
 mod block;
+mod block_statements;
 mod by_name;
 mod calling;
-mod entering;
 mod evaluation;
 mod evaluator;
+mod expression_calls;
+mod first_statement;
 mod flow;
+mod folders;
+mod frame_stack;
 mod frames;
 mod functions;
 mod halt;
-mod inside;
 mod law;
-mod laying;
+mod loop_rounds;
 mod nodes;
 mod operation;
 mod project_functions;
 mod running;
-mod stated;
-mod touring;
+mod stack_statements;
+mod statement_calls;
 mod unwinding;
-mod walking;
 
 pub use by_name::{CallName, call, lookup};
 pub use evaluation::{Inputs, definitions, evaluate, read_machine};

@@ -35,7 +35,7 @@ impl<'a, T: Tree, O: Outputs, L: Ledger> Evaluator<'a, T, O, L> {
         ensures gives { Evaluates T.seen O.seen data_of (λ into ts. ruled (value_of into (tree_at ts node))) code.now
             self.old.context result self.new.context }
     {
-        let mut answer = self.form(code, node);
+        let mut answer = self.eval_node(code, node);
         end_rule_inside(&mut answer, self.context.steps);
         answer
     }
@@ -44,7 +44,7 @@ impl<'a, T: Tree, O: Outputs, L: Ledger> Evaluator<'a, T, O, L> {
     /// function for all forms would reserve stack for all of them.
     #[cycle(eval)]
     #[inline(always)]
-    pub fn form(&mut self, code: &Code, node: usize) -> Result<Value, Halt>
+    pub fn eval_node(&mut self, code: &Code, node: usize) -> Result<Value, Halt>
         requires here { node < length code.now.nodes.items }
         requires room { HasRoom T.seen O.seen self.old.context }
         ensures same { Same self.old.context self.new.context }
@@ -57,7 +57,7 @@ impl<'a, T: Tree, O: Outputs, L: Ledger> Evaluator<'a, T, O, L> {
             Node::Literal { line, literal } => {
                 Ok(self.context.literal(*line as usize, literal)?)
             }
-            _ => Ok(self.compound(code, node)?),
+            _ => Ok(self.eval_parts(code, node)?),
         }
     }
 
@@ -65,7 +65,7 @@ impl<'a, T: Tree, O: Outputs, L: Ledger> Evaluator<'a, T, O, L> {
     // whole, so that the result of each form is put together from registers.
     #[cycle(eval)]
     #[inline(never)]
-    fn compound(&mut self, code: &Code, node: usize) -> Result<Value, Halt>
+    fn eval_parts(&mut self, code: &Code, node: usize) -> Result<Value, Halt>
         requires here { node < length code.now.nodes.items }
         requires parts { has_parts_at code.now node ≡ true }
         requires room { HasRoom T.seen O.seen self.old.context }
@@ -85,16 +85,16 @@ impl<'a, T: Tree, O: Outputs, L: Ledger> Evaluator<'a, T, O, L> {
                 others,
                 line,
             } => Ok(self.chain(code, *first as usize, others, *line)?),
-            _ => Ok(self.rare(code, node)?),
+            _ => Ok(self.eval_other(code, node)?),
         }
     }
 
     // Returns the value of a less frequent form, before its rule has ended.
     #[cycle(eval)]
     #[inline(never)]
-    fn rare(&mut self, code: &Code, node: usize) -> Result<Value, Halt>
+    fn eval_other(&mut self, code: &Code, node: usize) -> Result<Value, Halt>
         requires here { node < length code.now.nodes.items }
-        requires rare { is_rare_at code.now node ≡ true }
+        requires eval_other { is_rare_at code.now node ≡ true }
         requires room { HasRoom T.seen O.seen self.old.context }
         ensures same { Same self.old.context self.new.context }
         ensures device { FailsInside T.seen O.seen self.old.context result self.new.context }
@@ -108,7 +108,7 @@ impl<'a, T: Tree, O: Outputs, L: Ledger> Evaluator<'a, T, O, L> {
                 let call: &CallNode = call;
                 let function = self.context.function_inside(*line, &call.name)?;
                 let mut arguments = self.arguments(code, &call.arguments)?;
-                let given = self.call_inside(*line, function, &arguments)?;
+                let given = self.call_in_expression(*line, function, &arguments)?;
                 arguments.clear();
                 *self.room = arguments;
                 Ok(given)

@@ -8,14 +8,14 @@ ghost use Rattle.interp.specs.Frames.{Does, Steps, Turns, others_by, parts_by, r
 ghost use Rattle.interp.specs.Statements.{after_round, do_all, on_next, rounds_of};
 
 use crate::block::Block;
+use crate::block_statements::BlockProgress;
 use crate::evaluator::Evaluator;
 use crate::flow::Flow;
+use crate::frame_stack::push_frame;
 use crate::frames::{BlockRest, Frame, LoopRest};
 use crate::halt::Halt;
-use crate::laying::lay;
-use crate::touring::Tour;
+use crate::loop_rounds::LoopProgress;
 use crate::unwinding::unwind;
-use crate::walking::Walk;
 use code::Code;
 use ports::{Outputs, Tree};
 use std::mem::forget;
@@ -63,22 +63,22 @@ impl<'a, T: Tree, O: Outputs, L: Ledger> Evaluator<'a, T, O, L> {
         ensures device { Fails T.seen O.seen self.old.context result self.new.context }
         ensures gives { Steps T.seen O.seen frame flow self.old.context stack.old.items result self.new.context stack.new.items }
     {
-        match self.turn(frame, flow, stack) {
+        match self.resume(frame, flow, stack) {
             Ok(flow) => Ok(flow),
             Err(stop) => Err(unwind(stop, stack, self.context.steps)),
         }
     }
 
     // Runs one frame, before a fault ends the rules on the stack.
-    fn turn(&mut self, frame: Frame, flow: Flow, stack: &mut Vec<Frame>) -> Result<Flow, Stop>
+    fn resume(&mut self, frame: Frame, flow: Flow, stack: &mut Vec<Frame>) -> Result<Flow, Stop>
         requires room { HasRoom T.seen O.seen self.old.context }
         ensures same { Same self.old.context self.new.context }
         ensures device { Fails T.seen O.seen self.old.context result self.new.context }
         ensures gives { Turns T.seen O.seen frame flow self.old.context stack.old.items result self.new.context stack.new.items }
     {
         match frame {
-            Frame::Block(rest) => self.go_on(rest, flow, stack),
-            Frame::Loop(rest) => self.go_round(rest, flow, stack),
+            Frame::Block(rest) => self.continue_block(rest, flow, stack),
+            Frame::Loop(rest) => self.continue_loop(rest, flow, stack),
             Frame::End => {
                 self.context.steps.tick();
                 Ok(flow)
@@ -92,7 +92,12 @@ impl<'a, T: Tree, O: Outputs, L: Ledger> Evaluator<'a, T, O, L> {
     }
 
     // Runs the rest of a block after a statement, up to one that needs the stack.
-    fn go_on(&mut self, rest: BlockRest, flow: Flow, stack: &mut Vec<Frame>) -> Result<Flow, Stop>
+    fn continue_block(
+        &mut self,
+        rest: BlockRest,
+        flow: Flow,
+        stack: &mut Vec<Frame>,
+    ) -> Result<Flow, Stop>
         requires room { HasRoom T.seen O.seen self.old.context }
         ensures same { Same self.old.context self.new.context }
         ensures device { Fails T.seen O.seen self.old.context result self.new.context }
@@ -109,60 +114,65 @@ impl<'a, T: Tree, O: Outputs, L: Ledger> Evaluator<'a, T, O, L> {
             at: from,
             left,
         } = rest;
-        match self.walk(&code, block, from) {
-            Ok(walk) => self.go_into(walk, code, block, left, stack),
+        match self.do_statements(&code, block, from) {
+            Ok(progress) => self.push_rest(progress, code, block, left, stack),
             Err(stop) => Err(stop),
         }
     }
 
     // Begins the statement that needs the stack, or enters the folder, and puts the rest of the block on the stack.
-    fn go_into(
+    fn push_rest(
         &mut self,
-        walk: Walk,
+        progress: BlockProgress,
         code: Rc<Code>,
         block: Block,
         left: usize,
         stack: &mut Vec<Frame>,
     ) -> Result<Flow, Stop>
-        requires deep { BeginsDeep code.value (Ok walk) }
+        requires deep { BeginsDeep code.value (Ok progress) }
         requires room { HasRoom T.seen O.seen self.old.context }
         ensures same { Same self.old.context self.new.context }
         ensures device { Fails T.seen O.seen self.old.context result self.new.context }
         ensures gives { (few : Bool) → Does T.seen O.seen (λ table.
-            walk_left (parts_by table code.value (bounds few left) block) (bounds few left) walk) code.value
+            walk_left (parts_by table code.value (bounds few left) block) (bounds few left) progress) code.value
             self.old.context stack.old.items result self.new.context stack.new.items }
     {
-        match walk {
-            Walk::Ends(flow) => Ok(flow),
-            Walk::Begins { number, at } => {
+        match progress {
+            BlockProgress::Ends(flow) => Ok(flow),
+            BlockProgress::Begins { number, at } => {
                 let others = BlockRest {
                     code: code.clone()?,
                     block,
                     at,
                     left,
                 };
-                lay(stack, Frame::Block(others))?;
-                match self.begin(&code, number, left, stack) {
+                push_frame(stack, Frame::Block(others))?;
+                match self.begin_statement(&code, number, left, stack) {
                     Ok(flow) => Ok(flow),
                     Err(Halt::Stops(stop)) => Err(stop),
-                    Err(Halt::Enters(entry)) => self.enter_inside(entry, left, stack),
+                    Err(Halt::Enters(entry)) => self.enter_from_expression(entry, left, stack),
                 }
             }
-            Walk::Enters { entry, at } => {
+            BlockProgress::Enters { entry, at } => {
                 let others = BlockRest {
                     code,
                     block,
                     at,
                     left,
                 };
-                lay(stack, Frame::Block(others))?;
-                self.enter_inside(entry, left, stack)
+                push_frame(stack, Frame::Block(others))?;
+                self.enter_from_expression(entry, left, stack)
             }
         }
     }
 
     // Runs the iterations that are left after one, up to a statement that needs the stack.
-    fn go_round(&mut self, rest: LoopRest, flow: Flow, stack: &mut Vec<Frame>) -> Result<Flow, Stop>
+    fn continue_loop(
+        &mut self,
+        rest: LoopRest,
+        flow: Flow,
+        stack: &mut Vec<Frame>,
+    ) -> Result<Flow, Stop>
         requires room { HasRoom T.seen O.seen self.old.context }
         ensures same { Same self.old.context self.new.context }
         ensures device { Fails T.seen O.seen self.old.context result self.new.context }
@@ -180,9 +190,9 @@ impl<'a, T: Tree, O: Outputs, L: Ledger> Evaluator<'a, T, O, L> {
             at: from,
             left,
         } = rest;
-        match self.tour(&code, &head, &whole, from) {
-            Ok(Tour::Ends(flow)) => Ok(flow),
-            Ok(Tour::Stands { walk, at }) => {
+        match self.do_rounds(&code, &head, &whole, from) {
+            Ok(LoopProgress::Ends(flow)) => Ok(flow),
+            Ok(LoopProgress::Stands { progress, at }) => {
                 let others = LoopRest {
                     code: code.clone()?,
                     head,
@@ -190,8 +200,8 @@ impl<'a, T: Tree, O: Outputs, L: Ledger> Evaluator<'a, T, O, L> {
                     at,
                     left,
                 };
-                lay(stack, Frame::Loop(others))?;
-                self.go_into(walk, code, head.body, left, stack)
+                push_frame(stack, Frame::Loop(others))?;
+                self.push_rest(progress, code, head.body, left, stack)
             }
             Err(stop) => Err(stop),
         }

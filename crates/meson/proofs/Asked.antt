@@ -14,12 +14,12 @@ use Rattle.world.specs.Trace.{Seen}
 use Rattle.world.specs.World.{Asked, World}
 use Rattle.world.specs.declared.stop.Stop.{Stop}
 use Rattle.world.specs.declared.stop.Stop.TheVariants as stops
-use Rattle.interp.specs.Beginnings.{Reads}
+use Rattle.interp.specs.FirstStatement.{Reads}
 use Rattle.interp.specs.Evaluation.{MachineSaid, definitions, evaluated, sections_of}
 use Rattle.meson.specs.Laws.{asked_by}
 use Rattle.meson.specs.Questions.{fault_of, questions_text}
-use Rattle.meson.specs.Telling.{Asks, AsksOver, Ended, text_of}
-use Rattle.meson.specs.declared.asking.Asking.{Asking}
+use Rattle.meson.specs.QuestionLines.{Asks, AsksOver, Ended, text_of}
+use Rattle.meson.specs.declared.question_run.Asking.{Asking}
 
 -- the lines of all that a run asks
 abbrev pub run_text : Files → SettingsData → MachineSaid → List ℕ

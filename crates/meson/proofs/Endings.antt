@@ -13,11 +13,11 @@ use Rattle.world.specs.Gives.{failures_after}
 use Rattle.world.specs.Run.{Run, outcome_of}
 use Rattle.world.specs.declared.stop.Stop.{Stop}
 use Rattle.world.specs.declared.stop.Stop.TheVariants as stops
-use Rattle.meson.specs.Ending.{TellsFault, detail_told, ending_told, told_whole}
+use Rattle.meson.specs.FaultRun.{TellsFault, detail_told, ending_told, told_whole}
 use Rattle.meson.specs.Questions.{fault_of}
 use Rattle.meson.specs.Setup.{Concludes, FailsOnce}
-use Rattle.meson.specs.Telling.{Asks}
-use Rattle.meson.specs.declared.asking.Asking.{Asking}
+use Rattle.meson.specs.QuestionLines.{Asks}
+use Rattle.meson.specs.declared.question_run.Asking.{Asking}
 use Rattle.meson.proofs.Runs.{unfinished}
 use Rattle.meson.proofs.Tellings.{kept_fails}
 

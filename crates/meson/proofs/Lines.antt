@@ -5,8 +5,8 @@ use Rattle.std.specs.List.{flat_map}
 use Rattle.std.proofs.lemmas.Grind.{flat_map-append}
 use Rattle.std.proofs.lemmas.List.{append-nil, append_assoc, map-append, take_more}
 use Rattle.meson.specs.Questions.{first_told}
-use Rattle.meson.specs.Telling.{Tells}
-use Rattle.meson.specs.declared.telling.Telling.{Telling}
+use Rattle.meson.specs.QuestionLines.{Tells}
+use Rattle.meson.specs.declared.question_lines.Telling.{Telling}
 
 -- these lines are all that was told from the beginning on
 abbrev pub Began : List (List ℕ × List ℕ) → Telling → Type 0

@@ -17,8 +17,8 @@ use Rattle.world.specs.declared.stop.Stop.{Stop}
 use Rattle.world.specs.declared.stop.Stop.TheVariants as stops
 use Rattle.meson.specs.Questions.{ending_with, fault_of, lines_then}
 use Rattle.meson.specs.Setup.{Concludes, FailsOnce, Keeps, OnFault}
-use Rattle.meson.specs.Telling.{Asks, Told}
-use Rattle.meson.specs.declared.asking.Asking.{Asking}
+use Rattle.meson.specs.QuestionLines.{Asks, Told}
+use Rattle.meson.specs.declared.question_run.Asking.{Asking}
 use Rattle.meson.proofs.Runs.{unfinished}
 
 pub ends_none : (old : OutputState) → Concludes (ending_with None) statuses.Done old old

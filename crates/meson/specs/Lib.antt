@@ -1,6 +1,6 @@
-pub mod Ending
+pub mod FaultRun
 pub mod Laws
+pub mod QuestionLines
 pub mod Questions
 pub mod Setup
 pub mod Tasks
-pub mod Telling

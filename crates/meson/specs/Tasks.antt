@@ -5,7 +5,7 @@ use Rattle.command.specs.declared.line.Task.TheVariants.{Setup, Questions, Fault
 use Rattle.world.specs.Deed.{Files}
 use Rattle.world.specs.Settings.{SettingsData}
 use Rattle.interp.specs.Evaluation.{MachineSaid}
-use Rattle.meson.specs.Ending.{fault_told}
+use Rattle.meson.specs.FaultRun.{fault_told}
 use Rattle.meson.specs.Questions.{questions_of}
 use Rattle.meson.specs.Setup.{run_of}
 

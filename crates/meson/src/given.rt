@@ -4,7 +4,7 @@ ghost use Rattle.std.specs.Prelude.{◌≡◌, IfOk};
 ghost use Rattle.ports.specs.memory.MemTree.{mem_tree_seen};
 
 use crate::expected::Expected;
-use crate::running::setup;
+use crate::setup_run::setup;
 use outputs::build_file::Status;
 use ports::memory::MemTree;
 use ports::{Outputs, Tree};

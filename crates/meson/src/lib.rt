@@ -8,28 +8,27 @@
 //! template pass or a Ninja writer, for example `meson::syntax::parse`.
 #![tactic(auto)]
 
-mod asking;
 #[cfg(test)]
 mod device_failures;
-mod ending;
 #[cfg(test)]
 mod expected;
+mod fault_run;
 #[cfg(test)]
 mod given;
 mod law;
-mod running;
+mod question_lines;
+mod question_run;
+mod setup_run;
 mod task;
-mod telling;
 
 pub use arguments;
-pub use asking::questions;
 pub use build;
 pub use calls;
 pub use code;
 pub use command;
 pub use command::{Line, LineFault, Task, command_line};
-pub use ending::fault;
 pub use expressions;
+pub use fault_run::fault;
 pub use interp;
 pub use interp::Inputs;
 pub use introspection;
@@ -43,8 +42,9 @@ pub use options;
 pub use outputs;
 pub use outputs::build_file::Status;
 pub use ports;
+pub use question_run::questions;
 pub use resource_calls;
-pub use running::setup;
+pub use setup_run::setup;
 pub use support;
 pub use syntax;
 pub use target_calls;

@@ -6,9 +6,9 @@ ghost use Rattle.world.specs.Prelude.{Files, Holds, settings_view};
 ghost use Rattle.meson.specs.Setup.{FailsOnce};
 ghost use Rattle.meson.specs.Tasks.{run_by};
 
-use crate::asking::questions;
-use crate::ending::fault;
-use crate::running::setup;
+use crate::fault_run::fault;
+use crate::question_run::questions;
+use crate::setup_run::setup;
 use command::Task;
 use interp::Inputs;
 use outputs::build_file::Status;

@@ -34,7 +34,7 @@ use Rattle.interp.proofs.Reading.{arguments_reach, operands_reach, links_reach}
 use Rattle.interp.proofs.evaluator.Evaluator.+eval.Goals as goal
 
 pub eval-returns-clause-gives : goal.eval-returns-clause-gives
-eval-returns-clause-gives g t c = λ files left ts hold reads. comes_rule c.form-answer.result c.end_rule_inside.new.answer c.end_rule_inside.ensures.ends (c.form-answer.ensures.gives files left ts hold reads)
+eval-returns-clause-gives g t c = λ files left ts hold reads. comes_rule c.eval_node-answer.result c.end_rule_inside.new.answer c.end_rule_inside.ensures.ends (c.eval_node-answer.ensures.gives files left ts hold reads)
 
 pub arguments-loop-argument-init : goal.arguments-loop-argument-init
 arguments-loop-argument-init g t c = record { same = (refl, (refl, (refl, refl))); tree = refl; out = refl; done = λ files left ts hold reads. rw c.clear.ensures (leads_start hold) }
@@ -82,39 +82,39 @@ ask_links-loop-link-preserved g t c = record {
 pub ask_links-returns-clause-gives : goal.ask_links-returns-clause-gives
 ask_links-returns-clause-gives g t c = λ files left ts hold reads. comes_given (leads_end (leads_as (ap (λ ys. links_of (folder left) c.args.line (option_map data_of c.loop-link.given) (links ys)) (no_item (link_at ts) c.args.links.now c.loop-link.link-index c.loop-link-test.false)) (c.loop-link.invariant.done files left ts hold reads)) (given_give (c.loop-link.invariant.done files left ts hold reads).holds refl))
 
-pub rare-list-requires : goal.rare-list-requires
-rare-list-requires g t c κs lives = let reach : above above_number c.deref.result.now ≤ c.args.node = rw c.deref.ensures.value (numbers_reach c.args.node c.in-List.items.items (parts_at c.args.code.now c.args.node c.index.result.now (flat.List c.in-List.items c.in-List.line) c.requires.here c.index.ensures c.in-List.is)) in (omega arith, (lives.0, (lives.1.0, (lives.1.1, (omega arith, c.requires.room)))))
+pub eval_other-list-requires : goal.eval_other-list-requires
+eval_other-list-requires g t c κs lives = let reach : above above_number c.deref.result.now ≤ c.args.node = rw c.deref.ensures.value (numbers_reach c.args.node c.in-List.items.items (parts_at c.args.code.now c.args.node c.index.result.now (flat.List c.in-List.items c.in-List.line) c.requires.here c.index.ensures c.in-List.is)) in (omega arith, (lives.0, (lives.1.0, (lives.1.1, (omega arith, c.requires.room)))))
 
-pub rare-dictionary-requires : goal.rare-dictionary-requires
-rare-dictionary-requires g t c κs lives = let reach : above above_entry c.deref-in-Dictionary.result.now ≤ c.args.node = rw c.deref-in-Dictionary.ensures.value (entries_reach c.args.node c.in-Dictionary.entries.items (parts_at c.args.code.now c.args.node c.index.result.now (flat.Dictionary c.in-Dictionary.entries c.in-Dictionary.line) c.requires.here c.index.ensures c.in-Dictionary.is)) in (omega arith, (lives.0, (lives.1.0, (lives.1.1, (omega arith, c.requires.room)))))
+pub eval_other-dictionary-requires : goal.eval_other-dictionary-requires
+eval_other-dictionary-requires g t c κs lives = let reach : above above_entry c.deref-in-Dictionary.result.now ≤ c.args.node = rw c.deref-in-Dictionary.ensures.value (entries_reach c.args.node c.in-Dictionary.entries.items (parts_at c.args.code.now c.args.node c.index.result.now (flat.Dictionary c.in-Dictionary.entries c.in-Dictionary.line) c.requires.here c.index.ensures c.in-Dictionary.is)) in (omega arith, (lives.0, (lives.1.0, (lives.1.1, (omega arith, c.requires.room)))))
 
-pub rare-arguments-requires : goal.rare-arguments-requires
-rare-arguments-requires g t c κs lives = let reach : above above_argument c.deref-in-Call.result.now ≤ c.args.node = rw (c.deref-in-Call.ensures.value ∙ ap (λ (x : CallNode). x.arguments.items) c.deref-call.ensures) (arguments_reach c.args.node c.in-Call.call.value.arguments.items (parts_at c.args.code.now c.args.node c.index.result.now (flat.Call c.in-Call.call c.in-Call.line) c.requires.here c.index.ensures c.in-Call.is)) in (omega arith, (lives.0, (lives.1.0, (lives.1.1, (omega arith, c.requires.room)))))
+pub eval_other-arguments-requires : goal.eval_other-arguments-requires
+eval_other-arguments-requires g t c κs lives = let reach : above above_argument c.deref-in-Call.result.now ≤ c.args.node = rw (c.deref-in-Call.ensures.value ∙ ap (λ (x : CallNode). x.arguments.items) c.deref-call.ensures) (arguments_reach c.args.node c.in-Call.call.value.arguments.items (parts_at c.args.code.now c.args.node c.index.result.now (flat.Call c.in-Call.call c.in-Call.line) c.requires.here c.index.ensures c.in-Call.is)) in (omega arith, (lives.0, (lives.1.0, (lives.1.1, (omega arith, c.requires.room)))))
 
-pub compound-chain-requires : goal.compound-chain-requires
-compound-chain-requires g t c κs lives = let reach : max (suc c.in-Chain.first) (above above_operand c.deref-in-Chain.result.now) ≤ c.args.node = rw c.deref-in-Chain.ensures.value (first_reach c.args.node c.in-Chain.first above_operand c.in-Chain.others.items (operand_within c.args.node) (operands_reach c.args.node c.in-Chain.others.items) (parts_at c.args.code.now c.args.node c.index.result.now (flat.Chain c.in-Chain.first c.in-Chain.others c.in-Chain.line) c.requires.here c.index.ensures c.in-Chain.is)) in (omega arith, (lives.0, (lives.1.0, (lives.1.1, (omega arith, c.requires.room)))))
+pub eval_parts-chain-requires : goal.eval_parts-chain-requires
+eval_parts-chain-requires g t c κs lives = let reach : max (suc c.in-Chain.first) (above above_operand c.deref-in-Chain.result.now) ≤ c.args.node = rw c.deref-in-Chain.ensures.value (first_reach c.args.node c.in-Chain.first above_operand c.in-Chain.others.items (operand_within c.args.node) (operands_reach c.args.node c.in-Chain.others.items) (parts_at c.args.code.now c.args.node c.index.result.now (flat.Chain c.in-Chain.first c.in-Chain.others c.in-Chain.line) c.requires.here c.index.ensures c.in-Chain.is)) in (omega arith, (lives.0, (lives.1.0, (lives.1.1, (omega arith, c.requires.room)))))
 
-pub rare-returns-in_err-list-in-List-clause-gives : goal.rare-returns-in_err-list-in-List-clause-gives
-rare-returns-in_err-list-in-List-clause-gives g t c = λ files left ts hold reads. comes_as (ap (value_of (folder left)) (sym (opened reads c.args.node c.index.result.now (flat.List c.in-List.items c.in-List.line) c.requires.here c.index.ensures c.in-List.is))) (comes_as (ap (λ (xs : List ℕ). value_of (folder left) (ListTree (expressions (map (tree_at ts) xs)) c.in-List.line)) c.deref.ensures.value) (comes_same (c.in_err-list-in-List.ensures.gives files left ts hold reads) c.from_residual.ensures.1))
+pub eval_other-returns-in_err-list-in-List-clause-gives : goal.eval_other-returns-in_err-list-in-List-clause-gives
+eval_other-returns-in_err-list-in-List-clause-gives g t c = λ files left ts hold reads. comes_as (ap (value_of (folder left)) (sym (opened reads c.args.node c.index.result.now (flat.List c.in-List.items c.in-List.line) c.requires.here c.index.ensures c.in-List.is))) (comes_as (ap (λ (xs : List ℕ). value_of (folder left) (ListTree (expressions (map (tree_at ts) xs)) c.in-List.line)) c.deref.ensures.value) (comes_same (c.in_err-list-in-List.ensures.gives files left ts hold reads) c.from_residual.ensures.1))
 
-pub rare-returns-in-List-clause-gives : goal.rare-returns-in-List-clause-gives
-rare-returns-in-List-clause-gives g t c = λ files left ts hold reads. comes_as (ap (value_of (folder left)) (sym (opened reads c.args.node c.index.result.now (flat.List c.in-List.items c.in-List.line) c.requires.here c.index.ensures c.in-List.is))) (comes_as (ap (λ (xs : List ℕ). value_of (folder left) (ListTree (expressions (map (tree_at ts) xs)) c.in-List.line)) c.deref.ensures.value) (c.in_ok-list-in-List.ensures.gives files left ts hold reads))
+pub eval_other-returns-in-List-clause-gives : goal.eval_other-returns-in-List-clause-gives
+eval_other-returns-in-List-clause-gives g t c = λ files left ts hold reads. comes_as (ap (value_of (folder left)) (sym (opened reads c.args.node c.index.result.now (flat.List c.in-List.items c.in-List.line) c.requires.here c.index.ensures c.in-List.is))) (comes_as (ap (λ (xs : List ℕ). value_of (folder left) (ListTree (expressions (map (tree_at ts) xs)) c.in-List.line)) c.deref.ensures.value) (c.in_ok-list-in-List.ensures.gives files left ts hold reads))
 
-pub rare-returns-in_err-dictionary-in-Dictionary-clause-gives : goal.rare-returns-in_err-dictionary-in-Dictionary-clause-gives
-rare-returns-in_err-dictionary-in-Dictionary-clause-gives g t c = λ files left ts hold reads. comes_as (ap (value_of (folder left)) (sym (opened reads c.args.node c.index.result.now (flat.Dictionary c.in-Dictionary.entries c.in-Dictionary.line) c.requires.here c.index.ensures c.in-Dictionary.is))) (comes_as (ap (λ (xs : List EntryNode). value_of (folder left) (DictionaryTree (entries (map (entry_at ts) xs)) c.in-Dictionary.line)) c.deref-in-Dictionary.ensures.value) (comes_same (c.in_err-dictionary-in-Dictionary.ensures.gives files left ts hold reads) c.from_residual-in_err-dictionary-in-Dictionary.ensures.1))
+pub eval_other-returns-in_err-dictionary-in-Dictionary-clause-gives : goal.eval_other-returns-in_err-dictionary-in-Dictionary-clause-gives
+eval_other-returns-in_err-dictionary-in-Dictionary-clause-gives g t c = λ files left ts hold reads. comes_as (ap (value_of (folder left)) (sym (opened reads c.args.node c.index.result.now (flat.Dictionary c.in-Dictionary.entries c.in-Dictionary.line) c.requires.here c.index.ensures c.in-Dictionary.is))) (comes_as (ap (λ (xs : List EntryNode). value_of (folder left) (DictionaryTree (entries (map (entry_at ts) xs)) c.in-Dictionary.line)) c.deref-in-Dictionary.ensures.value) (comes_same (c.in_err-dictionary-in-Dictionary.ensures.gives files left ts hold reads) c.from_residual-in_err-dictionary-in-Dictionary.ensures.1))
 
-pub rare-returns-in-Dictionary-clause-gives : goal.rare-returns-in-Dictionary-clause-gives
-rare-returns-in-Dictionary-clause-gives g t c = λ files left ts hold reads. comes_as (ap (value_of (folder left)) (sym (opened reads c.args.node c.index.result.now (flat.Dictionary c.in-Dictionary.entries c.in-Dictionary.line) c.requires.here c.index.ensures c.in-Dictionary.is))) (comes_as (ap (λ (xs : List EntryNode). value_of (folder left) (DictionaryTree (entries (map (entry_at ts) xs)) c.in-Dictionary.line)) c.deref-in-Dictionary.ensures.value) (c.in_ok-dictionary-in-Dictionary.ensures.gives files left ts hold reads))
+pub eval_other-returns-in-Dictionary-clause-gives : goal.eval_other-returns-in-Dictionary-clause-gives
+eval_other-returns-in-Dictionary-clause-gives g t c = λ files left ts hold reads. comes_as (ap (value_of (folder left)) (sym (opened reads c.args.node c.index.result.now (flat.Dictionary c.in-Dictionary.entries c.in-Dictionary.line) c.requires.here c.index.ensures c.in-Dictionary.is))) (comes_as (ap (λ (xs : List EntryNode). value_of (folder left) (DictionaryTree (entries (map (entry_at ts) xs)) c.in-Dictionary.line)) c.deref-in-Dictionary.ensures.value) (c.in_ok-dictionary-in-Dictionary.ensures.gives files left ts hold reads))
 
-pub rare-returns-in_err-function-in-Call-clause-gives : goal.rare-returns-in_err-function-in-Call-clause-gives
-rare-returns-in_err-function-in-Call-clause-gives g t c = λ files left ts hold reads.
+pub eval_other-returns-in_err-function-in-Call-clause-gives : goal.eval_other-returns-in_err-function-in-Call-clause-gives
+eval_other-returns-in_err-function-in-Call-clause-gives g t c = λ files left ts hold reads.
     let line = c.in-Call.line in
     comes_as (ap (value_of (folder left)) (sym (opened reads c.args.node c.index.result.now (flat.Call c.in-Call.call line) c.requires.here c.index.ensures c.in-Call.is)))
     (comes_as (ap (λ (x : CallNode). value_of (folder left) (FunctionTree x.name (arguments (map (argument_at ts) x.arguments.items)) line)) c.deref-call.ensures)
     (comes_stop (c.in_err-function-in-Call.ensures.gives files hold) c.from_residual-in_err-function-in-Call.ensures.1))
 
-pub rare-returns-in_err-arguments-in-Call-clause-gives : goal.rare-returns-in_err-arguments-in-Call-clause-gives
-rare-returns-in_err-arguments-in-Call-clause-gives g t c = λ files left ts hold reads.
+pub eval_other-returns-in_err-arguments-in-Call-clause-gives : goal.eval_other-returns-in_err-arguments-in-Call-clause-gives
+eval_other-returns-in_err-arguments-in-Call-clause-gives g t c = λ files left ts hold reads.
     let line = c.in-Call.line in
     comes_as (ap (value_of (folder left)) (sym (opened reads c.args.node c.index.result.now (flat.Call c.in-Call.call line) c.requires.here c.index.ensures c.in-Call.is)))
     (comes_as (ap (λ (x : CallNode). value_of (folder left) (FunctionTree x.name (arguments (map (argument_at ts) x.arguments.items)) line)) c.deref-call.ensures)
@@ -122,8 +122,8 @@ rare-returns-in_err-arguments-in-Call-clause-gives g t c = λ files left ts hold
     (comes_then (c.in_ok-function-in-Call.ensures.gives files hold)
     (comes_halt (c.in_err-arguments-in-Call.ensures.gives files left ts hold reads) c.from_residual-in_err-arguments-in-Call.ensures.1))))
 
-pub rare-returns-in_err-given-in-Call-clause-gives : goal.rare-returns-in_err-given-in-Call-clause-gives
-rare-returns-in_err-given-in-Call-clause-gives g t c = λ files left ts hold reads.
+pub eval_other-returns-in_err-given-in-Call-clause-gives : goal.eval_other-returns-in_err-given-in-Call-clause-gives
+eval_other-returns-in_err-given-in-Call-clause-gives g t c = λ files left ts hold reads.
     let line = c.in-Call.line in
     let with = (c.in_ok-arguments-in-Call.ensures.gives files left ts hold reads).comes in
     comes_as (ap (value_of (folder left)) (sym (opened reads c.args.node c.index.result.now (flat.Call c.in-Call.call line) c.requires.here c.index.ensures c.in-Call.is)))
@@ -132,8 +132,8 @@ rare-returns-in_err-given-in-Call-clause-gives g t c = λ files left ts hold rea
     (comes_then (c.in_ok-function-in-Call.ensures.gives files hold) (comes_then with
     (comes_same (c.in_err-given-in-Call.ensures.gives files left with.holds) c.from_residual-in_err-given-in-Call.ensures.1)))))
 
-pub rare-returns-in-Call-clause-gives : goal.rare-returns-in-Call-clause-gives
-rare-returns-in-Call-clause-gives g t c = λ files left ts hold reads.
+pub eval_other-returns-in-Call-clause-gives : goal.eval_other-returns-in-Call-clause-gives
+eval_other-returns-in-Call-clause-gives g t c = λ files left ts hold reads.
     let line = c.in-Call.line in
     let with = (c.in_ok-arguments-in-Call.ensures.gives files left ts hold reads).comes in
     comes_as (ap (value_of (folder left)) (sym (opened reads c.args.node c.index.result.now (flat.Call c.in-Call.call line) c.requires.here c.index.ensures c.in-Call.is)))
@@ -141,20 +141,20 @@ rare-returns-in-Call-clause-gives g t c = λ files left ts hold reads.
     (comes_as (ap (λ (xs : List ArgumentNode). value_of (folder left) (FunctionTree c.deref-call.result.now.name (arguments (map (argument_at ts) xs)) line)) c.deref-in-Call.ensures.value)
     (comes_then (c.in_ok-function-in-Call.ensures.gives files hold) (comes_then with (c.in_ok-given-in-Call.ensures.gives files left with.holds)))))
 
-pub compound-returns-in_err-chain-in-Chain-clause-gives : goal.compound-returns-in_err-chain-in-Chain-clause-gives
-compound-returns-in_err-chain-in-Chain-clause-gives g t c = λ files left ts hold reads. comes_as (ap (value_of (folder left)) (sym (opened reads c.args.node c.index.result.now (flat.Chain c.in-Chain.first c.in-Chain.others c.in-Chain.line) c.requires.here c.index.ensures c.in-Chain.is))) (comes_as (ap (λ (xs : List OperandNode). value_of (folder left) (ChainTree (tree_at ts c.in-Chain.first) (operands (map (operand_at ts) xs)) c.in-Chain.line)) c.deref-in-Chain.ensures.value) (comes_same (c.in_err-chain-in-Chain.ensures.gives files left ts hold reads) c.from_residual-in_err-chain-in-Chain.ensures.1))
+pub eval_parts-returns-in_err-chain-in-Chain-clause-gives : goal.eval_parts-returns-in_err-chain-in-Chain-clause-gives
+eval_parts-returns-in_err-chain-in-Chain-clause-gives g t c = λ files left ts hold reads. comes_as (ap (value_of (folder left)) (sym (opened reads c.args.node c.index.result.now (flat.Chain c.in-Chain.first c.in-Chain.others c.in-Chain.line) c.requires.here c.index.ensures c.in-Chain.is))) (comes_as (ap (λ (xs : List OperandNode). value_of (folder left) (ChainTree (tree_at ts c.in-Chain.first) (operands (map (operand_at ts) xs)) c.in-Chain.line)) c.deref-in-Chain.ensures.value) (comes_same (c.in_err-chain-in-Chain.ensures.gives files left ts hold reads) c.from_residual-in_err-chain-in-Chain.ensures.1))
 
-pub compound-returns-in_ok-chain-in-Chain-clause-gives : goal.compound-returns-in_ok-chain-in-Chain-clause-gives
-compound-returns-in_ok-chain-in-Chain-clause-gives g t c = λ files left ts hold reads. comes_as (ap (value_of (folder left)) (sym (opened reads c.args.node c.index.result.now (flat.Chain c.in-Chain.first c.in-Chain.others c.in-Chain.line) c.requires.here c.index.ensures c.in-Chain.is))) (comes_as (ap (λ (xs : List OperandNode). value_of (folder left) (ChainTree (tree_at ts c.in-Chain.first) (operands (map (operand_at ts) xs)) c.in-Chain.line)) c.deref-in-Chain.ensures.value) (c.in_ok-chain-in-Chain.ensures.gives files left ts hold reads))
+pub eval_parts-returns-in_ok-chain-in-Chain-clause-gives : goal.eval_parts-returns-in_ok-chain-in-Chain-clause-gives
+eval_parts-returns-in_ok-chain-in-Chain-clause-gives g t c = λ files left ts hold reads. comes_as (ap (value_of (folder left)) (sym (opened reads c.args.node c.index.result.now (flat.Chain c.in-Chain.first c.in-Chain.others c.in-Chain.line) c.requires.here c.index.ensures c.in-Chain.is))) (comes_as (ap (λ (xs : List OperandNode). value_of (folder left) (ChainTree (tree_at ts c.in-Chain.first) (operands (map (operand_at ts) xs)) c.in-Chain.line)) c.deref-in-Chain.ensures.value) (c.in_ok-chain-in-Chain.ensures.gives files left ts hold reads))
 
-pub rare-returns-in_err-value-in-Ternary-clause-gives : goal.rare-returns-in_err-value-in-Ternary-clause-gives
-rare-returns-in_err-value-in-Ternary-clause-gives g t' c = λ files left ts hold reads.
+pub eval_other-returns-in_err-value-in-Ternary-clause-gives : goal.eval_other-returns-in_err-value-in-Ternary-clause-gives
+eval_other-returns-in_err-value-in-Ternary-clause-gives g t' c = λ files left ts hold reads.
     let t = c.in-Ternary in
     comes_as (ap (value_of (folder left)) (sym (opened reads c.args.node c.index.result.now (flat.Ternary t.test t.yes t.no t.line) c.requires.here c.index.ensures t.is)))
     (comes_halt (c.in_err-value-in-Ternary.ensures.gives files left ts hold reads) c.from_residual-in_err-value-in-Ternary.ensures.1)
 
-pub rare-returns-in-Some-true-clause-gives : goal.rare-returns-in-Some-true-clause-gives
-rare-returns-in-Some-true-clause-gives g t' c = λ files left ts hold reads.
+pub eval_other-returns-in-Some-true-clause-gives : goal.eval_other-returns-in-Some-true-clause-gives
+eval_other-returns-in-Some-true-clause-gives g t' c = λ files left ts hold reads.
     let t = c.in-Ternary in
     let value = (c.in_ok-value-in-Ternary.ensures.gives files left ts hold reads).comes in
     comes_as (ap (value_of (folder left)) (sym (opened reads c.args.node c.index.result.now (flat.Ternary t.test t.yes t.no t.line) c.requires.here c.index.ensures t.is)))
@@ -162,8 +162,8 @@ rare-returns-in-Some-true-clause-gives g t' c = λ files left ts hold reads.
     (comes_as (ap (λ (o : Option Bool). chosen t.line o (is_disabler (data_of c.in_ok-value-in-Ternary.value)) (ruled (value_of (folder left) (tree_at ts t.yes))) (ruled (value_of (folder left) (tree_at ts t.no)))) (sym (sym c.in-Some-true.ensures ∙ ap Some c.in-Some-true.field-0-test)))
     (c.eval-in-Some-true.ensures.gives files left ts value.holds (reads_on reads value.gives.written.names))))
 
-pub rare-returns-in-Some-false-clause-gives : goal.rare-returns-in-Some-false-clause-gives
-rare-returns-in-Some-false-clause-gives g t' c = λ files left ts hold reads.
+pub eval_other-returns-in-Some-false-clause-gives : goal.eval_other-returns-in-Some-false-clause-gives
+eval_other-returns-in-Some-false-clause-gives g t' c = λ files left ts hold reads.
     let t = c.in-Ternary in
     let value = (c.in_ok-value-in-Ternary.ensures.gives files left ts hold reads).comes in
     comes_as (ap (value_of (folder left)) (sym (opened reads c.args.node c.index.result.now (flat.Ternary t.test t.yes t.no t.line) c.requires.here c.index.ensures t.is)))
@@ -171,32 +171,32 @@ rare-returns-in-Some-false-clause-gives g t' c = λ files left ts hold reads.
     (comes_as (ap (λ (o : Option Bool). chosen t.line o (is_disabler (data_of c.in_ok-value-in-Ternary.value)) (ruled (value_of (folder left) (tree_at ts t.yes))) (ruled (value_of (folder left) (tree_at ts t.no)))) (sym (sym c.in-Some-false.ensures ∙ ap Some c.in-Some-false.field-0-test)))
     (c.eval-in-Some-false.ensures.gives files left ts value.holds (reads_on reads value.gives.written.names))))
 
-pub rare-returns-in_err-refuse_choice-in-None-clause-gives : goal.rare-returns-in_err-refuse_choice-in-None-clause-gives
-rare-returns-in_err-refuse_choice-in-None-clause-gives g t' c = λ files left ts hold reads.
+pub eval_other-returns-in_err-refuse_choice-in-None-clause-gives : goal.eval_other-returns-in_err-refuse_choice-in-None-clause-gives
+eval_other-returns-in_err-refuse_choice-in-None-clause-gives g t' c = λ files left ts hold reads.
     let t = c.in-Ternary in
     let value = (c.in_ok-value-in-Ternary.ensures.gives files left ts hold reads).comes in
     comes_as (ap (value_of (folder left)) (sym (opened reads c.args.node c.index.result.now (flat.Ternary t.test t.yes t.no t.line) c.requires.here c.index.ensures t.is)))
     (comes_then value (comes_as (ap (λ (o : Option Bool). chosen t.line o (is_disabler (data_of c.in_ok-value-in-Ternary.value)) (ruled (value_of (folder left) (tree_at ts t.yes))) (ruled (value_of (folder left) (tree_at ts t.no)))) c.in-None.ensures)
     (comes_last (c.in_err-refuse_choice-in-None.ensures.gives files value.holds) c.from_residual-in_err-refuse_choice-in-None.ensures.1)))
 
-pub rare-returns-in-Ternary-clause-gives : goal.rare-returns-in-Ternary-clause-gives
-rare-returns-in-Ternary-clause-gives g t' c = λ files left ts hold reads.
+pub eval_other-returns-in-Ternary-clause-gives : goal.eval_other-returns-in-Ternary-clause-gives
+eval_other-returns-in-Ternary-clause-gives g t' c = λ files left ts hold reads.
     let t = c.in-Ternary in
     let value = (c.in_ok-value-in-Ternary.ensures.gives files left ts hold reads).comes in
     comes_given (given_as (ap (value_of (folder left)) (sym (opened reads c.args.node c.index.result.now (flat.Ternary t.test t.yes t.no t.line) c.requires.here c.index.ensures t.is)))
     (given_then value (given_as (ap (λ (o : Option Bool). chosen t.line o (is_disabler (data_of c.in_ok-value-in-Ternary.value)) (ruled (value_of (folder left) (tree_at ts t.yes))) (ruled (value_of (folder left) (tree_at ts t.no)))) c.in-None.ensures) (c.in_ok-refuse_choice-in-None.ensures.gives files value.holds))))
 
-pub form-returns-in_err-variable-in-Name-clause-gives : goal.form-returns-in_err-variable-in-Name-clause-gives
-form-returns-in_err-variable-in-Name-clause-gives g t c = λ files left ts hold reads. let number = (name_of reads c.in-Name.number (parts_at c.args.code.now c.args.node c.index.result.now (flat.Name c.in-Name.number c.in-Name.line) c.requires.here c.index.ensures c.in-Name.is)) in comes_as (ap (value_of (folder left)) (sym (opened reads c.args.node c.index.result.now (flat.Name c.in-Name.number c.in-Name.line) c.requires.here c.index.ensures c.in-Name.is))) (comes_as (ap (variable c.in-Name.line) number.1) (comes_last (c.in_err-variable-in-Name.ensures.gives number.0 files hold) c.from_residual.ensures.1))
+pub eval_node-returns-in_err-variable-in-Name-clause-gives : goal.eval_node-returns-in_err-variable-in-Name-clause-gives
+eval_node-returns-in_err-variable-in-Name-clause-gives g t c = λ files left ts hold reads. let number = (name_of reads c.in-Name.number (parts_at c.args.code.now c.args.node c.index.result.now (flat.Name c.in-Name.number c.in-Name.line) c.requires.here c.index.ensures c.in-Name.is)) in comes_as (ap (value_of (folder left)) (sym (opened reads c.args.node c.index.result.now (flat.Name c.in-Name.number c.in-Name.line) c.requires.here c.index.ensures c.in-Name.is))) (comes_as (ap (variable c.in-Name.line) number.1) (comes_last (c.in_err-variable-in-Name.ensures.gives number.0 files hold) c.from_residual.ensures.1))
 
-pub form-returns-in_ok-variable-in-Name-clause-gives : goal.form-returns-in_ok-variable-in-Name-clause-gives
-form-returns-in_ok-variable-in-Name-clause-gives g t c = λ files left ts hold reads. comes_given (let number = (name_of reads c.in-Name.number (parts_at c.args.code.now c.args.node c.index.result.now (flat.Name c.in-Name.number c.in-Name.line) c.requires.here c.index.ensures c.in-Name.is)) in given_as (ap (value_of (folder left)) (sym (opened reads c.args.node c.index.result.now (flat.Name c.in-Name.number c.in-Name.line) c.requires.here c.index.ensures c.in-Name.is))) (given_as (ap (variable c.in-Name.line) number.1) (c.in_ok-variable-in-Name.ensures.gives number.0 files hold)))
+pub eval_node-returns-in_ok-variable-in-Name-clause-gives : goal.eval_node-returns-in_ok-variable-in-Name-clause-gives
+eval_node-returns-in_ok-variable-in-Name-clause-gives g t c = λ files left ts hold reads. comes_given (let number = (name_of reads c.in-Name.number (parts_at c.args.code.now c.args.node c.index.result.now (flat.Name c.in-Name.number c.in-Name.line) c.requires.here c.index.ensures c.in-Name.is)) in given_as (ap (value_of (folder left)) (sym (opened reads c.args.node c.index.result.now (flat.Name c.in-Name.number c.in-Name.line) c.requires.here c.index.ensures c.in-Name.is))) (given_as (ap (variable c.in-Name.line) number.1) (c.in_ok-variable-in-Name.ensures.gives number.0 files hold)))
 
-pub form-returns-in_err-literal-in-Literal-clause-gives : goal.form-returns-in_err-literal-in-Literal-clause-gives
-form-returns-in_err-literal-in-Literal-clause-gives g t c = λ files left ts hold reads. comes_as (ap (value_of (folder left)) (sym (opened reads c.args.node c.index.result.now (flat.Literal c.in-Literal.line c.in-Literal.literal) c.requires.here c.index.ensures c.in-Literal.is))) (comes_last (c.in_err-literal-in-Literal.ensures.gives files hold) c.from_residual-in_err-literal-in-Literal.ensures.1)
+pub eval_node-returns-in_err-literal-in-Literal-clause-gives : goal.eval_node-returns-in_err-literal-in-Literal-clause-gives
+eval_node-returns-in_err-literal-in-Literal-clause-gives g t c = λ files left ts hold reads. comes_as (ap (value_of (folder left)) (sym (opened reads c.args.node c.index.result.now (flat.Literal c.in-Literal.line c.in-Literal.literal) c.requires.here c.index.ensures c.in-Literal.is))) (comes_last (c.in_err-literal-in-Literal.ensures.gives files hold) c.from_residual-in_err-literal-in-Literal.ensures.1)
 
-pub form-returns-in_ok-literal-in-Literal-clause-gives : goal.form-returns-in_ok-literal-in-Literal-clause-gives
-form-returns-in_ok-literal-in-Literal-clause-gives g t c = λ files left ts hold reads. comes_given (given_as (ap (value_of (folder left)) (sym (opened reads c.args.node c.index.result.now (flat.Literal c.in-Literal.line c.in-Literal.literal) c.requires.here c.index.ensures c.in-Literal.is))) (c.in_ok-literal-in-Literal.ensures.gives files hold))
+pub eval_node-returns-in_ok-literal-in-Literal-clause-gives : goal.eval_node-returns-in_ok-literal-in-Literal-clause-gives
+eval_node-returns-in_ok-literal-in-Literal-clause-gives g t c = λ files left ts hold reads. comes_given (given_as (ap (value_of (folder left)) (sym (opened reads c.args.node c.index.result.now (flat.Literal c.in-Literal.line c.in-Literal.literal) c.requires.here c.index.ensures c.in-Literal.is))) (c.in_ok-literal-in-Literal.ensures.gives files hold))
 
 pub list-loop-item-init : goal.list-loop-item-init
 list-loop-item-init g t c = record { same = (refl, (refl, (refl, refl))); tree = refl; out = refl; done = λ files left ts hold reads. rw c.new-values.ensures.items (leads_start hold) }
@@ -360,45 +360,45 @@ chain-loop-operand-preserved g t c = record {
 pub chain-returns-clause-gives : goal.chain-returns-clause-gives
 chain-returns-clause-gives g t c = λ files left ts hold reads. comes_given (leads_end (leads_as (ap (λ ys. chain_of (folder left) c.args.line (data_of c.loop-operand.value) (operands ys)) (no_item (operand_at ts) c.args.others.now c.loop-operand.operand-index c.loop-operand-test.false)) (c.loop-operand.invariant.done files left ts hold reads)) (given_give (c.loop-operand.invariant.done files left ts hold reads).holds refl))
 
-pub compound-ask_links-requires : goal.compound-ask_links-requires
-compound-ask_links-requires g t c κs lives = let reach : max (suc c.in-Postfix.first) (above above_link c.deref.result.now) ≤ c.args.node = rw c.deref.ensures.value (first_reach c.args.node c.in-Postfix.first above_link c.in-Postfix.links.items (link_within c.args.node) (links_reach c.args.node c.in-Postfix.links.items) (parts_at c.args.code.now c.args.node c.index.result.now (flat.Postfix c.in-Postfix.first c.in-Postfix.links c.in-Postfix.line) c.requires.here c.index.ensures c.in-Postfix.is)) in (omega arith, (lives.0, (lives.1.0, (lives.1.1, (omega arith, c.requires.room)))))
+pub eval_parts-ask_links-requires : goal.eval_parts-ask_links-requires
+eval_parts-ask_links-requires g t c κs lives = let reach : max (suc c.in-Postfix.first) (above above_link c.deref.result.now) ≤ c.args.node = rw c.deref.ensures.value (first_reach c.args.node c.in-Postfix.first above_link c.in-Postfix.links.items (link_within c.args.node) (links_reach c.args.node c.in-Postfix.links.items) (parts_at c.args.code.now c.args.node c.index.result.now (flat.Postfix c.in-Postfix.first c.in-Postfix.links c.in-Postfix.line) c.requires.here c.index.ensures c.in-Postfix.is)) in (omega arith, (lives.0, (lives.1.0, (lives.1.1, (omega arith, c.requires.room)))))
 
-pub rare-eval-requires : goal.rare-eval-requires
-rare-eval-requires g t c κs lives = let reach : suc c.in-Prefix.value ≤ c.args.node = number_reach c.args.node c.in-Prefix.value (parts_at c.args.code.now c.args.node c.index.result.now (flat.Prefix c.in-Prefix.prefix c.in-Prefix.value c.in-Prefix.line) c.requires.here c.index.ensures c.in-Prefix.is) in (omega arith, (lives.0, (lives.1.0, (lives.1.1, (omega arith, c.requires.room)))))
+pub eval_other-eval-requires : goal.eval_other-eval-requires
+eval_other-eval-requires g t c κs lives = let reach : suc c.in-Prefix.value ≤ c.args.node = number_reach c.args.node c.in-Prefix.value (parts_at c.args.code.now c.args.node c.index.result.now (flat.Prefix c.in-Prefix.prefix c.in-Prefix.value c.in-Prefix.line) c.requires.here c.index.ensures c.in-Prefix.is) in (omega arith, (lives.0, (lives.1.0, (lives.1.1, (omega arith, c.requires.room)))))
 
-pub compound-returns-in_err-given-in-Postfix-clause-gives : goal.compound-returns-in_err-given-in-Postfix-clause-gives
-compound-returns-in_err-given-in-Postfix-clause-gives g t c = λ files left ts hold reads.
+pub eval_parts-returns-in_err-given-in-Postfix-clause-gives : goal.eval_parts-returns-in_err-given-in-Postfix-clause-gives
+eval_parts-returns-in_err-given-in-Postfix-clause-gives g t c = λ files left ts hold reads.
     comes_as (ap (value_of (folder left)) (sym (opened reads c.args.node c.index.result.now (flat.Postfix c.in-Postfix.first c.in-Postfix.links c.in-Postfix.line) c.requires.here c.index.ensures c.in-Postfix.is)))
     (comes_as (ap (λ (xs : List LinkNode). value_of (folder left) (PostfixTree (tree_at ts c.in-Postfix.first) (links (map (link_at ts) xs)) c.in-Postfix.line)) c.deref.ensures.value)
     (comes_halt (c.in_err-given-in-Postfix.ensures.gives files left ts hold reads) c.from_residual.ensures.1))
 
-pub compound-returns-in_err-need-in-Postfix-clause-gives : goal.compound-returns-in_err-need-in-Postfix-clause-gives
-compound-returns-in_err-need-in-Postfix-clause-gives g t c = λ files left ts hold reads.
+pub eval_parts-returns-in_err-need-in-Postfix-clause-gives : goal.eval_parts-returns-in_err-need-in-Postfix-clause-gives
+eval_parts-returns-in_err-need-in-Postfix-clause-gives g t c = λ files left ts hold reads.
     let given = (c.in_ok-given-in-Postfix.ensures.gives files left ts hold reads).comes in
     comes_as (ap (value_of (folder left)) (sym (opened reads c.args.node c.index.result.now (flat.Postfix c.in-Postfix.first c.in-Postfix.links c.in-Postfix.line) c.requires.here c.index.ensures c.in-Postfix.is)))
     (comes_as (ap (λ (xs : List LinkNode). value_of (folder left) (PostfixTree (tree_at ts c.in-Postfix.first) (links (map (link_at ts) xs)) c.in-Postfix.line)) c.deref.ensures.value)
     (comes_then given (comes_last (c.in_err-need-in-Postfix.ensures.gives files given.holds) c.from_residual-in_err-need-in-Postfix.ensures.1)))
 
-pub compound-returns-in_ok-need-in-Postfix-clause-gives : goal.compound-returns-in_ok-need-in-Postfix-clause-gives
-compound-returns-in_ok-need-in-Postfix-clause-gives g t c = λ files left ts hold reads.
+pub eval_parts-returns-in_ok-need-in-Postfix-clause-gives : goal.eval_parts-returns-in_ok-need-in-Postfix-clause-gives
+eval_parts-returns-in_ok-need-in-Postfix-clause-gives g t c = λ files left ts hold reads.
     let given = (c.in_ok-given-in-Postfix.ensures.gives files left ts hold reads).comes in
     comes_given (given_as (ap (value_of (folder left)) (sym (opened reads c.args.node c.index.result.now (flat.Postfix c.in-Postfix.first c.in-Postfix.links c.in-Postfix.line) c.requires.here c.index.ensures c.in-Postfix.is)))
     (given_as (ap (λ (xs : List LinkNode). value_of (folder left) (PostfixTree (tree_at ts c.in-Postfix.first) (links (map (link_at ts) xs)) c.in-Postfix.line)) c.deref.ensures.value)
     (given_then given (c.in_ok-need-in-Postfix.ensures.gives files given.holds))))
 
-pub rare-returns-in_err-value-in-Prefix-clause-gives : goal.rare-returns-in_err-value-in-Prefix-clause-gives
-rare-returns-in_err-value-in-Prefix-clause-gives g t c = λ files left ts hold reads.
+pub eval_other-returns-in_err-value-in-Prefix-clause-gives : goal.eval_other-returns-in_err-value-in-Prefix-clause-gives
+eval_other-returns-in_err-value-in-Prefix-clause-gives g t c = λ files left ts hold reads.
     comes_as (ap (value_of (folder left)) (sym (opened reads c.args.node c.index.result.now (flat.Prefix c.in-Prefix.prefix c.in-Prefix.value c.in-Prefix.line) c.requires.here c.index.ensures c.in-Prefix.is)))
     (comes_halt (c.in_err-value-in-Prefix.ensures.gives files left ts hold reads) c.from_residual-in_err-value-in-Prefix.ensures.1)
 
-pub rare-returns-in_err-prefix-in-Prefix-clause-gives : goal.rare-returns-in_err-prefix-in-Prefix-clause-gives
-rare-returns-in_err-prefix-in-Prefix-clause-gives g t c = λ files left ts hold reads.
+pub eval_other-returns-in_err-prefix-in-Prefix-clause-gives : goal.eval_other-returns-in_err-prefix-in-Prefix-clause-gives
+eval_other-returns-in_err-prefix-in-Prefix-clause-gives g t c = λ files left ts hold reads.
     let value = (c.in_ok-value-in-Prefix.ensures.gives files left ts hold reads).comes in
     comes_as (ap (value_of (folder left)) (sym (opened reads c.args.node c.index.result.now (flat.Prefix c.in-Prefix.prefix c.in-Prefix.value c.in-Prefix.line) c.requires.here c.index.ensures c.in-Prefix.is)))
     (comes_then value (comes_last (c.in_err-prefix-in-Prefix.ensures.gives files value.holds) c.from_residual-in_err-prefix-in-Prefix.ensures.1))
 
-pub rare-returns-in-Prefix-clause-gives : goal.rare-returns-in-Prefix-clause-gives
-rare-returns-in-Prefix-clause-gives g t c = λ files left ts hold reads.
+pub eval_other-returns-in-Prefix-clause-gives : goal.eval_other-returns-in-Prefix-clause-gives
+eval_other-returns-in-Prefix-clause-gives g t c = λ files left ts hold reads.
     let value = (c.in_ok-value-in-Prefix.ensures.gives files left ts hold reads).comes in
     comes_given (given_as (ap (value_of (folder left)) (sym (opened reads c.args.node c.index.result.now (flat.Prefix c.in-Prefix.prefix c.in-Prefix.value c.in-Prefix.line) c.requires.here c.index.ensures c.in-Prefix.is)))
     (given_then value (c.in_ok-prefix-in-Prefix.ensures.gives files value.holds)))
@@ -447,19 +447,19 @@ link-returns-clause-gives g t c = λ files left ts hold reads.
     comes_given (given_as (ap (λ (x : LinkNode). link_of (folder left) c.args.line (data_of c.args.whole) (link_at ts x)) (sym c.in-Index.is))
     (given_then at (c.in_ok-part_at-in-Index.ensures.gives files at.holds)))
 
-pub form-returns-in_err-compound-in_default-clause-gives : goal.form-returns-in_err-compound-in_default-clause-gives
-form-returns-in_err-compound-in_default-clause-gives g t c = λ files left ts hold reads.
-    comes_same (c.in_err-compound-in_default.ensures.gives files left ts hold reads) c.from_residual-in_err-compound-in_default.ensures.1
+pub eval_node-returns-in_err-eval_parts-in_default-clause-gives : goal.eval_node-returns-in_err-eval_parts-in_default-clause-gives
+eval_node-returns-in_err-eval_parts-in_default-clause-gives g t c = λ files left ts hold reads.
+    comes_same (c.in_err-eval_parts-in_default.ensures.gives files left ts hold reads) c.from_residual-in_err-eval_parts-in_default.ensures.1
 
-pub rare-eval-requires-in-Ternary : goal.rare-eval-requires-in-Ternary
-rare-eval-requires-in-Ternary g t c κs lives = let reach = three_reach c.args.node c.in-Ternary.test c.in-Ternary.yes c.in-Ternary.no (parts_at c.args.code.now c.args.node c.index.result.now (flat.Ternary c.in-Ternary.test c.in-Ternary.yes c.in-Ternary.no c.in-Ternary.line) c.requires.here c.index.ensures c.in-Ternary.is) in (omega (arith, reach), (lives.0, (lives.1.0, (lives.1.1, (omega (arith, reach), c.requires.room)))))
+pub eval_other-eval-requires-in-Ternary : goal.eval_other-eval-requires-in-Ternary
+eval_other-eval-requires-in-Ternary g t c κs lives = let reach = three_reach c.args.node c.in-Ternary.test c.in-Ternary.yes c.in-Ternary.no (parts_at c.args.code.now c.args.node c.index.result.now (flat.Ternary c.in-Ternary.test c.in-Ternary.yes c.in-Ternary.no c.in-Ternary.line) c.requires.here c.index.ensures c.in-Ternary.is) in (omega (arith, reach), (lives.0, (lives.1.0, (lives.1.1, (omega (arith, reach), c.requires.room)))))
 
-pub rare-eval-requires-in-Some-true : goal.rare-eval-requires-in-Some-true
-rare-eval-requires-in-Some-true g t c κs lives = let reach = three_reach c.args.node c.in-Ternary.test c.in-Ternary.yes c.in-Ternary.no (parts_at c.args.code.now c.args.node c.index.result.now (flat.Ternary c.in-Ternary.test c.in-Ternary.yes c.in-Ternary.no c.in-Ternary.line) c.requires.here c.index.ensures c.in-Ternary.is) in (omega (arith, reach), (lives.0, (lives.1.0, (lives.1.1, (omega (arith, reach), search rules)))))
+pub eval_other-eval-requires-in-Some-true : goal.eval_other-eval-requires-in-Some-true
+eval_other-eval-requires-in-Some-true g t c κs lives = let reach = three_reach c.args.node c.in-Ternary.test c.in-Ternary.yes c.in-Ternary.no (parts_at c.args.code.now c.args.node c.index.result.now (flat.Ternary c.in-Ternary.test c.in-Ternary.yes c.in-Ternary.no c.in-Ternary.line) c.requires.here c.index.ensures c.in-Ternary.is) in (omega (arith, reach), (lives.0, (lives.1.0, (lives.1.1, (omega (arith, reach), search rules)))))
 
-pub rare-eval-requires-in-Some-false : goal.rare-eval-requires-in-Some-false
-rare-eval-requires-in-Some-false g t c κs lives = let reach = three_reach c.args.node c.in-Ternary.test c.in-Ternary.yes c.in-Ternary.no (parts_at c.args.code.now c.args.node c.index.result.now (flat.Ternary c.in-Ternary.test c.in-Ternary.yes c.in-Ternary.no c.in-Ternary.line) c.requires.here c.index.ensures c.in-Ternary.is) in (omega (arith, reach), (lives.0, (lives.1.0, (lives.1.1, (omega (arith, reach), search rules)))))
+pub eval_other-eval-requires-in-Some-false : goal.eval_other-eval-requires-in-Some-false
+eval_other-eval-requires-in-Some-false g t c κs lives = let reach = three_reach c.args.node c.in-Ternary.test c.in-Ternary.yes c.in-Ternary.no (parts_at c.args.code.now c.args.node c.index.result.now (flat.Ternary c.in-Ternary.test c.in-Ternary.yes c.in-Ternary.no c.in-Ternary.line) c.requires.here c.index.ensures c.in-Ternary.is) in (omega (arith, reach), (lives.0, (lives.1.0, (lives.1.1, (omega (arith, reach), search rules)))))
 
-pub compound-returns-in_err-rare-in_default-clause-gives : goal.compound-returns-in_err-rare-in_default-clause-gives
-compound-returns-in_err-rare-in_default-clause-gives g t c = λ files left ts hold reads.
-    comes_same (c.in_err-rare-in_default.ensures.gives files left ts hold reads) c.from_residual-in_err-rare-in_default.ensures.1
+pub eval_parts-returns-in_err-eval_other-in_default-clause-gives : goal.eval_parts-returns-in_err-eval_other-in_default-clause-gives
+eval_parts-returns-in_err-eval_other-in_default-clause-gives g t c = λ files left ts hold reads.
+    comes_same (c.in_err-eval_other-in_default.ensures.gives files left ts hold reads) c.from_residual-in_err-eval_other-in_default.ensures.1

@@ -22,14 +22,14 @@ use Rattle.interp.proofs.evaluator.Evaluator.+eval.Given as goal
 abbrev pub decreases-eval : goal.decreases-eval
 decreases-eval g l = 8 * l.node + 7
 
-abbrev pub decreases-form : goal.decreases-form
-decreases-form g l = 8 * l.node + 6
+abbrev pub decreases-eval_node : goal.decreases-eval_node
+decreases-eval_node g l = 8 * l.node + 6
 
-abbrev pub decreases-compound : goal.decreases-compound
-decreases-compound g l = 8 * l.node + 5
+abbrev pub decreases-eval_parts : goal.decreases-eval_parts
+decreases-eval_parts g l = 8 * l.node + 5
 
-abbrev pub decreases-rare : goal.decreases-rare
-decreases-rare g l = 8 * l.node + 4
+abbrev pub decreases-eval_other : goal.decreases-eval_other
+decreases-eval_other g l = 8 * l.node + 4
 
 abbrev pub decreases-list : goal.decreases-list
 decreases-list g l = 8 * above above_number l.items.now + 3

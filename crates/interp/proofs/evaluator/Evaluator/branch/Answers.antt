@@ -23,8 +23,8 @@ returns-in_err-part-clause-gives g c = λ otherwise same files left table hold m
     done_halt {view = λ (f : Flow). f} c.from_residual.result c.from_residual.ensures.1
     (record { comes = c.in_err-part.ensures.gives files (expressions_by table code) (statements_by table code) left (block_by table code otherwise) hold (reads_at refl made) })
 
-pub returns-in_err-do_simple-in-Some-clause-gives : goal.returns-in_err-do_simple-in-Some-clause-gives
-returns-in_err-do_simple-in-Some-clause-gives g c = λ otherwise same files left table hold made.
+pub returns-in_err-do_simple_block-in-Some-clause-gives : goal.returns-in_err-do_simple_block-in-Some-clause-gives
+returns-in_err-do_simple_block-in-Some-clause-gives g c = λ otherwise same files left table hold made.
     let code = c.args.code.now in
     let ts = expressions_by table code in
     let ss = statements_by table code in
@@ -33,11 +33,11 @@ returns-in_err-do_simple-in-Some-clause-gives g c = λ otherwise same files left
     let l = leads_as (ap (part_done (folder left) left.few (branches (map (branch_at ts ss) parts)) (block_by table code otherwise)) c.in-Some.is) o in
     let m = leads_as (part_is (folder left) left.few ts ss otherwise parts c.in-Some.part ∙ ap (λ (ns : List ℕ). do_all (folder left) left.few (block_by table code ns))
     (branch_clamped otherwise parts c.in-Some.part c.min.result c.min.ensures ∙ sym (same c.min.result))) l in
-    done_halt {view = λ (f : Flow). f} c.from_residual-in_err-do_simple-in-Some.result c.from_residual-in_err-do_simple-in-Some.ensures.1
-    (comes_end m (c.in_err-do_simple-in-Some.ensures.gives files left table m.holds (made_on m.continues.written.names made)))
+    done_halt {view = λ (f : Flow). f} c.from_residual-in_err-do_simple_block-in-Some.result c.from_residual-in_err-do_simple_block-in-Some.ensures.1
+    (comes_end m (c.in_err-do_simple_block-in-Some.ensures.gives files left table m.holds (made_on m.continues.written.names made)))
 
-pub returns-in_ok-do_simple-in-Some-clause-gives : goal.returns-in_ok-do_simple-in-Some-clause-gives
-returns-in_ok-do_simple-in-Some-clause-gives g c = λ otherwise same files left table hold made.
+pub returns-in_ok-do_simple_block-in-Some-clause-gives : goal.returns-in_ok-do_simple_block-in-Some-clause-gives
+returns-in_ok-do_simple_block-in-Some-clause-gives g c = λ otherwise same files left table hold made.
     let code = c.args.code.now in
     let ts = expressions_by table code in
     let ss = statements_by table code in
@@ -46,7 +46,7 @@ returns-in_ok-do_simple-in-Some-clause-gives g c = λ otherwise same files left 
     let l = leads_as (ap (part_done (folder left) left.few (branches (map (branch_at ts ss) parts)) (block_by table code otherwise)) c.in-Some.is) o in
     let m = leads_as (part_is (folder left) left.few ts ss otherwise parts c.in-Some.part ∙ ap (λ (ns : List ℕ). do_all (folder left) left.few (block_by table code ns))
     (branch_clamped otherwise parts c.in-Some.part c.min.result c.min.ensures ∙ sym (same c.min.result))) l in
-    record { done = leads_end m (c.in_ok-do_simple-in-Some.ensures.gives files left table m.holds (made_on m.continues.written.names made)).comes }
+    record { done = leads_end m (c.in_ok-do_simple_block-in-Some.ensures.gives files left table m.holds (made_on m.continues.written.names made)).comes }
 
 pub returns-in-None-clause-gives : goal.returns-in-None-clause-gives
 returns-in-None-clause-gives g c = λ otherwise same files left table hold made.

@@ -3,14 +3,14 @@ use Rattle.arguments.specs.Arguments.{arguments_data}
 use Rattle.values.specs.Data.{Data}
 use Rattle.support.specs.declared.faults.refusal.Refusal.TheVariants as refusals
 use Rattle.world.specs.Plan.{next, refuse}
-use Rattle.interp.specs.Acting.{way_view}
-use Rattle.interp.specs.Entering.{by_way}
+use Rattle.interp.specs.StatementCalls.{after_call_view}
+use Rattle.interp.specs.Subdir.{on_call_end}
 use Rattle.interp.specs.Expressions.{entered_inside}
 use Rattle.interp.specs.Folders.{folder}
-use Rattle.interp.specs.Inside.{inside}
-use Rattle.interp.specs.declared.acting.Way.{Way}
+use Rattle.interp.specs.FolderEntries.{inside}
+use Rattle.interp.specs.declared.statement_calls.AfterCall.{AfterCall}
 use Rattle.interp.specs.declared.flow.Flow.{Flow}
-use Rattle.interp.specs.declared.halt.Inside.{Inside}
+use Rattle.interp.specs.declared.halt.FolderEntry.{FolderEntry}
 use Rattle.interp.proofs.Coming.{comes_as, comes_end, comes_given, comes_last, comes_none, comes_stop, comes_then}
 use Rattle.expressions.proofs.Evaluating.{given_as, given_give, given_refuse, leads_as, leads_next, leads_other}
 use Rattle.interp.proofs.evaluator.Evaluator.leave_for_folder.Goals as goal
@@ -31,7 +31,7 @@ pub returns-in_err-refuse-in-Ends-clause-gives : goal.returns-in_err-refuse-in-E
 returns-in_err-refuse-in-Ends-clause-gives g c = λ files left h.
     let off = ap (λ b. entered_inside (folder left) b c.args.line (arguments_data c.args.arguments.now)) (sym c.if-gives_disabler.false ∙ c.gives_disabler.ensures) in
     let w = c.in_ok-subdir.ensures.gives files h in
-    comes_as off (comes_then w (comes_as (ap (λ (x : Way). next (by_way (folder left) (way_view x)) (λ _. refuse {A = Data} c.args.line refusals.Type [])) (sym c.in-Ends.is))
+    comes_as off (comes_then w (comes_as (ap (λ (x : AfterCall). next (on_call_end (folder left) (after_call_view x)) (λ _. refuse {A = Data} c.args.line refusals.Type [])) (sym c.in-Ends.is))
     (comes_then {view = λ (f : Flow). f} (given_give w.holds refl) (comes_last {C = Data} {view = λ (d : Data). d} (given_refuse w.holds c.in_err-refuse-in-Ends.ensures) c.from_residual-in_err-refuse-in-Ends.ensures.1))))
 
 pub returns-in_ok-refuse-in-Ends-clause-gives : goal.returns-in_ok-refuse-in-Ends-clause-gives
@@ -47,6 +47,6 @@ pub returns-in_ok-new-in-Enters-clause-gives : goal.returns-in_ok-new-in-Enters-
 returns-in_ok-new-in-Enters-clause-gives g c = λ files left h.
     let off = ap (λ b. entered_inside (folder left) b c.args.line (arguments_data c.args.arguments.now)) (sym c.if-gives_disabler.false ∙ c.gives_disabler.ensures) in
     record {
-      comes = leads_as (ap (λ (e : Inside). inside {A = Data} left e) (sym c.in_ok-new-in-Enters.ensures.ok))
-          (leads_other off (leads_as (ap (λ (x : Way). next (by_way (folder left) (way_view x)) (λ _. refuse {A = Data} c.args.line refusals.Type [])) c.in-Enters.is) (leads_next (c.in_ok-subdir.ensures.gives files h))));
+      comes = leads_as (ap (λ (e : FolderEntry). inside {A = Data} left e) (sym c.in_ok-new-in-Enters.ensures.ok))
+          (leads_other off (leads_as (ap (λ (x : AfterCall). next (on_call_end (folder left) (after_call_view x)) (λ _. refuse {A = Data} c.args.line refusals.Type [])) c.in-Enters.is) (leads_next (c.in_ok-subdir.ensures.gives files h))));
     }

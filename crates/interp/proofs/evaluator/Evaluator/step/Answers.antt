@@ -9,6 +9,6 @@ returns-in-Ok-clause-gives g c = λ files rests rest hold stacked means. stepped
 
 pub returns-in-Err-clause-gives : goal.returns-in-Err-clause-gives
 returns-in-Err-clause-gives g c = λ files rests rest hold stacked means.
-    stepped_stop c.unwind.result c.turn.new.stack.items c.unwind.new.steps c.unwind.ensures.same
-    (c.unwind.ensures.ticks ∙ ap (λ (fs : List Frame). c.turn.new.self.context.steps.now + unwound c.in-Err.stop fs) c.deref.ensures.value)
+    stepped_stop c.unwind.result c.resume.new.stack.items c.unwind.new.steps c.unwind.ensures.same
+    (c.unwind.ensures.ticks ∙ ap (λ (fs : List Frame). c.resume.new.self.context.steps.now + unwound c.in-Err.stop fs) c.deref.ensures.value)
     (c.in-Err.ensures.gives files rests rest hold stacked means)

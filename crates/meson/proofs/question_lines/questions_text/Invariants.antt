@@ -1,0 +1,10 @@
+use Rattle.std.proofs.Common.{map, take}
+use Rattle.std.specs.List.{flat_map}
+use Rattle.machine.specs.machine_file.View.{machine_in}
+use Rattle.world.specs.AskedView.{asked_in}
+use Rattle.meson.specs.Questions.{lines_asked}
+use Rattle.meson.proofs.Lines.{Began}
+use Rattle.meson.proofs.question_lines.questions_text.Given as goal
+
+abbrev pub invariant-loop-it : goal.invariant-loop-it
+invariant-loop-it l = Began (flat_map (lines_asked (machine_in l.machine)) (map asked_in (take l.it-index l.asked))) l.telling
