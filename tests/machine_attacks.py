@@ -81,7 +81,7 @@ def test_what_a_project_gives() -> None:
     for option, word in (("c_args", "-wrapper"), ("c_args", f"-fplugin={tool}"), ("c_link_args", f"-Wl,-Map={WORK}/outside/it"),
                          ("c_link_args", "@words")):
         put("m/meson.build", f"project('p', 'c', default_options: ['{option}={word} {tool}'])\n")
-        wanted = (f"{option} of the project: '{word}' is not among the words that a compiler may be given for a project; "
+        wanted = (f"{option} of the project: '{word}' is not among the arguments that a compiler may get for a project; "
                   f"-D{option}=.. gives others")
         refuses(f"{option} of the project: {word.partition('=')[0]}", MACHINE_FILE, 1, wanted)
         done = run([*MACHINE_FILE, f"-D{option}=-O1"])

@@ -190,7 +190,7 @@ class Machine:
         if came is None or came is False:
             return f"{question.name} is not found; {who_has(self.compiler, question.name)}"
         wanted = ", ".join(question.texts("version"))
-        return f"{question.name} has version {came.get('version', 'unknown')}, and {wanted} is wanted" if isinstance(came, dict) else ""
+        return f"{question.name} has version {came.get('version', 'unknown')}, and {wanted} is required" if isinstance(came, dict) else ""
 
     def remarks(self, questions: list[Question]) -> Iterator[tuple[str, str]]:
         """What is to be said: comments of the machine file, each with what users are told at once, where that is something."""
@@ -208,8 +208,8 @@ class Machine:
             elif spelled(came) not in AS_UNSAID and not can_hold(question.section, question.key):
                 yield self.left(question, "no machine file can hold this name")
             elif question.section == "checks" and came != decides and not isinstance(decides, NoAnswer):
-                text = (f"{question.name}: {spelled(decides)} at {place}, and {spelled(came)} at {question.place}, where other words stand "
-                        "beside it: the first decides")
+                text = (f"{question.name}: {spelled(decides)} at {place}, and {spelled(came)} at {question.place}, where the check has "
+                        "other arguments: the first decides")
                 yield text, text
 
     def left(self, question: Question, why: str) -> tuple[str, str]:

@@ -66,7 +66,7 @@ def run(words: list[str], folder: str | None = None, executable: str | None = No
     except subprocess.TimeoutExpired as error:
         raise NoAnswer(f"{words[0]} didn't end within {seconds} seconds") from error
     except TooMuch as error:
-        raise NoAnswer(f"{words[0]} says more than {most:,} bytes") from error
+        raise NoAnswer(f"{words[0]} prints more than {most:,} bytes") from error
     finally:
         AT_WORK.discard(process.pid)
     return Done(process.returncode, printed.decode(errors=errors), said.decode(errors=errors))

@@ -170,4 +170,5 @@ def of_project(context: Context, call: tree.Call | None) -> Detail:
             if isinstance(node, tree.Text) and node.value == told.language:
                 why = f"project: the language {quoted(node.value)} is left out: C alone is built"
                 return detail(why, in_its_place("Functions", "add_languages"), at=node.start)
-    return detail("project: a language beside C is left out", in_its_place("Functions", "add_languages"), at=call.start if call else None)
+    at = call.start if call else None
+    return detail("project: a language other than C is left out", in_its_place("Functions", "add_languages"), at=at)

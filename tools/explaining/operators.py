@@ -33,9 +33,9 @@ def of_node(context: Context, node: tree.Node) -> Detail:
     match node:
         case tree.Binary():
             left, right = said(context, node.left), said(context, node.right)
-            return detail(f"'{node.operator}' stands between {left} and {right}", advice(context, node), at=node.start)
+            return detail(f"'{node.operator}' is between {left} and {right}", advice(context, node), at=node.start)
         case tree.Unary():
-            return detail(f"'{node.operator}' stands before {said(context, node.operand)}", at=node.start)
+            return detail(f"'{node.operator}' is before {said(context, node.operand)}", at=node.start)
         case tree.Ternary():
             return detail(f"the condition of '?' is {said(context, node.condition)}, and no truth value", at=node.condition.start)
         case tree.Index():
@@ -66,7 +66,7 @@ def advice(context: Context, node: tree.Binary) -> str:
         wrong = left if left.kind != "truth value" else right
         return f"both sides have to be truth values: {wrong.shown()} is none; of a text write != '', of a list .length() > 0"
     if kinds == {"text", "integer"} and node.operator == "+":
-        return "write .to_string() behind the integer, or .to_int() behind the text"
+        return "write .to_string() after the integer, or .to_int() after the text"
     if context.fault.number == 7:
         return "the result needs more than 128 bits"
     return f"'{node.operator}' doesn't take these two types" if left.kind != right.kind else f"'{node.operator}' doesn't take this type"
@@ -114,7 +114,7 @@ def length_of(context: Context, value: Value, node: tree.Node) -> str:
 
 def of_call(context: Context, call: tree.Call) -> Detail:
     if context.fault.number == 6:
-        return detail(f"{call.name}: it gives nothing, and stands where a value is wanted", at=call.start)
+        return detail(f"{call.name}: it returns nothing, and a value is needed here", at=call.start)
     receiver = context.value(call.receiver) if call.receiver is not None else None
     first = context.value(call.arguments[0]) if call.arguments else None
     if receiver is None or call.receiver is None:
@@ -145,11 +145,11 @@ def of_statement(context: Context) -> Detail:
         case tree.Assignment() if statement.operator == "+=":
             name = tree.Name(statement.start, statement.start + len(statement.name), statement.name)
             before = context.probe.variable(statement.name) if context.probe.can_ask else None
-            return detail(f"'+=' stands between {shown(before, statement.name)} and {said(context, statement.value)}", at=name.start)
+            return detail(f"'+=' is between {shown(before, statement.name)} and {said(context, statement.value)}", at=name.start)
         case tree.Assignment() | tree.Expression() if isinstance(tree.plain(statement.value), tree.Call):
             call = tree.plain(statement.value)
             assert isinstance(call, tree.Call)
             if call.name in GIVE_NOTHING:
-                return detail(f"{call.name}: it gives nothing, and stands where a value is wanted", at=call.start)
+                return detail(f"{call.name}: it returns nothing, and a value is needed here", at=call.start)
     first = tree.expressions_of(statement)
-    return detail(f"what is refused stands in {quoted(context.place.source(statement))}", at=first[0].start if first else statement.start)
+    return detail(f"the refused part is in {quoted(context.place.source(statement))}", at=first[0].start if first else statement.start)

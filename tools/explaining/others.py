@@ -29,7 +29,7 @@ def duplicate(context: Context) -> Detail:
     if context.told.entry is not None:
         return key_twice(context, [it for it in nodes if isinstance(it, tree.Dictionary)])
     call = context.call()
-    return made_twice(context, call) if call else detail("something stands twice in this line", at=context.place.statement.start)
+    return made_twice(context, call) if call else detail("this line has something twice", at=context.place.statement.start)
 
 
 def key_twice(context: Context, dictionaries: list[tree.Dictionary]) -> Detail:
@@ -74,7 +74,7 @@ def made_twice(context: Context, call: tree.Call) -> Detail:
     names = [it.text for it in flat(value) if it.kind == TEXT] if value else outputs_of(call)
     own = [it for it in names if os.path.normpath(os.path.join(context.folder, it)) == path]
     if len(own) > 1:
-        return detail(f"{call.name}: {quoted(own[0])} stands twice among its outputs", at=call.start)
+        return detail(f"{call.name}: {quoted(own[0])} is twice among its outputs", at=call.start)
     where = made_before(context, call, node, names) if names else ""
     if where:
         made = ", ".join(map(quoted, own or names))
@@ -133,11 +133,11 @@ def project_call(context: Context) -> Detail:
     """E13."""
     first = context.place.body[0] if context.fault.file == "meson.build" else None
     if context.place.statement is not first:
-        return detail("project: it stands only once, as the first statement of the root's meson.build", at=context.place.statement.start)
+        return detail("project: it is called only once, as the first statement of the root's meson.build", at=context.place.statement.start)
     value = first.value if isinstance(first, tree.Expression) else None
     if not isinstance(value, tree.Call) or value.name != "project" or value.receiver is not None:
         source = context.place.source(first).splitlines()[0]
-        return detail(f"in place of project(NAME, 'c') stands {quoted(source)}: it has to be the first statement", at=first.start)
+        return detail(f"the first statement has to be project(NAME, 'c'), and is {quoted(source)}", at=first.start)
     for node in tree.inside(value):
         if isinstance(node, tree.Call) and node is not value:
             return detail(f"project: its arguments may call no function and ask nothing, and {quoted(node.name)} is called", at=node.start)
@@ -159,12 +159,12 @@ def template(line: str) -> Detail:
     """E19."""
     words = line.split()
     if len(words) == 1:
-        return detail(f"{quoted(words[0])} stands alone: it is '#mesondefine NAME'")
+        return detail(f"{quoted(words[0])} has no name after it: write '#mesondefine NAME'")
     if words and words[0] != "#mesondefine":
         return detail(f"{quoted(words[0])} is not '#mesondefine', with which it begins")
     if len(words) > 2:
         more = quoted(" ".join(words[2:]))
-        return detail(f"behind the name {quoted(words[1])} stands {more}: it is '#mesondefine NAME', and nothing else")
+        return detail(f"after the name {quoted(words[1])} is {more}: write '#mesondefine NAME', and nothing else")
     return detail(f"{quoted(words[1] if len(words) > 1 else line)} is no name: it has letters, digits, '_' and '-'")
 
 
@@ -222,5 +222,5 @@ def too_late(context: Context) -> Detail:
             for node in tree.inside(root):
                 if isinstance(node, tree.Call) and node.receiver is None and node.name in TARGETS and name in outputs_of(node):
                     where = f"{path}:{line_at(open_text(context, path), node.start)}"
-                    return detail(f"{what}: it stands behind {node.name} {quoted(name)} of {where}", move, at=at)
+                    return detail(f"{what}: it comes after {node.name} {quoted(name)} of {where}", move, at=at)
     return detail(f"{what}: the target {quoted(name)} was declared before", move, at=at)
