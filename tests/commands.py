@@ -256,6 +256,19 @@ def test_commands() -> None:
         done = meson(*words)
         is_good = done.returncode == 4 and done.stdout == "" and listed(done.stderr) == ["setup", "questions", "fault", *FURTHER]
         check(f"meson: {words} is no command", is_good and repr(words[0] if words else "")[1:-1] in done.stderr, f"{done}")
+    for word, near in (("setupp", "setup"), ("tests", "test"), ("zzzzzz", ""), ("x; y", "")):
+        done = meson(word)
+        wanted = f"meson: there is no command '{word}'" + (f"; did you mean `meson {near}`?" if near else "")
+        check(f"meson: {word} may have meant another command", done.stderr.splitlines()[0] == wanted, f"{done}")
+    put("old/meson.build", "")
+    done = meson("out", cwd=f"{WORK}/old")
+    is_good = done.stderr.splitlines()[0] == "meson: there is no command 'out'; did you mean `meson setup out`?"
+    check("meson: a folder in the place of a command", is_good, f"{done}")
+    put("instead", "echo '  -h, --help  Print help'; exit 0")
+    done = meson("setup", "--help")
+    is_good = done.returncode == 0 and re.search(r"^ {6}--strict +Ends .*\n  -h, --help", done.stdout, re.M)
+    check("meson setup: help has the option of the command", is_good and done.stderr == "", f"{done}")
+    os.remove(f"{WORK}/instead")
     put("checkout/tools/port", 'import sys\nprint("port", *sys.argv[1:])\n', 0o755)
     check("meson port: where it is there", meson("port", "a b").stdout == "port a b\n" and "port" in listed(meson("such").stderr))
     os.remove(f"{COPY}/tools/port")
@@ -533,7 +546,7 @@ def test_compile_that_fails() -> None:
         put(kept, text)
         fails(f"words that are {text[:20]!r}", ["-C", "sources/moved"], 1, "doesn't have the words of a `meson setup`")
     os.remove(f"{WORK}/{kept}")
-    fails("a folder without words", ["-C", "sources/moved"], 1, "has no words of a `meson setup`: run that once more")
+    fails("a folder without words", ["-C", "sources/moved"], 1, "has no arguments of a `meson setup`: run that again")
 
 
 def test_introspect() -> None:
@@ -591,6 +604,13 @@ def test_completion() -> None:
     os.makedirs(f"{WORK}/a folder with blanks")
     got = run(["bash", "-c", COMPLETE, "bash", "hawkottoman-meson", "compile", "-C", "a f"]).stdout
     check("completion: bash, a folder with blanks", got == "a folder with blanks\n", got)
+    text = read("prefix/" + COMPLETIONS[0])
+    for command in FURTHER[:-1]:
+        shown = run(["prefix/bin/hawkottoman-meson", command, "--help"]).stdout
+        heads = re.findall(r"^ {2}(-\S.*?)(?: {2}|$)", shown, re.M)
+        listed = {it.split()[0] for head in heads for it in head.split(", ")} or {"-D", "--native-file", "--help"}
+        got = set(re.search(rf'^    {command}\) words="(.*)" ;;$', text, re.M)[1].split())
+        check(f"completion: {command}: the options of its help", got == listed, got ^ listed)
     done = run([f"{CHECKOUT}/tools/completion", "true", "bash", "x"])
     check("completion: a command without help", (done.returncode, done.stdout) == (1, "") and "shows no commands" in done.stderr, f"{done}")
     for shell, path in zip(("bash", "zsh", "fish"), COMPLETIONS):

@@ -358,6 +358,8 @@ def test_device_faults() -> None:
 def test_bad_words() -> None:
     """After status 4: what is right in the place of words of the real Meson."""
     fresh()
+    put("instead", "echo device fault >&2; exit 2")
+    says("a machine file that is a folder", ["device fault", "meson: .: the machine file: Is a directory"], "--native-file", ".", status=2)
     put("instead", "echo 'error: bad' >&2; exit 4")
     for words, said in {
             "--reconfigure": "a second setup of a folder configures it again: leave --reconfigure out",
@@ -372,6 +374,8 @@ def test_bad_words() -> None:
         done = meson("setup", folder, cwd=SOURCES)
         wanted = "error: bad\nmeson: run setup in the folder of the sources, and name a folder below it: `meson setup build`\n"
         check(f"meson setup: {folder} gets a tip", done.stderr == wanted, f"{done}")
+    one = "setup takes one folder, that of the build: run it in the folder of the sources, as `meson setup build`"
+    says("two folders", ["error: bad", f"meson: {one}"], "a", status=4)
     os.remove(f"{WORK}/instead")
 
 
@@ -448,6 +452,14 @@ def test_configure() -> None:
     wanted = [["prefix", "/usr", "/usr/local", "command", "line", "where", "files", "are", "installed"],
               ["mode", "b", "a", "a", "b", "command", "line", "Which", "way"]]
     check("meson configure: a table of all options", done.returncode == 0 and rows[1:3] == wanted, f"{done}")
+    kept = read("silent/meson.options")
+    for name, text, dropped in (("a file that can't be read", "option(", False), ("no such option any more", "", True)):
+        put("silent/meson.options", text)
+        done = meson("configure", "silent/b", "--prefix", "/opt")
+        is_told = done.stderr == "meson configure: note: -Dmode=b of an earlier setup is left out: there is no such option now\n" * dropped
+        is_good = done.returncode == 0 and ("-Dmode=b" in done.stdout) != dropped and is_told
+        check(f"meson configure: options of an earlier setup: {name}", is_good, f"{done}")
+    put("silent/meson.options", kept)
     put("silent/n.ini", "[project options]\nmode = 'b'\n")
     done = meson("configure", "c", "--native-file", "n.ini", cwd=SOURCES)
     is_mine = done.stdout == "program setup --native-file n.ini -- c\n" and not os.path.exists(f"{SOURCES}/c/meson-private/machine.ini")

@@ -40,17 +40,24 @@ def of_file(path: str, folder: str, known: set[str]) -> Iterator[str]:
 def of_call(call: tree.Call, here: str, folder: str, known: set[str]) -> Iterator[tuple[int, str]]:
     if call.receiver is not None:
         return
+    for it in include_folders(call):
+        if not any(os.path.isdir(os.path.join(root, here, it.value)) for root in (".", folder)):
+            yield it.start, f"the include folder {it.value!r} is not there"
     if call.name == "test":
         yield from of_test(call)
-    elif call.name == "include_directories":
-        for it in call.arguments:
-            if isinstance(it, tree.Text) and not any(os.path.isdir(os.path.join(root, here, it.value)) for root in (".", folder)):
-                yield it.start, f"the include folder {it.value!r} is not there"
     elif call.name == "project" and "default_options" in call.keywords:
         for it in tree.inside(call.keywords["default_options"].value):
             name = it.value.partition("=")[0].strip() if isinstance(it, tree.Text) and "=" in it.value else None
             if name and name not in known:
                 yield it.start, f"default_options: there is no option {name!r}, so it has no effect"
+
+
+def include_folders(call: tree.Call) -> list[tree.Text]:
+    """Returns the texts of a call that name include folders: its arguments, or the items of its keyword."""
+    keyword = call.keywords.get("include_directories")
+    value = tree.plain(keyword.value) if keyword is not None else None
+    items = call.arguments if call.name == "include_directories" else value.items if isinstance(value, tree.List) else [value]
+    return [it for it in items if isinstance(it, tree.Text)]
 
 
 def of_test(call: tree.Call) -> Iterator[tuple[int, str]]:

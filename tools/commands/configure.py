@@ -66,6 +66,18 @@ def merged(before: list[str], new: list[str]) -> list[str]:
     return [*(it for it in before if name_of(it) not in names), *new]
 
 
+def still_known(sources: str, settings: list[str]) -> list[str]:
+    """Returns the saved settings without those of options that the project has no more, and says which these are."""
+    from tools.option_table import BUILT_IN, declared
+    own = declared(sources) if settings else None
+    if own is None:
+        return settings
+    gone = [it for it in settings if it.partition("=")[0] not in {**BUILT_IN, **own}]
+    for it in gone:
+        say("meson configure", f"note: -D{it} of an earlier setup is left out: there is no such option now")
+    return [it for it in settings if it not in gone]
+
+
 def take_away(sources: str, folder: str) -> None:
     """Removes a folder that was made for a setup that failed."""
     try:
@@ -102,7 +114,7 @@ def configure(given: Given) -> int:
         check_folder(given.folder)
         sources, before, folder = os.getcwd(), [], given.folder
     is_new = not os.path.lexists(os.path.join(sources, folder))
-    settings = merged([f"-D{it}" for it in settings_of(before)], given.words)
+    settings = merged([f"-D{it}" for it in still_known(sources, settings_of(before))], given.words)
     kept = KeptMachine(PROGRAM, sources, folder, settings)
     path = os.path.relpath(given.native_file, sources) if given.native_file else machine_path(before)
     if not path or not given.native_file and is_pipe(os.path.join(sources, path)):
