@@ -341,6 +341,20 @@ def test_trial() -> None:
         check(f"meson port: a trial with {words}: the sandbox alone stops it", is_stopped, files_below("outside"))
 
 
+def test_modules() -> None:
+    """A PYTHONPATH with an empty part names the present folder: no module of the project is imported."""
+    project(NEW)
+    for name in ("tempfile", "signal", "re", "json"):
+        put(f"p/{name}.py", f"open({WORK + '/outside/ran'!r}, 'w')\n")
+    put("bin/meson", f"#!{sys.executable}\nimport json\nprint('1.0.0')\n", 0o755)
+    put("p/meson.build", OLD)
+    words = [sys.executable, "-I", "-S", PORT[0], "--dry-run", "--no-build", "--program", program_that_sets_up(), "."]
+    done = run(words, {"PYTHONPATH": ":", "PATH": f"{WORK}/bin:{os.environ['PATH']}"}, cwd=f"{WORK}/p")
+    is_good = done.returncode == 0 and "meson setup takes the result\nthe real Meson was not asked" in done.stderr
+    check("meson port: modules of the project are not imported", is_good and not files_below("outside"), f"{done} {files_below('outside')}")
+    shutil.rmtree(f"{WORK}/bin")
+
+
 def test_doubts() -> None:
     """Which builds are in doubt, so that no trial is made of them."""
     project(NEW)
@@ -636,6 +650,6 @@ def test_what_a_trial_says() -> None:
 
 
 TESTS = (test_rules_by_name, test_real_meson, test_places, test_folders_outside, test_bytes_that_stay, test_what_a_file_is,
-         test_kills, test_full_disk, test_journals_of_strangers, test_trial, test_doubts, test_what_a_trial_says,
+         test_kills, test_full_disk, test_journals_of_strangers, test_trial, test_modules, test_doubts, test_what_a_trial_says,
          test_lines_that_are_forged, test_streams, test_signals, test_signal_in_a_trial, test_early_signals, test_costs, test_growth,
          test_odd_files, test_installed, test_budget)
