@@ -30,7 +30,9 @@ def of_file(path: str, stem: str) -> str:
     for words, form, text in TOOLS:
         # By its name a package is guessed for a .pc file alone.
         if shutil.which(words[0]) and (words[0] != "apt-cache" or path.endswith(".pc")):
-            printed = run([it.format(path=path, pattern=re.escape(path), stem=re.escape(stem)) for it in words]).printed
+            asked = [it.format(path=path, pattern=re.escape(path), stem=re.escape(stem)) for it in words]
+            # At the root: scripts among these commands could be told to look in the present folder for modules.
+            printed = run(asked, "/").printed
             names = list(dict.fromkeys(re.findall(form, printed, re.M)))
             if names:
                 others = f" (or {len(names) - SHOWN} more)" if len(names) > SHOWN else ""
