@@ -209,6 +209,11 @@ def test_kills() -> None:
     done = port()
     is_good = done.stdout.startswith("an interrupted run is finished: its changes are made\n") and read("p/meson.build") == NEW
     check("meson port: the next command finishes what was killed", is_good and not is_there(), f"{step} {done}")
+    project()
+    os.mkdir(f"{WORK}/p/.meson-port")
+    done = port("--dry-run")
+    is_good = done.stdout.startswith("--- a/meson.build\n") and "an interrupted run has left .meson-port, which is removed" in done.stderr
+    check("meson port --dry-run: prints the patch alone after an interrupted run", is_good, f"{done}")
 
 
 def test_full_disk() -> None:

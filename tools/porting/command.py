@@ -202,9 +202,12 @@ def main(doc: str | None, given: list[str] | None = None) -> int:
 
 
 def carried_out(words: Given) -> int:
+    # All that is said of a patch is no part of it.
+    said_to = sys.stderr if words.dry_run else sys.stdout
     recovered = Journal(words.source).recover()
     if recovered:
-        tell(recovered)
+        with contextlib.redirect_stdout(said_to):
+            tell(recovered)
     try:
         project = Project(words.source)
         project.is_asked_to_run = words.run
@@ -213,8 +216,7 @@ def carried_out(words: Given) -> int:
         raise Stop(str(why)) from why
     if words.dry_run:
         show_patch(project)
-    # All that is said of a patch is no part of it.
-    with contextlib.redirect_stdout(sys.stderr if words.dry_run else sys.stdout):
+    with contextlib.redirect_stdout(said_to):
         return tell_and_write(project, words)
 
 
