@@ -540,11 +540,11 @@ def test_compile_that_fails() -> None:
     os.remove(f"{WORK}/instead")
     fails("no configured folder", [], 1, ".: is no configured folder")
     os.rename(f"{sources}/b", f"{sources}/moved")
-    fails("a folder that was moved", ["-C", "sources/moved"], 1, f"was configured as {sources}/b: run `meson setup` once more")
+    fails("a folder that was moved", ["-C", "sources/moved"], 1, f"was configured as {sources}/b: run `meson setup` again")
     kept = "sources/moved/meson-private/words"
     for text in ("", "[]", "words-2\0\n/\0\nb\0\n", "words-1\0\n/\0\n", "words-1\0\n/\0\nb", "\0" * 5000):
         put(kept, text)
-        fails(f"words that are {text[:20]!r}", ["-C", "sources/moved"], 1, "doesn't have the words of a `meson setup`")
+        fails(f"words that are {text[:20]!r}", ["-C", "sources/moved"], 1, "doesn't have the arguments of a `meson setup`")
     os.remove(f"{WORK}/{kept}")
     fails("a folder without words", ["-C", "sources/moved"], 1, "has no arguments of a `meson setup`: run that again")
 

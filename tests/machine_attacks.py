@@ -63,11 +63,11 @@ cc.has_link_argument('-Wl,-rpath,/opt/lib')
 cc.has_argument('/utf-8')
 cc.has_argument('-fdebug-prefix-map=/a=b')""")
     count = 2 * (len(words) + 1) + 5
-    left = re.findall(r"^# TO FILL IN: .* is not asked: .* is not among the words", done.stdout, re.M)
+    left = re.findall(r"^# TO FILL IN: .* is not asked: .* is not among the arguments", done.stdout, re.M)
     is_told = len(left) == count == len(done.stderr.splitlines())
     check("meson machine-file: words that write are not asked", done.returncode == 0 and is_told, f"{count} {done}")
-    wanted = (f"meson machine-file: meson.build:4: has_argument -o{place}: is not asked: '-o{place}' is not among the words that a "
-              f"compiler may be given for a project; where it is so, add below [checks]: has_argument -o{place} = true")
+    wanted = (f"meson machine-file: meson.build:4: has_argument -o{place}: is not asked: '-o{place}' is not among the arguments that "
+              f"a compiler may get for a project; if this machine has it, add below [checks]: has_argument -o{place} = true")
     check("meson machine-file: words that write: the line to add is told", done.stderr.splitlines()[0] == wanted, done.stderr)
     check("meson machine-file: words that write: nothing is written", not files_below("outside"), files_below("outside"))
     check("meson machine-file: words that read are asked", "has_link_argument -Wl,-rpath,/opt/lib = true\n" in done.stdout and

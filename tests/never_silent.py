@@ -386,7 +386,7 @@ def test_streams_of_setup() -> None:
     done = run(["sh", "-c", 'echo "[checks]" | "$0" setup --native-file /dev/stdin b', MESON], cwd=SOURCES)
     check("meson setup: a machine file that is a pipe", done.returncode == 0 and done.stderr == "", f"{done}")
     taken("configured")
-    told = "b: its machine file was /dev/stdin, which can't be read again: run `meson setup` once more, with a file"
+    told = "b: its machine file was /dev/stdin, which can't be read again: run `meson setup` again, with a file"
     for command, words, status in (("compile", ["-C", "b"], 1), ("test", ["-C", "b"], 125), ("install", ["-C", "b"], 1),
                                    ("introspect", ["b"], 1)):
         done = meson(command, *words, cwd=SOURCES, stdin=subprocess.DEVNULL)
@@ -544,7 +544,7 @@ def test_moved_words() -> None:
     put("silent/b/meson-private/words", "words-1\0\n.\0\n--native-file\0\nevil.ini\0\nb\0\n")
     put("silent/evil.ini", "")
     for words in (["compile", "-C", "b"], ["configure", "b", "-Dx=1"]):
-        refuses("words with a relative folder", [MESON, *words], 1, "doesn't have the words of a `meson setup`", env=with_tools(),
+        refuses("words with a relative folder", [MESON, *words], 1, "doesn't have the arguments of a `meson setup`", env=with_tools(),
                 cwd=SOURCES)
 
 

@@ -102,7 +102,7 @@ def check_place(folder: str, setup: Setup) -> None:
     except (OSError, ValueError):
         is_same = False
     if not is_same:
-        raise Stop(f"{folder}: was configured as {configured}: run `meson setup` once more where it is now")
+        raise Stop(f"{folder}: was configured as {configured}: run `meson setup` again where it is now")
 
 
 def configure_again(folder: str, otherwise: str, failed: int | None = None, shows_log: bool = True) -> None:
@@ -110,7 +110,7 @@ def configure_again(folder: str, otherwise: str, failed: int | None = None, show
     setup = read_setup(folder)
     machine = machine_path(setup.words)
     if machine is not None and is_pipe(os.path.join(setup.sources, machine)):
-        raise Stop(f"{folder}: its machine file was {machine}, which can't be read again: run `meson setup` once more, with a file", failed)
+        raise Stop(f"{folder}: its machine file was {machine}, which can't be read again: run `meson setup` again, with a file", failed)
     words, how = [MESON, ":again", folder], {}
     if "\n" in "".join([setup.sources, *setup.words]):
         words, how = [MESON, "setup", *setup.words], {"cwd": setup.sources}

@@ -70,5 +70,4 @@ def of_test(call: tree.Call) -> Iterator[tuple[int, str]]:
     if "workdir" in words:
         yield words["workdir"].start, "`workdir:` has no effect: tests run in the build folder; `meson port` writes `env -C`"
     if "depends" in words:
-        yield words["depends"].start, ("`depends:` has no effect: before tests is built what is built by default, and what their commands "
-                                       "name")
+        yield words["depends"].start, "`depends:` has no effect: before tests the default targets are built, and what their commands name"

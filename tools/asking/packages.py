@@ -13,7 +13,7 @@ FILES = {"dependency": "/{}.pc", "program": "/bin/{}", "find_library": "/lib{}.s
 # Commands that are asked one after the other, the form of a package's name in what they print, and what is said of it.
 TOOLS = (
     (("apt-file", "--package-only", "search", "--regexp", "{pattern}$"), r"^(\S+)$", "{} of the distribution has it"),
-    (("dpkg", "-S", "*{path}"), r"^([^\s:,]+).*: /", "the package {} has it, at a place where it is not looked for"),
+    (("dpkg", "-S", "*{path}"), r"^([^\s:,]+).*: /", "the package {} has it, in a folder that is not searched"),
     (("apt-cache", "search", "--names-only", "^(lib)?{stem}[0-9.+]*[a-z]?(-[0-9.]+)?-dev$"), r"^(\S+) - ",
      "perhaps {} of the distribution has it"))
 SHOWN = 3  # packages
@@ -46,4 +46,4 @@ def who_has(compiler: Compiler, name: str) -> str:
     other = lacks(compiler, plain) if kind == "dependency" else ""
     wanted = other or plain
     said = of_file(FILES[kind].format(wanted), wanted.removeprefix("lib").partition("-")[0].rstrip("+")) if kind in FILES else ""
-    return f"its package wants {other}, and {said}" if other else said
+    return f"its package requires {other}, and {said}" if other else said

@@ -51,7 +51,7 @@ def run(words: list[str], folder: str | None = None, executable: str | None = No
     try:
         with BEGINS:
             if ENDED.is_set():
-                raise NoAnswer(f"{words[0]} was not begun")
+                raise NoAnswer(f"{words[0]} was not started")
             process = subprocess.Popen(words, cwd=folder, executable=executable, stdin=subprocess.DEVNULL, stdout=to, stderr=to,
                                        start_new_session=True, preexec_fn=enter,
                                        env={**os.environ, "LC_ALL": "C"} if variables is None else variables)
@@ -59,7 +59,7 @@ def run(words: list[str], folder: str | None = None, executable: str | None = No
     except (OSError, ValueError) as error:  # a ValueError where a word has a NUL
         return Done(None, "", f"{executable or words[0]}: {getattr(error, 'strerror', error)}")
     except subprocess.SubprocessError as error:  # `enter` has failed
-        raise Stop(f"{words[0]}: the system refuses to bound what it may do") from error
+        raise Stop(f"{words[0]}: the system refuses to limit what it may do") from error
     try:
         with killed_early(process, is_asked_first):
             printed, said = heard(process, time.monotonic() + seconds, most)

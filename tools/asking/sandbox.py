@@ -29,7 +29,7 @@ MIB = 1 << 20
 MEMORY, LONGEST_FILE, SECONDS, PROCESSES = 2048 * MIB, 256 * MIB, 120, 512
 # What a sandbox doesn't bound.
 NO_LANDLOCK = "this system has no Landlock, so compilers run without a sandbox; their arguments are checked all the same"
-OTHER_PROGRAMS = "the compiler runs programs that are not known here, so the sandbox doesn't bound which programs run"
+OTHER_PROGRAMS = "the compiler runs programs that are not known here, so the sandbox doesn't limit which programs run"
 UNBOUNDED = "the compiler doesn't work in a sandbox, so it runs without one; its arguments are checked all the same"
 # Compiler caches and distributed compilers would want their own folders, sockets and servers.
 VARIABLES = {"CCACHE_DISABLE": "1", "CCACHE_PREFIX": "", "SCCACHE_DISABLE": "1", "DISTCC_HOSTS": "localhost"}

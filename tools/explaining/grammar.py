@@ -16,25 +16,25 @@ OPERATORS = ("+", "-", "*", "/", "%", "==", "!=", "<", ">", "<=", ">=", "and", "
 LIKE_ENDS = re.compile(r"(?m)^[ \t]*(end\w*|done|fi)[ \t]*$")
 # What is often meant by a character that begins no token.
 SIGNS = {
-    '"': "a text is written between single quotes, as 'text'", "&": "both of two conditions is 'a and b'",
-    "|": "one of two conditions is 'a or b'",
-    "!": "what isn't so is 'not a'", ";": "a statement ends with its line", "$": "a variable is its name alone, and in a text f'@name@'",
+    '"': "a text is written between single quotes, as 'text'", "&": "write 'a and b'",
+    "|": "write 'a or b'",
+    "!": "write 'not a'", ";": "a statement ends with its line", "$": "a variable is its name alone, and in a text f'@name@'",
     "@": "only a text has names between '@', as f'@name@'", "`": "a text is written between single quotes, as 'text'",
     "\\": "it belongs in a text, or at the end of a line that goes on",
 }
 # What is often meant by a word that begins a statement.
 BEGINNINGS = {
     **dict.fromkeys(("for", "while"), "a loop is 'foreach NAME : LIST', up to 'endforeach'"),
-    **dict.fromkeys(("def", "function", "func"), "no functions are defined in these files"),
-    **dict.fromkeys(("elsif", "elseif"), "a further condition is 'elif'"),
+    **dict.fromkeys(("def", "function", "func"), "these files can't define functions"),
+    **dict.fromkeys(("elsif", "elseif"), "write 'elif' for a further condition"),
     **dict.fromkeys(("let", "var", "const", "set"), "a variable is set by 'NAME = value'"),
 }
 # What is often meant by what stands behind a part of a statement: the word before, the word itself.
 FOLLOWING = {
-    ("else", "if"): "a further condition is 'elif'", ("end", "if"): "the end of a block is one word, 'endif'",
-    **{(sign, "="): f"'NAME = NAME {sign} value': of such signs '+=' is the only one" for sign in "-*/"},
-    ("+", "+"): "one more is 'NAME += 1'", ("+", "="): "'+=' is one sign",
-    ("=", "="): "'==' is one sign, and compares", ("-", "-"): "one less is 'NAME = NAME - 1'",
+    ("else", "if"): "write 'elif' for a further condition", ("end", "if"): "the end of a block is one word, 'endif'",
+    **{(sign, "="): f"write 'NAME = NAME {sign} value': only '+=' exists" for sign in "-*/"},
+    ("+", "+"): "write 'NAME += 1'", ("+", "="): "'+=' is one sign",
+    ("=", "="): "'==' is one sign, and compares", ("-", "-"): "write 'NAME = NAME - 1'",
 }
 
 
@@ -109,9 +109,9 @@ def token_detail(text: str, line: int) -> Detail:
         return detail(f"there is no token in {quoted(line_text(text, line).strip())}")
     sign = text[at]
     if text[max(at - 2, 0):at + 1] == "'''":
-        return detail("the text that begins with ''' has no end: the next ''' ends it", at=at - 2)
+        return detail("the text that begins with ''' has no end: write ''' after it", at=at - 2)
     if sign == "'" or text[at:at + 2] == "f'":
-        return detail(f"the text {named(text[at:].splitlines()[0])} has no end: the next single quote on its line ends it", at=at)
+        return detail(f"the text {named(text[at:].splitlines()[0])} has no end: write a single quote after it, on the same line", at=at)
     return detail(f"the character {quoted(sign)} begins no token{': ' * (sign in SIGNS)}{SIGNS.get(sign, '')}", at=at)
 
 
@@ -195,7 +195,7 @@ def in_brackets(opened: str, before: Token, token: Token) -> str:
     ends = before.kind in ("text", "number", "name") or before.text in (")", "]", "}", "true", "false")
     begins = token.kind in ("text", "number", "name") or token.text in ("[", "{", "true", "false")
     if ends and begins:
-        return f"a comma is missing between {named(before.text)} and {named(token.text)}, or a bracket is"
+        return f"a comma or a bracket is missing between {named(before.text)} and {named(token.text)}"
     return ""
 
 
@@ -207,7 +207,7 @@ def on_line(text: str, line: int) -> Detail:
     if line > text.count("\n"):
         what = "at the end of the file"
     at = end if words and line_text(text, line)[:1].strip() else None
-    return detail(f"{what}: no file goes on so", open_detail(text, end, line), at=at)
+    return detail(f"{what}: the file can't continue like this", open_detail(text, end, line), at=at)
 
 
 def refused_in(body: list[tree.Statement]) -> Iterator[tuple[int, str]]:

@@ -79,11 +79,11 @@ def made_twice(context: Context, call: tree.Call) -> Detail:
     if where:
         made = ", ".join(map(quoted, own or names))
         told = "give it another name, or declare it in another folder"
-        return detail(f"{call.name}: {made} is made before, {where}", told, at=call.start)
+        return detail(f"{call.name}: {made} is already made, {where}", told, at=call.start)
     sources = [it.text for argument in call.arguments[1:] if (found := context.value(argument)) for it in flat(found) if it.kind == TEXT]
     alike = [it for it in sources if sum(other.replace("/", "_") == it.replace("/", "_") for other in sources) > 1]
     if call.name in TARGETS and alike:
-        why = f"the sources {listed(map(quoted, alike))} have one object, since '/' becomes '_' in its name"
+        why = f"the sources {listed(map(quoted, alike))} have one object file, since '/' becomes '_' in its name"
         return detail(f"{call.name}: {why}", at=call.start)
     return detail(f"{call.name}: {context.told.shown}",
                   "two sources whose paths differ only in '/' and '_' have one object; a library has its links, too", at=call.start)
@@ -121,7 +121,7 @@ def folder(context: Context) -> Detail:
     if not name:
         why = "the name is empty"
     elif name.startswith("/"):
-        why = "the name is absolute: a folder is named from the present one"
+        why = "the name is absolute: a folder is named relative to the present one"
     elif ".." in name.split("/"):
         why = "the name has a part '..': call subdir from the folder above"
     else:
@@ -150,9 +150,9 @@ def own_words(context: Context) -> Detail:
     if call is None or not call.arguments:
         return detail("the project itself ends the run", at=context.place.statement.start)
     if call.name == "error":
-        return detail("error: the project itself ends the run, with these words", at=call.start)
+        return detail("error: the project itself ends the run, with this message", at=call.start)
     condition = call.arguments[0]
-    return detail(f"assert: the project itself ends the run: not true is {quoted(context.place.source(condition))}", at=condition.start)
+    return detail(f"assert: the project itself ends the run: {quoted(context.place.source(condition))} is not true", at=condition.start)
 
 
 def template(line: str) -> Detail:
@@ -178,7 +178,7 @@ def frozen(context: Context) -> Detail:
             and name in tree.names_in(node.keywords["configuration"].value)]
     where = f", at {uses[0][0]}:{line_at(open_text(context, uses[0][0]), uses[0][1].start)}" if uses else ""
     what = call.name if call else "a change"
-    return detail(f"{what}: a file was made from {quoted(name)} before{where}, so it doesn't change any more",
+    return detail(f"{what}: a file was made from {quoted(name)} before{where}, so it can't be changed any more",
                   "set all values before configure_file, or change a copy: 'more = data' makes one", at=call.start if call else None)
 
 

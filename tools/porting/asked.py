@@ -73,7 +73,7 @@ def as_option(project: Project, site: Site, value: bool | int | str) -> Change:
                          replaced(site, site.call, f"({REAL} ? {site.file.source(site.call)} : get_option({escaped(option)}))"))
     text = f"option({escaped(option)}, type: '{TYPES[method]}', value: {shown}, description: {escaped(description)})\n"
     change.edits.append(with_option(project, text))
-    change.notes = [f"the option {option} is what this machine's compiler said: on another one the machine file may have to say otherwise"]
+    change.notes = [f"the option {option} is the answer of this machine's compiler: on another machine its machine file may need another"]
     return change
 
 

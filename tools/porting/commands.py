@@ -30,7 +30,7 @@ LARGEST = 1 << 20
 MOST_ROUNDS = 64
 MARK = "/value-of-the-project"  # stands for a value that a project gives to a variable of a .pc file
 QUESTIONS = {"exists": os.path.exists, "is_file": os.path.isfile, "is_dir": os.path.isdir, "is_symlink": os.path.islink}
-NOT_ASKED = "needs to be run once: --run does that, and writes what it says"
+NOT_ASKED = "needs to be run once: --run does that, and writes down what it prints"
 
 
 def spoken(project: Project, text: str) -> None:
@@ -152,7 +152,7 @@ def by_round(site: Site, rounds: list[Thing], texts: list[str]) -> str:
 def answered(project: Project, site: Site, answers: dict[str, str]) -> Change | None:
     """The call, and the methods of its result, as what they come to."""
     outer = next((it for it in project.methods(*answers) if it.call.receiver and tree.plain(it.call.receiver) is site.call), None)
-    what = "run_command becomes what it said"
+    what = "run_command becomes what it printed"
     if outer is not None:
         return site.change(what, replaced(site, outer.call, answers[outer.call.name]))
     if not isinstance(site.statement, tree.Assignment) or tree.plain(site.statement.value) is not site.call:

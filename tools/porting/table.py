@@ -7,7 +7,7 @@ from porting import (asked, calls, commands, compiler, dependencies, features, g
 from porting.rule import Rule
 
 RULES = (
-    Rule("run-command", "run_command: what it says, written down (with --run alone)", commands.run_command),
+    Rule("run-command", "run_command: what it prints, written down (only with --run)", commands.run_command),
     Rule("read", "fs.read and `version: files()`: the text, written down (with --run alone)", commands.read_files),
     Rule("fs-asked", "fs.exists, is_file, is_dir, size, hash: the answer, written down (with --run alone)", commands.asked_files),
     Rule("fs-paths", "fs.name, stem, parent and their like: the text", commands.path_methods),
@@ -30,7 +30,7 @@ RULES = (
     Rule("partial-dependency", "partial_dependency, as_system: the dependency itself", dependencies.partial_dependency),
     Rule("type-name", "type_name of a dependency: what it is, where it is found", dependencies.names_of_types),
     Rule("sources", "compiles, links: has_type, has_function, with the source before it", sources.sources),
-    Rule("runs", "run of a compiler: what the program came to, in options and texts (with --run alone)", runs.runs),
+    Rule("runs", "run of a compiler: what the program came to, in options and texts (only with --run)", runs.runs),
     Rule("attributes", "has_function_attribute: has_type", compiler.attributes),
     Rule("defines", "has_define: has_type", compiler.defines),
     Rule("link-arguments", "get_supported_link_arguments: has_link_argument in a loop", compiler.link_arguments),
