@@ -229,7 +229,7 @@ def test_beside() -> None:
     shutil.rmtree(f"{SOURCES}/b")
     os.makedirs(f"{SOURCES}/b/meson-private/words")
     done = meson("setup", "b", cwd=SOURCES)
-    check("meson setup: a folder in the place of the words", done.returncode == 2 and "can't have the words" in done.stderr, f"{done}")
+    check("meson setup: a folder in the place of the words", done.returncode == 2 and "can't have the arguments" in done.stderr, f"{done}")
     shutil.rmtree(f"{SOURCES}/b")
 
 
@@ -506,6 +506,7 @@ def test_words_of_meson() -> None:
 def test_refreshed() -> None:
     """`configure` asks the machine again, keeps what was filled in by hand, and changes no compiler and no flags unasked."""
     fresh()
+    put("silent/meson.options", "option('x', type: 'string')\n")
     path = "silent/b/meson-private/machine.ini"
     put("asked", ASKED % ("binaries", '"tool-x"', "null", 3) + "\n")
     put("questions", f"cat {WORK}/asked\n{NOTHING_ASKED}")
