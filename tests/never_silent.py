@@ -561,6 +561,10 @@ def test_configure_that_refuses() -> None:
             ("the present folder", [], 4, "name a folder below it"),
             ("a bad word", ["b", "--such"], 4, "--such")):
         refuses(name, [MESON, "configure", *words], status, text, env=with_tools(), cwd=SOURCES)
+    put("silent/old/meson-info/introspect.json", "{}")
+    refuses("a folder whose arguments are not saved", [MESON, "configure", "old", "-Dx=1"], 1, "old: has no arguments of a `meson setup`",
+            env=with_tools(), cwd=SOURCES)
+    shutil.rmtree(f"{SOURCES}/old")
     refuses("no sources", [MESON, "configure", "x"], 1, "there is no meson.build here; did you mean to run from ..?", env=with_tools(),
             cwd=f"{SOURCES}/b")
     check("meson configure: writes nothing where it refuses", sorted(os.listdir(SOURCES)) == made, os.listdir(SOURCES))

@@ -31,6 +31,8 @@ if TYPE_CHECKING:
     from tools.words import Given
 
 FAILED, BAD_WORDS = 1, 4
+# The document of a configured folder.
+DOCUMENT = "meson-info/introspect.json"
 # The command `meson` names the program.
 PROGRAM = os.environ.pop("HAWKOTTOMAN_PROGRAM", "")
 
@@ -107,11 +109,13 @@ def check_folder(folder: str) -> None:
 def configure(given: Given) -> int:
     """Sets up the folder with the options that were given, now and before; returns the status."""
     is_known = has_words(given.folder)
-    if is_known:
+    if not is_known:
+        check_folder(given.folder)
+    # A configured folder without the arguments of its setup is refused: else its options would be lost in silence.
+    if is_known or os.path.exists(os.path.join(given.folder, DOCUMENT)):
         setup = read_setup(given.folder)
         sources, before, folder = setup.sources, setup.words, build_folder_of(setup.words) or ""
     else:
-        check_folder(given.folder)
         sources, before, folder = os.getcwd(), [], given.folder
     is_new = not os.path.lexists(os.path.join(sources, folder))
     settings = merged([f"-D{it}" for it in still_known(sources, settings_of(before))], given.words)
