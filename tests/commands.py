@@ -712,6 +712,9 @@ def test_self_install_that_fails() -> None:
     refuses("a folder that can't be replaced", [MESON, "self-install", "prefix"], 1, "prefix/lib/hawkottoman was not installed",
             env={**with_tools(), "PATH": f"{WORK}/fails:{with_tools()['PATH']}"})
     check("meson self-install: a folder that can't be replaced: the older version stays", whole == files_of("prefix"))
+    os.rename(f"{WORK}/prefix/lib/hawkottoman", f"{WORK}/prefix/lib/hawkottoman.old")
+    run([MESON, "self-install", "prefix"], {**with_tools(), "PATH": f"{WORK}/fails:{with_tools()['PATH']}"})
+    check("meson self-install: after one that was killed: the older version is there again", whole == files_of("prefix"))
     with open("/dev/full", "w") as full:
         refuses("a full output", [MESON, "self-install", "prefix"], 1, "the standard output can't be written", env=with_tools(),
                 stdout=full)
@@ -729,7 +732,7 @@ def test_self_install_that_fails() -> None:
     refuses("a file in the place of a folder", [MESON, "self-install", "other"], 1,
             "hawkottoman-meson.1 was not installed: Not a directory", env=with_tools())
     shutil.rmtree(f"{WORK}/other")
-    refuses("no words", ["meson", "self-install"], 4, "takes one word")
+    refuses("no words", ["meson", "self-install"], 4, "takes one argument")
     refuses("a word of another kind", ["meson", "self-install", "--prefix=/usr"], 4, "is no folder PREFIX")
 
 
