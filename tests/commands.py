@@ -421,7 +421,7 @@ def test_explain() -> None:
     put("told", f"""echo "keyword 'instal': there is none"; {fault}\n""")
     explains("a fault", fault, ["b"], 1, "executable: keyword 'instal': there is none; near: 'install'")
     put("told", f"""echo "keyword 'instal': there is none"; echo 'meson.build:3: ERROR: E9 arguments' >&2; exit 1\n""")
-    explains("a fault of another run is not told", fault, ["b"], 1, "executable: it can't do with what it got")
+    explains("a fault of another run is not told", fault, ["b"], 1, "executable: it can't use what it got")
     os.remove(f"{WORK}/told")
     shown = "meson.build:2: ERROR: E9 arguments\n  2 | exec"
     with_words = f'case "$*" in "questions -D x=1 --native-file=/"*"/native.ini -- b") {fault} ;; esac'

@@ -331,6 +331,15 @@ def test_own_faults() -> None:
     fresh()
 
 
+def test_dear_sources() -> None:
+    """Sources that make an explanation dear: it is given up, and `setup` ends all the same."""
+    lines = ["import sys, tools.explaining.brief as it, tools.commands.advise as advise", "def endless(*words):", "    while True: pass",
+             "it.brief, advise.SECONDS, sys.argv = endless, 0.2, ['advise', 'program', '1', 'b']", "advise.main()"]
+    done = run([sys.executable, "-B", "-c", "\n".join(lines)], {"PYTHONPATH": f"{CHECKOUT}:{CHECKOUT}/tools"})
+    wanted = "meson: it takes too long to say here what the fault is about\nmeson: more: meson explain b\n"
+    check("meson setup: an explanation that is dear", (done.returncode, done.stderr) == (0, wanted), f"{done}")
+
+
 def test_device_faults() -> None:
     """After status 2: which file it is, and the system's reason, in one line."""
     fresh("executable('p', 'a.c')\n")
@@ -602,5 +611,5 @@ def test_summary() -> None:
 
 TESTS = (test_open_questions, test_check_of_machine_file, test_notes, test_configured_again, test_archives, test_another_meson,
          test_beside, test_benchmarks, test_serial, test_told_places, test_compile_commands, test_long_commands, test_own_faults,
-         test_device_faults, test_bad_words, test_streams_of_setup, test_names_of_its_own, test_configure_that_is_ended, test_configure,
+         test_dear_sources, test_device_faults, test_bad_words, test_streams_of_setup, test_names_of_its_own, test_configure_that_is_ended, test_configure,
          test_words_of_meson, test_refreshed, test_moved_words, test_configure_that_refuses, test_summary)
