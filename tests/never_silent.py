@@ -611,5 +611,5 @@ def test_summary() -> None:
 
 TESTS = (test_open_questions, test_check_of_machine_file, test_notes, test_configured_again, test_archives, test_another_meson,
          test_beside, test_benchmarks, test_serial, test_told_places, test_compile_commands, test_long_commands, test_own_faults,
-         test_dear_sources, test_device_faults, test_bad_words, test_streams_of_setup, test_names_of_its_own,
-         test_configure_that_is_ended, test_configure, test_words_of_meson, test_refreshed, test_moved_words, test_configure_that_refuses, test_summary)
+         test_dear_sources, test_device_faults, test_bad_words, test_streams_of_setup, test_names_of_its_own, test_configure_that_is_ended,
+         test_configure, test_words_of_meson, test_refreshed, test_moved_words, test_configure_that_refuses, test_summary)
