@@ -5,31 +5,16 @@ It prints two lines at most: what the fault is about, which file it is, or what 
 from __future__ import annotations
 
 import os
-import signal
 import sys
 
 from tools.ending import CALLED, one_line, run_script
 from tools.last_setup import build_folder_of, cut, machine_path
+from tools.limit import within_limit
 from tools.of_meson import FLAGS, LEFT_OUT, NO_EFFECT, NO_EFFECT_FLAGS, OPTIONS, named_in
-
-TYPE_CHECKING = False
-if TYPE_CHECKING:
-    from types import FrameType
-    from typing import NoReturn
 
 DONE, FAULT, DEVICE, BAD_WORDS = 0, 1, 2, 4
 # The longest line that is printed.
 LONGEST = 240
-# How much time of the processor may go into what is printed: sources can make that dear.
-SECONDS = 4
-
-
-class TooLong(Exception):
-    """The time for an advice is over."""
-
-
-def give_up(number: int, frame: FrameType | None) -> NoReturn:
-    raise TooLong
 
 
 def tell(text: str) -> None:
@@ -46,14 +31,7 @@ def quoted(words: list[str]) -> str:
 def of_fault(program: str, words: list[str]) -> None:
     """Prints what the fault is about, and which command says more."""
     from tools.explaining.brief import brief
-    signal.signal(signal.SIGVTALRM, give_up)
-    signal.setitimer(signal.ITIMER_VIRTUAL, SECONDS)
-    try:
-        lines = brief(program, words)
-        signal.setitimer(signal.ITIMER_VIRTUAL, 0)
-    except TooLong:
-        lines = ["it takes too long to say here what the fault is about"]
-    for line in lines:
+    for line in within_limit(lambda: brief(program, words), "it takes too long to say here what the fault is about"):
         tell(line)
     tell(f"more: {CALLED} explain {quoted(words)}")
 
