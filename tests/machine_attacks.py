@@ -158,16 +158,21 @@ def test_headers_of_the_project() -> None:
     check("meson machine-file: the standard input as a header", "has_type int = true\n" in done.stdout, f"{done}")
 
 
-def test_interrupted_checks() -> None:
-    """A compiler that hangs is ended with machine-file, at once, and no folder is left."""
+def begun() -> tuple[subprocess.Popen[str], list[int]]:
+    """A machine-file whose compiler hangs, and the compiler's number."""
     fresh("s", "scratch")
     # It can write nowhere but in the folder of its check.
     hangs = put("hangs", "#!/bin/sh\ncase $* in *-Wslow*) echo $$ >$TMPDIR/pid; exec sleep 300 ;; esac\nexec cc \"$@\"\n", 0o755)
     put("m/meson.build", "project('p', 'c')\nmeson.get_compiler('c').has_argument('-Wslow')\n")
     env = environment({"CC": hangs, "TMPDIR": f"{WORK}/scratch"})
     process = subprocess.Popen(words_of(MACHINE_FILE), cwd=WORK, env=env, stdout=subprocess.PIPE, stderr=subprocess.PIPE, text=True)
-    wait_until(lambda: glob.glob(f"{WORK}/scratch/*/*/pid"))
-    pids = wait_for_pids(glob.glob(f"{WORK}/scratch/*/*/pid"))
+    wait_until(lambda: glob.glob(f"{WORK}/scratch/*/*/pid"), 200)
+    return process, wait_for_pids(glob.glob(f"{WORK}/scratch/*/*/pid"))
+
+
+def test_interrupted_checks() -> None:
+    """A compiler that hangs is ended with machine-file, at once, and no folder is left."""
+    process, pids = begun()
     process.send_signal(signal.SIGTERM)
     process.send_signal(signal.SIGHUP)
     printed, errors = process.communicate(timeout=200)
@@ -175,6 +180,10 @@ def test_interrupted_checks() -> None:
     check("meson machine-file: interrupted", is_told, f"{process.returncode} {errors}")
     check("meson machine-file: interrupted: ends the compiler", len(pids) == 1 and not is_running(pids[0]), pids)
     check("meson machine-file: interrupted: leaves nothing", os.listdir(f"{WORK}/scratch") == [], os.listdir(f"{WORK}/scratch"))
+    process, pids = begun()
+    process.kill()
+    process.communicate(timeout=200)
+    check("meson machine-file: killed: ends the compiler", len(pids) == 1 and not is_running(pids[0]), pids)
 
 
 TESTS = (test_broken_compilers, test_what_checks_may_do, test_what_a_project_gives, test_sizes, test_streams, test_odd_names,
