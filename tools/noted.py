@@ -8,7 +8,7 @@ from porting import tree
 from porting.lexer import Lines, SyntaxFault
 from porting.parser import parse
 from tools.document import read_content
-from tools.files import read_text
+from tools.files import DEFINITION, read_text
 
 SERIAL = "serial"
 
@@ -25,7 +25,7 @@ def notes(folder: str) -> list[str]:
 
 
 def of_file(path: str, folder: str, known: set[str]) -> Iterator[str]:
-    text = read_text(path)
+    text = read_text(path, DEFINITION)
     try:
         statements = parse(text)
     except SyntaxFault:

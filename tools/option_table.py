@@ -10,7 +10,7 @@ from porting.parser import parse
 from tools.asking.compare import read_sections
 from tools.document import read_content
 from tools.ending import CALLED, one_line, show
-from tools.files import read_text
+from tools.files import DEFINITION, read_text
 from tools.last_setup import Setup, machine_path, read_setup, settings_of
 
 TYPE_CHECKING = False
@@ -55,7 +55,7 @@ def declared(sources: str) -> dict[str, tuple[str, str, str]] | None:
     for name in ("meson.options", "meson_options.txt"):
         path = os.path.join(sources, name)
         if os.path.isfile(path):
-            text = read_text(path)
+            text = read_text(path, DEFINITION)
             try:
                 calls = declarations(parse(text))
             except (SyntaxFault, RecursionError):
