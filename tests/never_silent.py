@@ -339,8 +339,6 @@ def test_dear_sources() -> None:
     done = run([sys.executable, "-B", "-c", "\n".join(lines)], {"PYTHONPATH": f"{CHECKOUT}:{CHECKOUT}/tools"})
     wanted = "meson: it takes too long to say here what the fault is about\nmeson: more: meson explain b\n"
     check("meson setup: an explanation that is dear", (done.returncode, done.stderr) == (0, wanted), f"{done}")
-    fresh("test('a', x, workdir: '/')\n" + "x = [1, 2, 3, 4, 5, 6, 7, 8, 9, 10, 11, 12, 13, 14, 15, 16, 17, 18, 19, 20]\n" * 150_000)
-    says("notes that are dear", ["meson: to look at:", "  it takes too long to look for what has no effect"])
 
 
 def test_device_faults() -> None:
