@@ -147,7 +147,7 @@ def test_headers_of_the_project() -> None:
     process = subprocess.Popen(words_of(MACHINE_FILE), cwd=WORK, env=environment({"TMPDIR": f"{WORK}/scratch"}), stdin=subprocess.DEVNULL,
                                stdout=subprocess.PIPE, stderr=subprocess.PIPE, text=True)
     printed, errors = process.communicate(timeout=400)
-    is_told = "has_type int: cc says more than 16,777,216 bytes" in errors and "has_type char = true\n" in printed
+    is_told = "has_type int: cc prints more than 16,777,216 bytes" in errors and "has_type char = true\n" in printed
     check("meson machine-file: a header that includes itself for ever", process.returncode == 0 and is_told, f"{errors[:400]} {printed}")
     check("meson machine-file: which leaves nothing", os.listdir(f"{WORK}/scratch") == [], os.listdir(f"{WORK}/scratch"))
     put("m/meson.build", "project('p', 'c')\nmeson.get_compiler('c').has_type('int', prefix: '#include \"/dev/stdin\"')\n")
