@@ -206,7 +206,7 @@ def test_odd_documents() -> None:
             for part in ({"installed": {f"/a{odd}": "/b"}}, {"installed": {"/a": f"/b{odd}"}}, {"tests": [shell("t", odd)]},
                          {"tests": [shell("t", ":", env=[f"A={odd}"])]}, {"targets": [{**target, "filename": [odd]}]}):
                 configured("c", **part)
-                bad(f"{name} in {next(iter(part))}", "introspect.json: has a text that is no name")
+                bad(f"{name} in {next(iter(part))}", "introspect.json: has a text that can be neither a name nor an argument")
         configured("c", targets=[{**target, "filename": []}])
         bad("a target without files", "is no introspection document")
         configured("c", targets=[{**target, "filename": [], "type": "shared library"}])

@@ -256,6 +256,19 @@ def test_commands() -> None:
         done = meson(*words)
         is_good = done.returncode == 4 and done.stdout == "" and listed(done.stderr) == ["setup", "questions", "fault", *FURTHER]
         check(f"meson: {words} is no command", is_good and repr(words[0] if words else "")[1:-1] in done.stderr, f"{done}")
+    for word, near in (("setupp", "setup"), ("tests", "test"), ("zzzzzz", ""), ("x; y", "")):
+        done = meson(word)
+        wanted = f"meson: there is no command '{word}'" + (f"; did you mean `meson {near}`?" if near else "")
+        check(f"meson: {word} may have meant another command", done.stderr.splitlines()[0] == wanted, f"{done}")
+    put("old/meson.build", "")
+    done = meson("out", cwd=f"{WORK}/old")
+    is_good = done.stderr.splitlines()[0] == "meson: there is no command 'out'; did you mean `meson setup out`?"
+    check("meson: a folder in the place of a command", is_good, f"{done}")
+    put("instead", "echo '  -h, --help  Print help'; exit 0")
+    done = meson("setup", "--help")
+    is_good = done.returncode == 0 and re.search(r"^ {6}--strict +Ends .*\n  -h, --help", done.stdout, re.M)
+    check("meson setup: help has the option of the command", is_good and done.stderr == "", f"{done}")
+    os.remove(f"{WORK}/instead")
     put("checkout/tools/port", 'import sys\nprint("port", *sys.argv[1:])\n', 0o755)
     check("meson port: where it is there", meson("port", "a b").stdout == "port a b\n" and "port" in listed(meson("such").stderr))
     os.remove(f"{COPY}/tools/port")
@@ -408,7 +421,7 @@ def test_explain() -> None:
     put("told", f"""echo "keyword 'instal': there is none"; {fault}\n""")
     explains("a fault", fault, ["b"], 1, "executable: keyword 'instal': there is none; near: 'install'")
     put("told", f"""echo "keyword 'instal': there is none"; echo 'meson.build:3: ERROR: E9 arguments' >&2; exit 1\n""")
-    explains("a fault of another run is not told", fault, ["b"], 1, "executable: it can't do with what it got")
+    explains("a fault of another run is not told", fault, ["b"], 1, "executable: it can't use what it got")
     os.remove(f"{WORK}/told")
     shown = "meson.build:2: ERROR: E9 arguments\n  2 | exec"
     with_words = f'case "$*" in "questions -D x=1 --native-file=/"*"/native.ini -- b") {fault} ;; esac'
@@ -527,13 +540,13 @@ def test_compile_that_fails() -> None:
     os.remove(f"{WORK}/instead")
     fails("no configured folder", [], 1, ".: is no configured folder")
     os.rename(f"{sources}/b", f"{sources}/moved")
-    fails("a folder that was moved", ["-C", "sources/moved"], 1, f"was configured as {sources}/b: run `meson setup` once more")
+    fails("a folder that was moved", ["-C", "sources/moved"], 1, f"was configured as {sources}/b: run `meson setup` again")
     kept = "sources/moved/meson-private/words"
     for text in ("", "[]", "words-2\0\n/\0\nb\0\n", "words-1\0\n/\0\n", "words-1\0\n/\0\nb", "\0" * 5000):
         put(kept, text)
-        fails(f"words that are {text[:20]!r}", ["-C", "sources/moved"], 1, "doesn't have the words of a `meson setup`")
+        fails(f"words that are {text[:20]!r}", ["-C", "sources/moved"], 1, "doesn't have the arguments of a `meson setup`")
     os.remove(f"{WORK}/{kept}")
-    fails("a folder without words", ["-C", "sources/moved"], 1, "has no words of a `meson setup`: run that once more")
+    fails("a folder without words", ["-C", "sources/moved"], 1, "has no arguments of a `meson setup`: run that again")
 
 
 def test_introspect() -> None:
@@ -591,6 +604,13 @@ def test_completion() -> None:
     os.makedirs(f"{WORK}/a folder with blanks")
     got = run(["bash", "-c", COMPLETE, "bash", "hawkottoman-meson", "compile", "-C", "a f"]).stdout
     check("completion: bash, a folder with blanks", got == "a folder with blanks\n", got)
+    text = read("prefix/" + COMPLETIONS[0])
+    for command in FURTHER[:-1]:
+        shown = run(["prefix/bin/hawkottoman-meson", command, "--help"]).stdout
+        heads = re.findall(r"^ {2}(-\S.*?)(?: {2}|$)", shown, re.M)
+        listed = {it.split()[0] for head in heads for it in head.split(", ") if it.startswith("-")} or {"-D", "--native-file", "--help"}
+        got = set(re.search(rf'^    {command}\) words="(.*)" ;;$', text, re.M)[1].split())
+        check(f"completion: {command}: the options of its help", got == listed, got ^ listed)
     done = run([f"{CHECKOUT}/tools/completion", "true", "bash", "x"])
     check("completion: a command without help", (done.returncode, done.stdout) == (1, "") and "shows no commands" in done.stderr, f"{done}")
     for shell, path in zip(("bash", "zsh", "fish"), COMPLETIONS):
@@ -692,6 +712,9 @@ def test_self_install_that_fails() -> None:
     refuses("a folder that can't be replaced", [MESON, "self-install", "prefix"], 1, "prefix/lib/hawkottoman was not installed",
             env={**with_tools(), "PATH": f"{WORK}/fails:{with_tools()['PATH']}"})
     check("meson self-install: a folder that can't be replaced: the older version stays", whole == files_of("prefix"))
+    os.rename(f"{WORK}/prefix/lib/hawkottoman", f"{WORK}/prefix/lib/hawkottoman.old")
+    run([MESON, "self-install", "prefix"], {**with_tools(), "PATH": f"{WORK}/fails:{with_tools()['PATH']}"})
+    check("meson self-install: after one that was killed: the older version is there again", whole == files_of("prefix"))
     with open("/dev/full", "w") as full:
         refuses("a full output", [MESON, "self-install", "prefix"], 1, "the standard output can't be written", env=with_tools(),
                 stdout=full)
@@ -709,7 +732,7 @@ def test_self_install_that_fails() -> None:
     refuses("a file in the place of a folder", [MESON, "self-install", "other"], 1,
             "hawkottoman-meson.1 was not installed: Not a directory", env=with_tools())
     shutil.rmtree(f"{WORK}/other")
-    refuses("no words", ["meson", "self-install"], 4, "takes one word")
+    refuses("no words", ["meson", "self-install"], 4, "takes one argument")
     refuses("a word of another kind", ["meson", "self-install", "--prefix=/usr"], 4, "is no folder PREFIX")
 
 

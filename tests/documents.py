@@ -1,10 +1,12 @@
 """Whether the documents are plain English: no sentence is too long, and house words are rare; whether their links lead somewhere.
-tests/scripts runs this too; `python3 -B tests/documents.py` alone prints the counts."""
+The same of the help texts and the messages of the commands, which have no house words. tests/scripts runs this too;
+`python3 -B tests/documents.py` alone prints the counts."""
+import ast
 import glob
 import os
 import re
 
-from workshop import CHECKOUT, check
+from workshop import CHECKOUT, check, run
 
 # A sentence has at most so many words.
 LONGEST = 30
@@ -95,7 +97,43 @@ def test_documents() -> None:
     check("documents: README.md is short", lines <= README_LINES, lines)
 
 
-TESTS = [test_counting, test_documents]
+COMMANDS = ("configure", "explain", "compile", "test", "install", "introspect", "machine-file", "port", "self-install")
+# What the program says, which a script looks for.
+OF_PROGRAM = (" stands for nothing", "stands twice")
+
+
+def test_helps() -> None:
+    """The help of each command begins with a sentence whose verb comes first, as "Builds a folder."."""
+    for command in COMMANDS:
+        text = run(["meson", command, "--help"]).stdout
+        usage, first, *rest = text.partition("\npositional arguments:\n")[0].partition("\noptions:\n")[0].split("\n\n")
+        is_sentence = re.fullmatch(r"[A-Z][a-z]+s [^.]*[.:]", " ".join(first.split()))
+        check(f"meson {command} --help: begins with a sentence", usage.lower().startswith("usage: ") and is_sentence, first)
+        found = long_sentences("\n\n".join([first, *rest]))
+        check(f"meson {command} --help: no sentence over {LONGEST} words", not found, "\n".join(found))
+        often = {word for word, count in house_words(text).items() if count}
+        check(f"meson {command} --help: no house words", not often, often)
+
+
+def messages(path: str) -> list[str]:
+    """The texts in a script that have a blank, without those that document it."""
+    with open(path, encoding="utf-8") as it:
+        nodes = list(ast.walk(ast.parse(it.read())))
+    bodies = [it.body for it in nodes if isinstance(it, (ast.Module, ast.ClassDef, ast.FunctionDef)) and it.body]
+    documenting = {it[0].value for it in bodies if isinstance(it[0], ast.Expr)}
+    texts = [it for it in nodes if isinstance(it, ast.Constant) and isinstance(it.value, str) and it not in documenting]
+    return [it.value for it in texts if " " in it.value and it.value not in OF_PROGRAM]
+
+
+def test_messages() -> None:
+    tools = os.path.join(CHECKOUT, "tools")
+    scripts = [*sorted(glob.glob(f"{tools}/**/*.py", recursive=True)), *(f"{tools}/{it}" for it in ("explain", "machine-file", "port"))]
+    found = [f"{os.path.relpath(path, CHECKOUT)}: {text}" for path in scripts for text in messages(path)
+             if any(house_words(text.replace("`", "")).values())]
+    check("the messages of the scripts: no house words", not found, "\n".join(found))
+
+
+TESTS = [test_counting, test_documents, test_helps, test_messages]
 
 
 if __name__ == "__main__":

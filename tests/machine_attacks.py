@@ -63,11 +63,11 @@ cc.has_link_argument('-Wl,-rpath,/opt/lib')
 cc.has_argument('/utf-8')
 cc.has_argument('-fdebug-prefix-map=/a=b')""")
     count = 2 * (len(words) + 1) + 5
-    left = re.findall(r"^# TO FILL IN: .* is not asked: .* is not among the words", done.stdout, re.M)
+    left = re.findall(r"^# TO FILL IN: .* is not asked: .* is not among the arguments", done.stdout, re.M)
     is_told = len(left) == count == len(done.stderr.splitlines())
     check("meson machine-file: words that write are not asked", done.returncode == 0 and is_told, f"{count} {done}")
-    wanted = (f"meson machine-file: meson.build:4: has_argument -o{place}: is not asked: '-o{place}' is not among the words that a "
-              f"compiler may be given for a project; where it is so, add below [checks]: has_argument -o{place} = true")
+    wanted = (f"meson machine-file: meson.build:4: has_argument -o{place}: is not asked: '-o{place}' is not among the arguments that "
+              f"a compiler may get for a project; if this machine has it, add below [checks]: has_argument -o{place} = true")
     check("meson machine-file: words that write: the line to add is told", done.stderr.splitlines()[0] == wanted, done.stderr)
     check("meson machine-file: words that write: nothing is written", not files_below("outside"), files_below("outside"))
     check("meson machine-file: words that read are asked", "has_link_argument -Wl,-rpath,/opt/lib = true\n" in done.stdout and
@@ -81,7 +81,7 @@ def test_what_a_project_gives() -> None:
     for option, word in (("c_args", "-wrapper"), ("c_args", f"-fplugin={tool}"), ("c_link_args", f"-Wl,-Map={WORK}/outside/it"),
                          ("c_link_args", "@words")):
         put("m/meson.build", f"project('p', 'c', default_options: ['{option}={word} {tool}'])\n")
-        wanted = (f"{option} of the project: '{word}' is not among the words that a compiler may be given for a project; "
+        wanted = (f"{option} of the project: '{word}' is not among the arguments that a compiler may get for a project; "
                   f"-D{option}=.. gives others")
         refuses(f"{option} of the project: {word.partition('=')[0]}", MACHINE_FILE, 1, wanted)
         done = run([*MACHINE_FILE, f"-D{option}=-O1"])
@@ -147,7 +147,7 @@ def test_headers_of_the_project() -> None:
     process = subprocess.Popen(words_of(MACHINE_FILE), cwd=WORK, env=environment({"TMPDIR": f"{WORK}/scratch"}), stdin=subprocess.DEVNULL,
                                stdout=subprocess.PIPE, stderr=subprocess.PIPE, text=True)
     printed, errors = process.communicate(timeout=400)
-    is_told = "has_type int: cc says more than 16,777,216 bytes" in errors and "has_type char = true\n" in printed
+    is_told = "has_type int: cc prints more than 16,777,216 bytes" in errors and "has_type char = true\n" in printed
     check("meson machine-file: a header that includes itself for ever", process.returncode == 0 and is_told, f"{errors[:400]} {printed}")
     check("meson machine-file: which leaves nothing", os.listdir(f"{WORK}/scratch") == [], os.listdir(f"{WORK}/scratch"))
     put("m/meson.build", "project('p', 'c')\nmeson.get_compiler('c').has_type('int', prefix: '#include \"/dev/stdin\"')\n")
@@ -158,16 +158,21 @@ def test_headers_of_the_project() -> None:
     check("meson machine-file: the standard input as a header", "has_type int = true\n" in done.stdout, f"{done}")
 
 
-def test_interrupted_checks() -> None:
-    """A compiler that hangs is ended with machine-file, at once, and no folder is left."""
+def begun() -> tuple[subprocess.Popen[str], list[int]]:
+    """A machine-file whose compiler hangs, and the compiler's number."""
     fresh("s", "scratch")
     # It can write nowhere but in the folder of its check.
     hangs = put("hangs", "#!/bin/sh\ncase $* in *-Wslow*) echo $$ >$TMPDIR/pid; exec sleep 300 ;; esac\nexec cc \"$@\"\n", 0o755)
     put("m/meson.build", "project('p', 'c')\nmeson.get_compiler('c').has_argument('-Wslow')\n")
     env = environment({"CC": hangs, "TMPDIR": f"{WORK}/scratch"})
     process = subprocess.Popen(words_of(MACHINE_FILE), cwd=WORK, env=env, stdout=subprocess.PIPE, stderr=subprocess.PIPE, text=True)
-    wait_until(lambda: glob.glob(f"{WORK}/scratch/*/*/pid"))
-    pids = wait_for_pids(glob.glob(f"{WORK}/scratch/*/*/pid"))
+    wait_until(lambda: glob.glob(f"{WORK}/scratch/*/*/pid"), 200)
+    return process, wait_for_pids(glob.glob(f"{WORK}/scratch/*/*/pid"))
+
+
+def test_interrupted_checks() -> None:
+    """A compiler that hangs is ended with machine-file, at once, and no folder is left."""
+    process, pids = begun()
     process.send_signal(signal.SIGTERM)
     process.send_signal(signal.SIGHUP)
     printed, errors = process.communicate(timeout=200)
@@ -175,6 +180,10 @@ def test_interrupted_checks() -> None:
     check("meson machine-file: interrupted", is_told, f"{process.returncode} {errors}")
     check("meson machine-file: interrupted: ends the compiler", len(pids) == 1 and not is_running(pids[0]), pids)
     check("meson machine-file: interrupted: leaves nothing", os.listdir(f"{WORK}/scratch") == [], os.listdir(f"{WORK}/scratch"))
+    process, pids = begun()
+    process.kill()
+    process.communicate(timeout=200)
+    check("meson machine-file: killed: ends the compiler", len(pids) == 1 and not is_running(pids[0]), pids)
 
 
 TESTS = (test_broken_compilers, test_what_checks_may_do, test_what_a_project_gives, test_sizes, test_streams, test_odd_names,

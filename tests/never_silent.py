@@ -229,7 +229,7 @@ def test_beside() -> None:
     shutil.rmtree(f"{SOURCES}/b")
     os.makedirs(f"{SOURCES}/b/meson-private/words")
     done = meson("setup", "b", cwd=SOURCES)
-    check("meson setup: a folder in the place of the words", done.returncode == 2 and "can't have the words" in done.stderr, f"{done}")
+    check("meson setup: a folder in the place of the words", done.returncode == 2 and "can't have the arguments" in done.stderr, f"{done}")
     shutil.rmtree(f"{SOURCES}/b")
 
 
@@ -331,6 +331,16 @@ def test_own_faults() -> None:
     fresh()
 
 
+def test_dear_sources() -> None:
+    """Sources that make an explanation dear: it is given up, and `setup` ends all the same."""
+    lines = ["import sys, tools.explaining.brief as it, tools.commands.advise as advise, tools.limit", "def endless(*words):",
+             "    while True: pass", "it.brief, tools.limit.SECONDS, sys.argv = endless, 0.2, ['advise', 'program', '1', 'b']",
+             "advise.main()"]
+    done = run([sys.executable, "-B", "-c", "\n".join(lines)], {"PYTHONPATH": f"{CHECKOUT}:{CHECKOUT}/tools"})
+    wanted = "meson: it takes too long to say here what the fault is about\nmeson: more: meson explain b\n"
+    check("meson setup: an explanation that is dear", (done.returncode, done.stderr) == (0, wanted), f"{done}")
+
+
 def test_device_faults() -> None:
     """After status 2: which file it is, and the system's reason, in one line."""
     fresh("executable('p', 'a.c')\n")
@@ -358,6 +368,8 @@ def test_device_faults() -> None:
 def test_bad_words() -> None:
     """After status 4: what is right in the place of words of the real Meson."""
     fresh()
+    put("instead", "echo device fault >&2; exit 2")
+    says("a machine file that is a folder", ["device fault", "meson: .: the machine file: Is a directory"], "--native-file", ".", status=2)
     put("instead", "echo 'error: bad' >&2; exit 4")
     for words, said in {
             "--reconfigure": "a second setup of a folder configures it again: leave --reconfigure out",
@@ -372,6 +384,8 @@ def test_bad_words() -> None:
         done = meson("setup", folder, cwd=SOURCES)
         wanted = "error: bad\nmeson: run setup in the folder of the sources, and name a folder below it: `meson setup build`\n"
         check(f"meson setup: {folder} gets a tip", done.stderr == wanted, f"{done}")
+    one = "setup takes one folder, that of the build: run it in the folder of the sources, as `meson setup build`"
+    says("two folders", ["error: bad", f"meson: {one}"], "a", status=4)
     os.remove(f"{WORK}/instead")
 
 
@@ -382,7 +396,7 @@ def test_streams_of_setup() -> None:
     done = run(["sh", "-c", 'echo "[checks]" | "$0" setup --native-file /dev/stdin b', MESON], cwd=SOURCES)
     check("meson setup: a machine file that is a pipe", done.returncode == 0 and done.stderr == "", f"{done}")
     taken("configured")
-    told = "b: its machine file was /dev/stdin, which can't be read again: run `meson setup` once more, with a file"
+    told = "b: its machine file was /dev/stdin, which can't be read again: run `meson setup` again, with a file"
     for command, words, status in (("compile", ["-C", "b"], 1), ("test", ["-C", "b"], 125), ("install", ["-C", "b"], 1),
                                    ("introspect", ["b"], 1)):
         done = meson(command, *words, cwd=SOURCES, stdin=subprocess.DEVNULL)
@@ -448,6 +462,14 @@ def test_configure() -> None:
     wanted = [["prefix", "/usr", "/usr/local", "command", "line", "where", "files", "are", "installed"],
               ["mode", "b", "a", "a", "b", "command", "line", "Which", "way"]]
     check("meson configure: a table of all options", done.returncode == 0 and rows[1:3] == wanted, f"{done}")
+    kept = read("silent/meson.options")
+    for name, text, dropped in (("a file that can't be read", "option(", False), ("no such option any more", "", True)):
+        put("silent/meson.options", text)
+        done = meson("configure", "silent/b", "--prefix", "/opt")
+        is_told = done.stderr == "meson configure: note: -Dmode=b of an earlier setup is left out: there is no such option now\n" * dropped
+        is_good = done.returncode == 0 and ("-Dmode=b" in done.stdout) != dropped and is_told
+        check(f"meson configure: options of an earlier setup: {name}", is_good, f"{done}")
+    put("silent/meson.options", kept)
     put("silent/n.ini", "[project options]\nmode = 'b'\n")
     done = meson("configure", "c", "--native-file", "n.ini", cwd=SOURCES)
     is_mine = done.stdout == "program setup --native-file n.ini -- c\n" and not os.path.exists(f"{SOURCES}/c/meson-private/machine.ini")
@@ -494,6 +516,7 @@ def test_words_of_meson() -> None:
 def test_refreshed() -> None:
     """`configure` asks the machine again, keeps what was filled in by hand, and changes no compiler and no flags unasked."""
     fresh()
+    put("silent/meson.options", "option('x', type: 'string')\n")
     path = "silent/b/meson-private/machine.ini"
     put("asked", ASKED % ("binaries", '"tool-x"', "null", 3) + "\n")
     put("questions", f"cat {WORK}/asked\n{NOTHING_ASKED}")
@@ -532,7 +555,7 @@ def test_moved_words() -> None:
     put("silent/b/meson-private/words", "words-1\0\n.\0\n--native-file\0\nevil.ini\0\nb\0\n")
     put("silent/evil.ini", "")
     for words in (["compile", "-C", "b"], ["configure", "b", "-Dx=1"]):
-        refuses("words with a relative folder", [MESON, *words], 1, "doesn't have the words of a `meson setup`", env=with_tools(),
+        refuses("words with a relative folder", [MESON, *words], 1, "doesn't have the arguments of a `meson setup`", env=with_tools(),
                 cwd=SOURCES)
 
 
@@ -548,6 +571,10 @@ def test_configure_that_refuses() -> None:
             ("the present folder", [], 4, "name a folder below it"),
             ("a bad word", ["b", "--such"], 4, "--such")):
         refuses(name, [MESON, "configure", *words], status, text, env=with_tools(), cwd=SOURCES)
+    put("silent/old/meson-info/introspect.json", "{}")
+    refuses("a folder whose arguments are not saved", [MESON, "configure", "old", "-Dx=1"], 1, "old: has no arguments of a `meson setup`",
+            env=with_tools(), cwd=SOURCES)
+    shutil.rmtree(f"{SOURCES}/old")
     refuses("no sources", [MESON, "configure", "x"], 1, "there is no meson.build here; did you mean to run from ..?", env=with_tools(),
             cwd=f"{SOURCES}/b")
     check("meson configure: writes nothing where it refuses", sorted(os.listdir(SOURCES)) == made, os.listdir(SOURCES))
@@ -585,5 +612,5 @@ def test_summary() -> None:
 
 TESTS = (test_open_questions, test_check_of_machine_file, test_notes, test_configured_again, test_archives, test_another_meson,
          test_beside, test_benchmarks, test_serial, test_told_places, test_compile_commands, test_long_commands, test_own_faults,
-         test_device_faults, test_bad_words, test_streams_of_setup, test_names_of_its_own, test_configure_that_is_ended, test_configure,
-         test_words_of_meson, test_refreshed, test_moved_words, test_configure_that_refuses, test_summary)
+         test_dear_sources, test_device_faults, test_bad_words, test_streams_of_setup, test_names_of_its_own, test_configure_that_is_ended,
+         test_configure, test_words_of_meson, test_refreshed, test_moved_words, test_configure_that_refuses, test_summary)

@@ -14,6 +14,7 @@ import subprocess
 import sys
 import tempfile
 import time
+from collections.abc import Callable
 
 from attacks import files_below, fresh, is_running, link
 from workshop import CHECKOUT, WORK, check, configured, environment, put, read, run, shell, wait_until
@@ -150,53 +151,69 @@ def test_what_a_file_is() -> None:
 
 def two_files() -> dict[str, tuple[bytes | None, bytes]]:
     fresh("p", "outside")
-    put("p/a", "old a")
-    put("p/sub/b", "old b")
-    return {"a": (b"old a", b"new a"), "sub/b": (b"old b", b"new b"), "c": (None, b"new c")}
+    put("p/meson.build", "old a")
+    put("p/sub/meson.build", "old b")
+    return {"meson.build": (b"old a", b"new a"), "sub/meson.build": (b"old b", b"new b"), "new/c.pc.in": (None, b"new c")}
 
 
 def state() -> tuple[str, ...]:
-    return tuple(read(f"p/{it}") if os.path.exists(f"{WORK}/p/{it}") else "" for it in ("a", "sub/b", "c"))
+    paths = ("meson.build", "sub/meson.build", "new/c.pc.in")
+    return tuple(read(f"p/{it}") if os.path.exists(f"{WORK}/p/{it}") else "" for it in paths)
 
 
 OLD_STATE, NEW_STATE = ("old a", "old b", ""), ("new a", "new b", "new c")
 
 
-def test_interruptions() -> None:
-    """Whichever call of the system is the last one: the next run has all of the new files, or all of the old ones."""
-    names = ("open", "mkdir", "rename", "replace", "unlink", "rmdir", "fsync", "fchmod")
-    for number in range(200):
-        texts, calls = two_files(), 0
-        kept = {name: getattr(os, name) for name in names}
+def is_killed(action: Callable[[journal.Journal], object], step: int) -> bool:
+    """Whether a process that does this was ended by SIGKILL before a step: one of the calls of the system that change files."""
+    child = os.fork()
+    if child == 0:
+        left = step
 
-        class Killed(BaseException):
-            pass
-
-        def last(name: str):
-            def call(*words: object, **how: object) -> object:
-                nonlocal calls
-                calls += 1
-                if calls > number:
-                    raise Killed  # and every call after it: nothing is cleaned up
-                return kept[name](*words, **how)
-            return call
+        def before_call(event: str, given: tuple[object, ...]) -> None:
+            nonlocal left
+            left -= event == "open" or event.startswith("os.")
+            if left < 0:
+                os.kill(os.getpid(), signal.SIGKILL)
         try:
-            for name in names:
-                setattr(os, name, last(name))
-            journal.Journal(f"{WORK}/p").put(texts)
-            is_done = True
-        except Killed:
-            is_done = False
+            sys.addaudithook(before_call)
+            action(journal.Journal(f"{WORK}/p"))
         finally:
-            for name in names:
-                setattr(os, name, kept[name])
-        journal.Journal(f"{WORK}/p").recover()
-        is_whole = state() == NEW_STATE if is_done else state() in (OLD_STATE, NEW_STATE)
-        if not is_whole or os.path.lexists(f"{WORK}/p/.meson-port"):
-            check(f"meson port: killed at call {number}", False, f"{state()} {os.listdir(f'{WORK}/p')}")
-        if is_done:
+            os._exit(0)
+    return os.WIFSIGNALED(os.waitpid(child, 0)[1])
+
+
+def test_kills() -> None:
+    """SIGKILL between any two steps, in the runs that finish it too: the next run has all of the new files, or all of the old ones."""
+    seen, bad, kept = set(), [], os.fsync
+    os.fsync = lambda number: None  # a killed process leaves the same with and without it
+    for step in range(1000):
+        texts = two_files()
+        if not is_killed(lambda it: it.put(texts), step):
             break
-    check("meson port: killed at any call: all is new or all is old", is_done and number > 10, number)
+        is_killed(lambda it: it.recover(), step % 13)
+        journal.Journal(f"{WORK}/p").recover()
+        seen.add(state())
+        if state() not in (OLD_STATE, NEW_STATE) or sorted(os.listdir(f"{WORK}/p"))[0].startswith("."):
+            bad.append((step, state(), os.listdir(f"{WORK}/p")))
+    check("meson port: killed between any two steps: all is new or all is old", not bad and step > 20, f"{step} {bad[:3]}")
+    check("meson port: killed between any two steps: both were seen", seen == {OLD_STATE, NEW_STATE}, seen)
+    check("meson port: a run that isn't killed", state() == NEW_STATE, state())
+    texts = {"meson.build": (OLD.encode(), NEW.encode())}
+    is_there = lambda: os.path.exists(f"{WORK}/p/.meson-port/journal.json")
+    for step in range(1000):
+        project()
+        if not is_killed(lambda it: it.put(texts), step) or is_there():
+            break
+    os.fsync = kept
+    done = port()
+    is_good = done.stdout.startswith("an interrupted run is finished: its changes are made\n") and read("p/meson.build") == NEW
+    check("meson port: the next command finishes what was killed", is_good and not is_there(), f"{step} {done}")
+    project()
+    os.mkdir(f"{WORK}/p/.meson-port")
+    done = port("--dry-run")
+    is_good = done.stdout.startswith("--- a/meson.build\n") and "an interrupted run has left .meson-port, which is removed" in done.stderr
+    check("meson port --dry-run: prints the patch alone after an interrupted run", is_good, f"{done}")
 
 
 def test_full_disk() -> None:
@@ -217,7 +234,7 @@ def test_full_disk() -> None:
 
 
 def test_journals_of_strangers() -> None:
-    """A project may bring a journal: it moves nothing out of its folder or into it."""
+    """A project may bring a journal: it moves nothing out of its folder or into it, and makes nothing that `port` doesn't make."""
     for name, place in (("climbs", "../outside/it"), ("is absolute", f"{WORK}/outside/it"), ("is a link", "way/it"), ("is the root", ".")):
         project()
         link("../outside", "p/way")
@@ -225,6 +242,14 @@ def test_journals_of_strangers() -> None:
         put("p/.meson-port/journal.json", json.dumps([[place, "0", ""]]))
         refused(f"a journal whose place {name}", "journal.json: is no journal of `meson port`", "--dry-run")
         check(f"meson port: a journal whose place {name}: moves nothing", not files_below("outside"), files_below("outside"))
+    for place in (".git/hooks/pre-commit", ".git/config", "_darcs/prefs/defaults", "run.sh", ".meson.build", "meson.build/x"):
+        project()
+        put("p/.git/config", "old")
+        put("p/.meson-port/0", "#!/bin/sh\n", 0o755)
+        put("p/.meson-port/journal.json", json.dumps([[place, "0", journal.digest(b"old") if place.endswith("config") else ""]]))
+        refused(f"a journal that makes {place}", "journal.json: is no journal of `meson port`", "--dry-run")
+        is_same = not os.path.exists(f"{WORK}/p/{place}") or read(f"p/{place}") == "old"
+        check(f"meson port: a journal that makes {place}: makes nothing", is_same)
     for name, text in (("no JSON", "["), ("other JSON", "{}"), ("deep", "[" * 50000),
                        ("a path that waits", '[["a", "../meson.build", ""]]')):
         project()
@@ -319,6 +344,20 @@ def test_trial() -> None:
         carried_out_all_the_same(words)
         is_stopped = not files_below("outside") or not HAS_LANDLOCK
         check(f"meson port: a trial with {words}: the sandbox alone stops it", is_stopped, files_below("outside"))
+
+
+def test_modules() -> None:
+    """A PYTHONPATH with an empty part names the present folder: no module of the project is imported."""
+    project(NEW)
+    for name in ("tempfile", "signal", "re", "json"):
+        put(f"p/{name}.py", f"open({WORK + '/outside/ran'!r}, 'w')\n")
+    put("bin/meson", f"#!{sys.executable}\nimport json\nprint('1.0.0')\n", 0o755)
+    put("p/meson.build", OLD)
+    words = [sys.executable, "-I", "-S", PORT[0], "--dry-run", "--no-build", "--program", program_that_sets_up(), "."]
+    done = run(words, {"PYTHONPATH": ":", "PATH": f"{WORK}/bin:{os.environ['PATH']}"}, cwd=f"{WORK}/p")
+    is_good = done.returncode == 0 and "meson setup takes the result\nthe real Meson was not asked" in done.stderr
+    check("meson port: modules of the project are not imported", is_good and not files_below("outside"), f"{done} {files_below('outside')}")
+    shutil.rmtree(f"{WORK}/bin")
 
 
 def test_doubts() -> None:
@@ -447,7 +486,7 @@ def test_costs() -> None:
         used = os.times().children_user - begun
         check(f"meson port: {name}: ends", done.returncode == 0 and "Traceback" not in done.stderr, f"{used} s {done.stderr}")
     project(f"{OLD}x = {' + '.join(['1'] * 5000)}\n")
-    refused("a chain of 5,000", "meson.build:3: expressions stand too deep in one another")
+    refused("a chain of 5,000", "meson.build:3: expressions are nested too deeply")
     project(f"{OLD}import('fs').name()\nx = import('fs').name('a/b')\n")
     done = port()
     check("meson port: fs.name without arguments", "rule" not in done.stdout and "x = 'b'" in read("p/meson.build"), f"{done}")
@@ -616,6 +655,6 @@ def test_what_a_trial_says() -> None:
 
 
 TESTS = (test_rules_by_name, test_real_meson, test_places, test_folders_outside, test_bytes_that_stay, test_what_a_file_is,
-         test_interruptions, test_full_disk, test_journals_of_strangers, test_trial, test_doubts, test_what_a_trial_says,
+         test_kills, test_full_disk, test_journals_of_strangers, test_trial, test_modules, test_doubts, test_what_a_trial_says,
          test_lines_that_are_forged, test_streams, test_signals, test_signal_in_a_trial, test_early_signals, test_costs, test_growth,
          test_odd_files, test_installed, test_budget)

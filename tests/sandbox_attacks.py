@@ -166,7 +166,7 @@ def test_packages() -> None:
                     "cc.has_link_argument('-o')", env)
     put("m/meson.build", "project('p', 'c')\ndependency('evil')\n")
     done = run(["meson", "machine-file", "m"], env)
-    is_told = ("dependency evil: pkg-config names words for it, of which '-wrapper' is not among the words" in done.stderr and
+    is_told = ("dependency evil: pkg-config names arguments for it, and '-wrapper' is not among the arguments" in done.stderr and
                "[dependency evil]" not in done.stdout)
     is_skipped = not shutil.which("pkg-config")
     check(f"the words of a package pass the table{': skipped, without pkg-config' * is_skipped}", is_told or is_skipped, f"{done}")
@@ -256,8 +256,8 @@ def test_what_weakens_the_sandbox() -> None:
 def test_without_landlock() -> None:
     put("m/meson.build", "project('p', 'c')\nmeson.get_compiler('c').has_type('int')\n")
     done = run(["meson", "machine-file", "m"], preexec_fn=forget_landlock)
-    is_said = done.stderr == ("meson machine-file: this system has no Landlock, so compilers run without a sandbox; the words that they "
-                              "are given are bounded all the same\n")
+    is_said = done.stderr == ("meson machine-file: this system has no Landlock, so compilers run without a sandbox; their arguments "
+                              "are checked all the same\n")
     check("without Landlock: it is said once, and asked all the same", is_said and "has_type int = true\n" in done.stdout, f"{done}")
     done = run(["meson", "machine-file", "--require-sandbox", "m"], preexec_fn=forget_landlock)
     is_refused = (done.returncode, done.stdout, done.stderr.count("\n")) == (1, "", 1) and "--require-sandbox: this system" in done.stderr

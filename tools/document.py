@@ -85,7 +85,7 @@ def read_document(folder: str) -> Document:
     document = Document(project, targets, tests, installed, content["buildsystem_files"])
     for text in texts_of(document):
         if NO_NAME.search(text):
-            raise Stop(f"{path}: has a text that is no name and no word of a command: {text!r}")
+            raise Stop(f"{path}: has a text that can be neither a name nor an argument: {text!r}")
     return document
 
 

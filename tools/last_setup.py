@@ -81,14 +81,14 @@ def read_setup(folder: str) -> Setup:
         fields = read_text(path).split("\0\n")
     except FileNotFoundError as error:
         is_configured = os.path.exists(os.path.join(folder, "meson-info"))
-        why = "has no words of a `meson setup`: run that once more" if is_configured else "is no configured folder: `meson setup` makes one"
+        why = "has no arguments of a `meson setup`: run that again" if is_configured else "is no configured folder: `meson setup` makes one"
         raise Stop(f"{folder}: {why} ({path}: {error.strerror})") from error
     except OSError as error:
         raise Stop(f"{path}: {error.strerror}") from error
     has_form = len(fields) > 3 and fields[0] in FORMS and fields[-1] == "" and not any(map(NO_NAME.search, fields))
     # The command writes a whole path; any other came with the sources.
     if not has_form or not os.path.isabs(fields[1]):
-        raise Stop(f"{path}: doesn't have the words of a `meson setup`: run that once more")
+        raise Stop(f"{path}: doesn't have the arguments of a `meson setup`: run that again")
     setup = Setup(fields[1], fields[2:-1])
     check_place(folder, setup)
     return setup
@@ -102,7 +102,7 @@ def check_place(folder: str, setup: Setup) -> None:
     except (OSError, ValueError):
         is_same = False
     if not is_same:
-        raise Stop(f"{folder}: was configured as {configured}: run `meson setup` once more where it is now")
+        raise Stop(f"{folder}: was configured as {configured}: run `meson setup` again where it is now")
 
 
 def configure_again(folder: str, otherwise: str, failed: int | None = None, shows_log: bool = True) -> None:
@@ -110,7 +110,7 @@ def configure_again(folder: str, otherwise: str, failed: int | None = None, show
     setup = read_setup(folder)
     machine = machine_path(setup.words)
     if machine is not None and is_pipe(os.path.join(setup.sources, machine)):
-        raise Stop(f"{folder}: its machine file was {machine}, which can't be read again: run `meson setup` once more, with a file", failed)
+        raise Stop(f"{folder}: its machine file was {machine}, which can't be read again: run `meson setup` again, with a file", failed)
     words, how = [MESON, ":again", folder], {}
     if "\n" in "".join([setup.sources, *setup.words]):
         words, how = [MESON, "setup", *setup.words], {"cwd": setup.sources}

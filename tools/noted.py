@@ -8,7 +8,7 @@ from porting import tree
 from porting.lexer import Lines, SyntaxFault
 from porting.parser import parse
 from tools.document import read_content
-from tools.files import read_text
+from tools.files import DEFINITION, read_text
 
 SERIAL = "serial"
 
@@ -25,7 +25,7 @@ def notes(folder: str) -> list[str]:
 
 
 def of_file(path: str, folder: str, known: set[str]) -> Iterator[str]:
-    text = read_text(path)
+    text = read_text(path, DEFINITION)
     try:
         statements = parse(text)
     except SyntaxFault:
@@ -40,17 +40,24 @@ def of_file(path: str, folder: str, known: set[str]) -> Iterator[str]:
 def of_call(call: tree.Call, here: str, folder: str, known: set[str]) -> Iterator[tuple[int, str]]:
     if call.receiver is not None:
         return
+    for it in include_folders(call):
+        if not any(os.path.isdir(os.path.join(root, here, it.value)) for root in (".", folder)):
+            yield it.start, f"the include folder {it.value!r} is not there"
     if call.name == "test":
         yield from of_test(call)
-    elif call.name == "include_directories":
-        for it in call.arguments:
-            if isinstance(it, tree.Text) and not any(os.path.isdir(os.path.join(root, here, it.value)) for root in (".", folder)):
-                yield it.start, f"the include folder {it.value!r} is not there"
     elif call.name == "project" and "default_options" in call.keywords:
         for it in tree.inside(call.keywords["default_options"].value):
             name = it.value.partition("=")[0].strip() if isinstance(it, tree.Text) and "=" in it.value else None
             if name and name not in known:
                 yield it.start, f"default_options: there is no option {name!r}, so it has no effect"
+
+
+def include_folders(call: tree.Call) -> list[tree.Text]:
+    """Returns the texts of a call that name include folders: its arguments, or the items of its keyword."""
+    keyword = call.keywords.get("include_directories")
+    value = tree.plain(keyword.value) if keyword is not None else None
+    items = call.arguments if call.name == "include_directories" else value.items if isinstance(value, tree.List) else [value]
+    return [it for it in items if isinstance(it, tree.Text)]
 
 
 def of_test(call: tree.Call) -> Iterator[tuple[int, str]]:
@@ -63,5 +70,4 @@ def of_test(call: tree.Call) -> Iterator[tuple[int, str]]:
     if "workdir" in words:
         yield words["workdir"].start, "`workdir:` has no effect: tests run in the build folder; `meson port` writes `env -C`"
     if "depends" in words:
-        yield words["depends"].start, ("`depends:` has no effect: before tests is built what is built by default, and what their commands "
-                                       "name")
+        yield words["depends"].start, "`depends:` has no effect: before tests the default targets are built, and what their commands name"

@@ -10,7 +10,7 @@ from porting.parser import parse
 from tools.asking.compare import read_sections
 from tools.document import read_content
 from tools.ending import CALLED, one_line, show
-from tools.files import read_text
+from tools.files import DEFINITION, read_text
 from tools.last_setup import Setup, machine_path, read_setup, settings_of
 
 TYPE_CHECKING = False
@@ -22,14 +22,14 @@ BUILT_IN = {
     "prefix": ("/usr/local", "", "where files are installed"), "bindir": ("bin", "", "programs"), "libdir": ("lib", "", "libraries"),
     "includedir": ("include", "", "headers"), "datadir": ("share", "", "data"), "mandir": ("share/man", "", "manual pages"),
     "sysconfdir": ("etc", "", "configuration"),
-    "buildtype": ("debug", "plain debug debugoptimized release minsize", "what `debug` and `optimization` are, where nothing sets them"),
+    "buildtype": ("debug", "plain debug debugoptimized release minsize", "the default of `debug` and `optimization`"),
     "debug": ("by buildtype", "true false", "debug information"),
     "optimization": ("by buildtype", "plain 0 g 1 2 3 s", "how much is optimized"),
     "warning_level": ("1", "0 1 2 3", "how many warnings"), "werror": ("false", "true false", "warnings are errors"),
     "c_std": ("none", "none c89 c99 c11 c17 gnu89 gnu99 gnu11 gnu17", "the standard of C"),
-    "default_library": ("shared", "shared static", "what `library` builds"), "c_args": ("[]", "", "further words for the compiler"),
-    "c_link_args": ("[]", "", "further words for the linker"),
-    "auto_features": ("auto", "enabled disabled auto", "what `auto` is for every other feature option")}
+    "default_library": ("shared", "shared static", "what `library` builds"), "c_args": ("[]", "", "further arguments of the compiler"),
+    "c_link_args": ("[]", "", "further arguments of the linker"),
+    "auto_features": ("auto", "enabled disabled auto", "what `auto` means for all other feature options")}
 OF_TYPES = {"boolean": "true false", "feature": "enabled disabled auto"}
 TITLES = ("option", "value", "default", "choices", "set by", "description")
 WIDEST = 40
@@ -50,16 +50,16 @@ def source_of(call: tree.Call, name: str, text: str) -> str:
     return value.value if isinstance(value, tree.Text) else text[value.start:value.end].replace("'", "")
 
 
-def declared(sources: str) -> dict[str, tuple[str, str, str]]:
-    """Of each option of the project the default, the choices and the description."""
+def declared(sources: str) -> dict[str, tuple[str, str, str]] | None:
+    """Returns the default, the choices and the description of each option of the project; none if its option file can't be read."""
     for name in ("meson.options", "meson_options.txt"):
         path = os.path.join(sources, name)
         if os.path.isfile(path):
-            text = read_text(path)
+            text = read_text(path, DEFINITION)
             try:
                 calls = declarations(parse(text))
             except (SyntaxFault, RecursionError):
-                return {}
+                return None
             of_call = lambda it: (source_of(it, "value", text), choices_of(it, text), source_of(it, "description", text))
             return {name: of_call(it) for name, it in calls.items()}
     return {}
@@ -95,7 +95,7 @@ def setters(setup: Setup, content: dict[str, Any]) -> dict[str, str]:
 
 def show_options(folder: str) -> None:
     setup, content = read_setup(folder), read_content(folder)
-    known, found = {**BUILT_IN, **declared(setup.sources)}, setters(setup, content)
+    known, found = {**BUILT_IN, **(declared(setup.sources) or {})}, setters(setup, content)
     rows = []
     for option in content["buildoptions"]:
         default, choices, text = known.get(option["name"], ("", OF_TYPES.get(option["type"], ""), ""))

@@ -9,7 +9,7 @@ import re
 from tools import records as dataclasses
 
 TABLES = os.path.join(os.path.dirname(os.path.realpath(__file__)), "allowed.txt")
-DANGER = "%r is not among the words that a compiler may be given for a project"
+DANGER = "%r is not among the arguments that a compiler may get for a project"
 # A package of pkg-config: it would read the file of any other name.
 PACKAGE = re.compile(r"[A-Za-z0-9][A-Za-z0-9+._-]*")
 VALUE = re.compile(r"[\w.,:+!-]*")  # has no slash, so it names nothing outside of the present folder

@@ -46,7 +46,7 @@ def of_pkg_config(compiler: Compiler, name: str) -> Found | None:
     for words in lists:
         refused = compiler.allowed.refused(words)
         if refused is not None:
-            raise NoAnswer(f"pkg-config names words for it, of which {DANGER % refused}")
+            raise NoAnswer(f"pkg-config names arguments for it, and {DANGER % refused}")
     return found(*lists, version.printed.strip())
 
 
@@ -98,6 +98,6 @@ BY_COMPILING: dict[str, Callable[[Compiler], Found | None]] = {
 def dependency(compiler: Compiler, name: str) -> Found | None:
     """The lines of its section, or none where it isn't found."""
     if not is_package(name):
-        raise NoAnswer("is not asked: pkg-config would read the file of this name, or take it for other words")
+        raise NoAnswer("is not asked: pkg-config would read the file of this name, or take it for other arguments")
     by_compiling = BY_COMPILING.get(name)
     return of_pkg_config(compiler, name) or (by_compiling(compiler) if by_compiling else None)

@@ -162,7 +162,7 @@ class Machine:
         key = question.key or ""
         method, arguments = arguments_of(key)
         if method not in METHODS:
-            return "is no check that is known here"
+            return "is a check that this command doesn't know"
         of_arguments = tuple("-l" + it if method == "find_library" else it for it in arguments)
         words = of_arguments if method in OF_WORDS else question.texts("args")
         refused = self.compiler.allowed.refused(words)
@@ -190,7 +190,7 @@ class Machine:
         if came is None or came is False:
             return f"{question.name} is not found; {who_has(self.compiler, question.name)}"
         wanted = ", ".join(question.texts("version"))
-        return f"{question.name} has version {came.get('version', 'unknown')}, and {wanted} is wanted" if isinstance(came, dict) else ""
+        return f"{question.name} has version {came.get('version', 'unknown')}, and {wanted} is required" if isinstance(came, dict) else ""
 
     def remarks(self, questions: list[Question]) -> Iterator[tuple[str, str]]:
         """What is to be said: comments of the machine file, each with what users are told at once, where that is something."""
@@ -199,7 +199,7 @@ class Machine:
             came = self.answers.get(question.label, OWN)
             place, decides = first.setdefault(question.name, (question.place, came))
             if DECLARED in question.texts("dependencies"):
-                text = f"{question.place}: {question.name}: was asked without what a dependency gives that the project declares"
+                text = f"{question.place}: {question.name}: was asked without the arguments of a dependency that the project declares"
                 yield text, text
             if isinstance(came, NoAnswer):
                 yield self.left(question, came.why)
@@ -208,8 +208,8 @@ class Machine:
             elif spelled(came) not in AS_UNSAID and not can_hold(question.section, question.key):
                 yield self.left(question, "no machine file can hold this name")
             elif question.section == "checks" and came != decides and not isinstance(decides, NoAnswer):
-                text = (f"{question.name}: {spelled(decides)} at {place}, and {spelled(came)} at {question.place}, where other words stand "
-                        "beside it: the first decides")
+                text = (f"{question.name}: {spelled(decides)} at {place}, and {spelled(came)} at {question.place}, where the check has "
+                        "other arguments: the first decides")
                 yield text, text
 
     def left(self, question: Question, why: str) -> tuple[str, str]:
@@ -217,6 +217,6 @@ class Machine:
         key = question.key or "link_args"
         answers = {"checks": 8 if question.method in NUMBERS else True, "binaries": "/path"}
         line = f"{key} = {spelled(answers.get(question.section, [f'-l{question.dependency}']))}"
-        way = f"; where it is so, add below [{question.section}]: {line}" if can_hold(question.section, question.key) else ""
+        way = f"; if this machine has it, add below [{question.section}]: {line}" if can_hold(question.section, question.key) else ""
         text = f"{question.place}: {question.name}: {why}"
         return f"TO FILL IN: {text}", text + way

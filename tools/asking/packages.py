@@ -13,7 +13,7 @@ FILES = {"dependency": "/{}.pc", "program": "/bin/{}", "find_library": "/lib{}.s
 # Commands that are asked one after the other, the form of a package's name in what they print, and what is said of it.
 TOOLS = (
     (("apt-file", "--package-only", "search", "--regexp", "{pattern}$"), r"^(\S+)$", "{} of the distribution has it"),
-    (("dpkg", "-S", "*{path}"), r"^([^\s:,]+).*: /", "the package {} has it, at a place where it is not looked for"),
+    (("dpkg", "-S", "*{path}"), r"^([^\s:,]+).*: /", "the package {} has it, in a folder that is not searched"),
     (("apt-cache", "search", "--names-only", "^(lib)?{stem}[0-9.+]*[a-z]?(-[0-9.]+)?-dev$"), r"^(\S+) - ",
      "perhaps {} of the distribution has it"))
 SHOWN = 3  # packages
@@ -30,7 +30,9 @@ def of_file(path: str, stem: str) -> str:
     for words, form, text in TOOLS:
         # By its name a package is guessed for a .pc file alone.
         if shutil.which(words[0]) and (words[0] != "apt-cache" or path.endswith(".pc")):
-            printed = run([it.format(path=path, pattern=re.escape(path), stem=re.escape(stem)) for it in words]).printed
+            asked = [it.format(path=path, pattern=re.escape(path), stem=re.escape(stem)) for it in words]
+            # At the root: scripts among these commands could be told to look in the present folder for modules.
+            printed = run(asked, "/").printed
             names = list(dict.fromkeys(re.findall(form, printed, re.M)))
             if names:
                 others = f" (or {len(names) - SHOWN} more)" if len(names) > SHOWN else ""
@@ -44,4 +46,4 @@ def who_has(compiler: Compiler, name: str) -> str:
     other = lacks(compiler, plain) if kind == "dependency" else ""
     wanted = other or plain
     said = of_file(FILES[kind].format(wanted), wanted.removeprefix("lib").partition("-")[0].rstrip("+")) if kind in FILES else ""
-    return f"its package wants {other}, and {said}" if other else said
+    return f"its package requires {other}, and {said}" if other else said

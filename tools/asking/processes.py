@@ -11,7 +11,7 @@ from collections.abc import Callable, Iterator
 from tools import records as dataclasses
 from tools.ending import Stop
 
-SECONDS, GRACE = 300, 5  # that a command may take, and that it may take to end its own commands
+SECONDS, GRACE = 300, 20  # that a command may take, and that it may take to end its own commands
 # Bytes that a command may print or say, that the program may tell, and that are read at once.
 MOST_BYTES, MOST_TOLD, PIECE = 1 << 24, 1 << 28, 1 << 16
 AT_WORK: set[int] = set()  # the groups of processes of the commands that run
@@ -51,7 +51,7 @@ def run(words: list[str], folder: str | None = None, executable: str | None = No
     try:
         with BEGINS:
             if ENDED.is_set():
-                raise NoAnswer(f"{words[0]} was not begun")
+                raise NoAnswer(f"{words[0]} was not started")
             process = subprocess.Popen(words, cwd=folder, executable=executable, stdin=subprocess.DEVNULL, stdout=to, stderr=to,
                                        start_new_session=True, preexec_fn=enter,
                                        env={**os.environ, "LC_ALL": "C"} if variables is None else variables)
@@ -59,14 +59,14 @@ def run(words: list[str], folder: str | None = None, executable: str | None = No
     except (OSError, ValueError) as error:  # a ValueError where a word has a NUL
         return Done(None, "", f"{executable or words[0]}: {getattr(error, 'strerror', error)}")
     except subprocess.SubprocessError as error:  # `enter` has failed
-        raise Stop(f"{words[0]}: the system refuses to bound what it may do") from error
+        raise Stop(f"{words[0]}: the system refuses to limit what it may do") from error
     try:
         with killed_early(process, is_asked_first):
             printed, said = heard(process, time.monotonic() + seconds, most)
     except subprocess.TimeoutExpired as error:
         raise NoAnswer(f"{words[0]} didn't end within {seconds} seconds") from error
     except TooMuch as error:
-        raise NoAnswer(f"{words[0]} says more than {most:,} bytes") from error
+        raise NoAnswer(f"{words[0]} prints more than {most:,} bytes") from error
     finally:
         AT_WORK.discard(process.pid)
     return Done(process.returncode, printed.decode(errors=errors), said.decode(errors=errors))

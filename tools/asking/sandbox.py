@@ -11,6 +11,7 @@ import ctypes
 import errno
 import os
 import resource
+import signal
 from collections.abc import Callable, Iterator
 
 from tools import records as dataclasses
@@ -18,7 +19,7 @@ from tools.asking.programs import programs_of
 
 # The system calls of Landlock, which have these numbers on every machine but Alpha, and the call and option of `prctl`.
 CREATE_RULESET, ADD_RULE, RESTRICT_SELF = 444, 445, 446
-OF_VERSION, BENEATH, NO_NEW_PRIVILEGES = 1, 1, 38
+OF_VERSION, BENEATH, NO_NEW_PRIVILEGES, SIGNAL_AT_DEATH_OF_PARENT = 1, 1, 38, 1
 EXECUTE, WRITE_FILE, TRUNCATE, IOCTL = 1 << 0, 1 << 1, 1 << 14, 1 << 15
 # Removing files and folders, making every kind of them, and moving them elsewhere.
 CHANGE, REFER = sum(1 << it for it in range(4, 13)), 1 << 13
@@ -28,9 +29,9 @@ RIGHTS = {1: EXECUTE | WRITE_FILE | CHANGE, 2: REFER, 3: TRUNCATE, 5: IOCTL}
 MIB = 1 << 20
 MEMORY, LONGEST_FILE, SECONDS, PROCESSES = 2048 * MIB, 256 * MIB, 120, 512
 # What a sandbox doesn't bound.
-NO_LANDLOCK = "this system has no Landlock, so compilers run without a sandbox; the words that they are given are bounded all the same"
-OTHER_PROGRAMS = "the compiler runs programs that are not known here, so the sandbox doesn't bound which programs run"
-UNBOUNDED = "the compiler doesn't work in a sandbox, so it runs without one; the words that it is given are bounded all the same"
+NO_LANDLOCK = "this system has no Landlock, so compilers run without a sandbox; their arguments are checked all the same"
+OTHER_PROGRAMS = "the compiler runs programs that are not known here, so the sandbox doesn't limit which programs run"
+UNBOUNDED = "the compiler doesn't work in a sandbox, so it runs without one; its arguments are checked all the same"
 # Compiler caches and distributed compilers would want their own folders, sockets and servers.
 VARIABLES = {"CCACHE_DISABLE": "1", "CCACHE_PREFIX": "", "SCCACHE_DISABLE": "1", "DISTCC_HOSTS": "localhost"}
 
@@ -150,7 +151,8 @@ def limits() -> dict[int, int]:
 
 
 def enter(ruleset: int | None, most: dict[int, int]) -> None:
-    """Bounds this process for good."""
+    """Bounds this process for good, and has it ended with the thread that has started it and waits for it."""
+    LIBC.prctl(ctypes.c_int(SIGNAL_AT_DEATH_OF_PARENT), *map(ctypes.c_ulong, (signal.SIGKILL, 0, 0, 0)))
     for kind, number in most.items():
         limit(kind, number)
     if LIBC.prctl(ctypes.c_int(NO_NEW_PRIVILEGES), *map(ctypes.c_ulong, (1, 0, 0, 0))) != 0:

@@ -8,7 +8,8 @@ import os
 import sys
 
 from tools.ending import CALLED, one_line, run_script
-from tools.last_setup import build_folder_of, machine_path
+from tools.last_setup import build_folder_of, cut, machine_path
+from tools.limit import within_limit
 from tools.of_meson import FLAGS, LEFT_OUT, NO_EFFECT, NO_EFFECT_FLAGS, OPTIONS, named_in
 
 DONE, FAULT, DEVICE, BAD_WORDS = 0, 1, 2, 4
@@ -30,7 +31,7 @@ def quoted(words: list[str]) -> str:
 def of_fault(program: str, words: list[str]) -> None:
     """Prints what the fault is about, and which command says more."""
     from tools.explaining.brief import brief
-    for line in brief(program, words):
+    for line in within_limit(lambda: brief(program, words), "it takes too long to say here what the fault is about"):
         tell(line)
     tell(f"more: {CALLED} explain {quoted(words)}")
 
@@ -46,16 +47,33 @@ def in_place_of(path: str) -> str:
     return f"`{CALLED} machine-file > {quoted([path])}` makes one"
 
 
+def is_pipe(path: str) -> bool:
+    """Returns whether a machine file is a pipe or a device, which can't be read twice."""
+    return os.path.exists(path) and not os.path.isfile(path) and not os.path.isdir(path)
+
+
+def why_unread(path: str) -> str:
+    """Returns the system's reason if a machine file can't be read; empty if it can."""
+    from tools.files import open_file
+    try:
+        open_file(path).close()
+    except FileNotFoundError as error:
+        return f"{error.strerror}; {in_place_of(path)}"
+    except OSError as error:
+        return error.strerror or ""
+    return ""
+
+
 def of_device(program: str, words: list[str]) -> None:
     """Prints which file can't be read or written, and the system's reason."""
+    path = machine_path(words)
+    why = why_unread(path) if path is not None else ""
+    if why:
+        tell(f"{path}: the machine file: {why}")
+        return
     from tools.explaining.devices import failed
     from tools.explaining.run import Asked
-    path = machine_path(words)
-    if path is not None and not os.path.exists(path):
-        tell(f"{path}: the machine file: No such file or directory; {in_place_of(path)}")
-        return
-    asked = Asked(program, os.getcwd(), words, None)
-    why = failed(asked)
+    why = failed(Asked(program, os.getcwd(), words, None)) or ""
     if why:
         tell(why)
 
@@ -66,8 +84,11 @@ def tip_of(words: list[str]) -> str:
     folder = build_folder_of(rest) or ""
     tip = instead_of(name, value, quoted([folder or "build"])) if name else ""
     parts = [it for it in folder.split("/") if it not in ("", ".")]
-    if not tip and folder and (not parts or ".." in parts or os.path.isabs(folder)):
+    is_bad = not parts or ".." in parts or os.path.isabs(folder)
+    if not tip and (folder and is_bad or "-C" in rest):
         tip = f"run setup in the folder of the sources, and name a folder below it: `{CALLED} setup build`"
+    elif not tip and sum(name == "" for name, _ in cut(rest)) > 1:
+        tip = f"setup takes one folder, that of the build: run it in the folder of the sources, as `{CALLED} setup build`"
     return tip
 
 
@@ -87,8 +108,8 @@ def instead_of(name: str, value: str, folder: str) -> str:
 def main() -> int:
     program, status, words = sys.argv[1], int(sys.argv[2]), sys.argv[3:]
     path = machine_path(words)
-    if path is not None and os.path.exists(path) and not os.path.isfile(path):
-        return DONE  # a pipe, which can't be read twice
+    if path is not None and is_pipe(path):
+        return DONE
     if status == FAULT:
         of_fault(program, words)
     elif status == DEVICE:

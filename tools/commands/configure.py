@@ -31,6 +31,8 @@ if TYPE_CHECKING:
     from tools.words import Given
 
 FAILED, BAD_WORDS = 1, 4
+# The document of a configured folder.
+DOCUMENT = "meson-info/introspect.json"
 # The command `meson` names the program.
 PROGRAM = os.environ.pop("HAWKOTTOMAN_PROGRAM", "")
 
@@ -66,6 +68,18 @@ def merged(before: list[str], new: list[str]) -> list[str]:
     return [*(it for it in before if name_of(it) not in names), *new]
 
 
+def still_known(sources: str, settings: list[str]) -> list[str]:
+    """Returns the saved settings without those of options that the project has no more, and says which these are."""
+    from tools.option_table import BUILT_IN, declared
+    own = declared(sources) if settings else None
+    if own is None:
+        return settings
+    gone = [it for it in settings if it.partition("=")[0] not in {**BUILT_IN, **own}]
+    for it in gone:
+        say("meson configure", f"note: -D{it} of an earlier setup is left out: there is no such option now")
+    return [it for it in settings if it not in gone]
+
+
 def take_away(sources: str, folder: str) -> None:
     """Removes a folder that was made for a setup that failed."""
     try:
@@ -95,14 +109,16 @@ def check_folder(folder: str) -> None:
 def configure(given: Given) -> int:
     """Sets up the folder with the options that were given, now and before; returns the status."""
     is_known = has_words(given.folder)
-    if is_known:
+    if not is_known:
+        check_folder(given.folder)
+    # A configured folder without the arguments of its setup is refused: else its options would be lost in silence.
+    if is_known or os.path.exists(os.path.join(given.folder, DOCUMENT)):
         setup = read_setup(given.folder)
         sources, before, folder = setup.sources, setup.words, build_folder_of(setup.words) or ""
     else:
-        check_folder(given.folder)
         sources, before, folder = os.getcwd(), [], given.folder
     is_new = not os.path.lexists(os.path.join(sources, folder))
-    settings = merged([f"-D{it}" for it in settings_of(before)], given.words)
+    settings = merged([f"-D{it}" for it in still_known(sources, settings_of(before))], given.words)
     kept = KeptMachine(PROGRAM, sources, folder, settings)
     path = os.path.relpath(given.native_file, sources) if given.native_file else machine_path(before)
     if not path or not given.native_file and is_pipe(os.path.join(sources, path)):

@@ -178,7 +178,7 @@ class Installation:
         try:
             elf.drop_search(data, self.search_folders(path))
         except elf.NoElf:
-            raise Stop(f"{path}: is no whole ELF file") from None
+            raise Stop(f"{path}: is an incomplete ELF file") from None
         return stripped(path, data) if self.words.strip else data
 
     def search_folders(self, path: str) -> set[str]:

@@ -1,7 +1,7 @@
-"""Prints what `meson setup` says of a configured folder to other programs, as JSON.
+"""Prints the targets, tests, options and other parts of a configured folder as JSON, for other programs.
 
-The source is BUILDDIR/meson-info/introspect.json. One part that is named is printed by itself, several as an object with
-these keys, and without a name all of it. The folder is configured again first, as by `meson compile`.
+It reads BUILDDIR/meson-info/introspect.json. If you name one part, it prints that part. If you name several, it prints
+an object with these keys, and without a name all of it. The folder is configured again first, as by `meson compile`.
 
 Exit status: 0; 1 if the folder is not configured or the output can't be written; 4 for a bad command line; 130 if it was
 interrupted.
@@ -24,7 +24,7 @@ def main() -> int:
                         help="the folder that `meson setup` configured (default: the present one)")
     for part in PARTS:
         parser.add_argument("--" + part.replace("_", "-"), action="append_const", dest="parts", const=part,
-                            help=f"print {part} of the document")
+                            help=f"print only the part {part}")
     parser.add_argument("-i", "--indent", type=int, metavar="N", help="one line for each value, indented by N blanks for each level")
     parser.add_argument("--no-rebuild", action="store_true", help="don't configure again; stop if a file has changed since")
     words = parser.parse_args()

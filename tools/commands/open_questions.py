@@ -15,6 +15,7 @@ from tools.asking import processes
 from tools.ending import CALLED, Stop, as_called, one_line, run_script
 from tools.files import read_text
 from tools.last_setup import build_folder_of, machine_path
+from tools.limit import within_limit
 
 TYPE_CHECKING = False
 if TYPE_CHECKING:
@@ -95,7 +96,7 @@ def main() -> int:
         tell_open(found, machine, path, folder)
     try:
         from tools.noted import notes
-        remarks = notes(folder)
+        remarks = within_limit(lambda: notes(folder), "it takes too long to look for what has no effect")
     except (OSError, Stop):
         remarks = []
     if remarks:

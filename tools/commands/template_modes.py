@@ -24,8 +24,8 @@ PLACE = "meson-private/executables"
 TEMPLATE, OUTPUT = "<", ">"
 # Files that say what is done, and are no templates.
 DEFINITIONS = ("meson.build", "meson.options", "meson_options.txt")
-TEXT = "a text that stands for an executable template\n"
-UNKNOWN = "which outputs come from executable templates can't be told, so none is made executable"
+TEXT = "a text in place of an executable template\n"
+UNKNOWN = "it is not known which outputs come from executable templates, so none is made executable"
 
 
 def templates_of(folder: str, sources: str) -> list[str]:

@@ -11,7 +11,7 @@ of theirs are named. BUILDDIR/meson-logs/testlog.txt has what the tests print.
 Exit status: 0 if no test failed, else the number of those that did (at most 124); 125 if the build failed; 126 if the
 command line, the folder or its document is bad, or the output or the log can't be written; 130 if it was interrupted. In
 the last two cases the tests that still run are ended. If the reader of a pipe has gone, the tests are ended without a
-word.
+message.
 """
 from __future__ import annotations
 
@@ -65,7 +65,7 @@ def arguments() -> Given:
     parser.add_argument("-v", "--verbose", action="store_true", help="show what each test has printed")
     parser.add_argument("--repeat", type=int, default=1, metavar="N", help="run the tests N times")
     parser.add_argument("--wrap", "--wrapper", metavar="WORDS", default="",
-                        help="words to put before each test's command, as a shell splits them: 'valgrind --error-exitcode=1'")
+                        help="arguments to put before each test's command, as a shell splits them: 'valgrind --error-exitcode=1'")
     parser.add_argument("--gdb", action="store_true", help="run each test in gdb, on this terminal, without a timeout")
     parser.add_argument("-j", "--jobs", "--num-processes", type=int, default=len(os.sched_getaffinity(0)), help="how many run at once")
     parser.add_argument("-t", "--timeout-multiplier", type=float, default=1,

@@ -28,7 +28,7 @@ def refused(context: Context) -> Detail:
     call = call_of(context)
     if call is not None:
         return of_told(context, call) if context.told.whole else of_call(context, call)
-    return detail(f"{quoted(context.place.source(statement))}: a value can't be used so", at=statement.start)
+    return detail(f"{quoted(context.place.source(statement))}: a value can't be used like this", at=statement.start)
 
 
 def call_of(context: Context) -> tree.Call | None:
@@ -165,4 +165,4 @@ def all_values(context: Context, call: tree.Call, values: dict[str, Value | None
     """What the call was given, where no rule is known that says more."""
     on = f" of {value.shown()}" if call.receiver is not None and (value := context.value(call.receiver)) else ""
     given = [f"{name_of(name, number)} is {value.shown()}" for name, number, _ in items_of(call) if (value := values.get(name))]
-    return detail(f"{call.name}{on}: it can't do with what it got: {listed(given) or 'nothing'}", at=call.start)
+    return detail(f"{call.name}{on}: it can't use what it got: {listed(given) or 'nothing'}", at=call.start)

@@ -49,7 +49,7 @@ def instead_of(asked: Asked, fault: Fault, told: str) -> str:
     if fault.number == E15 and fault.file == WORDS:
         name = (asked.settings()[fault.line - 1:fault.line] or [""])[0].partition("=")[0]
         if name.startswith(OF_PACKAGERS) and "there is none" in told:
-            return f"option '{name}': there is none here: leave -D{name}= out of the package's words"
+            return f"there is no option '{name}' here: leave -D{name}= out of the package's arguments"
     if fault.number == E18:
         return before_error(fault)
     if fault.number == E23:

@@ -83,7 +83,7 @@ def explained(asked: Asked, fault: Fault) -> list[str]:
     try:
         found = detail_of(asked, fault, told_of(about(asked, fault) if fault.number in TOLD else ""), text)
     except NoAnswer:
-        found = detail("it takes too long to ask what stands there")
+        found = detail("it takes too long to ask the program for the values")
     source = shown(text, fault.line, found.at) if text is not None else []
     return [one_line(fault.shown()), *source, *(as_called(one_line(it)) for it in found.lines)]
 
@@ -138,6 +138,6 @@ def on_statement(asked: Asked, fault: Fault, told: Told, text: str) -> Detail:
     """A fault of a statement: its values are asked of the program."""
     place = place_of(fault.file, text, fault.line) if read(os.path.join(asked.root, fault.file)) is not None else None
     if place is None:
-        return detail(UNSEEN.get(fault.number, "what is refused stands in this line"))
+        return detail(UNSEEN.get(fault.number, "the refused part is in this line"))
     with room_of(asked, fault.file, text) as room:
         return ON_STATEMENTS[fault.number](Context(asked, fault, told, place, Probe(room, place, fault.number, set_in(asked.root))))

@@ -16,25 +16,25 @@ OPERATORS = ("+", "-", "*", "/", "%", "==", "!=", "<", ">", "<=", ">=", "and", "
 LIKE_ENDS = re.compile(r"(?m)^[ \t]*(end\w*|done|fi)[ \t]*$")
 # What is often meant by a character that begins no token.
 SIGNS = {
-    '"': "a text stands between single quotes, as 'text'", "&": "both of two conditions is 'a and b'",
-    "|": "one of two conditions is 'a or b'",
-    "!": "what isn't so is 'not a'", ";": "a statement ends with its line", "$": "a variable is its name alone, and in a text f'@name@'",
-    "@": "a name stands between '@' in a text alone, as f'@name@'", "`": "a text stands between single quotes, as 'text'",
-    "\\": "it stands in a text, or at the end of a line that goes on",
+    '"': "a text is written between single quotes, as 'text'", "&": "write 'a and b'",
+    "|": "write 'a or b'",
+    "!": "write 'not a'", ";": "a statement ends with its line", "$": "a variable is its name alone, and in a text f'@name@'",
+    "@": "only a text has names between '@', as f'@name@'", "`": "a text is written between single quotes, as 'text'",
+    "\\": "it belongs in a text, or at the end of a line that goes on",
 }
 # What is often meant by a word that begins a statement.
 BEGINNINGS = {
     **dict.fromkeys(("for", "while"), "a loop is 'foreach NAME : LIST', up to 'endforeach'"),
-    **dict.fromkeys(("def", "function", "func"), "no functions are defined in these files"),
-    **dict.fromkeys(("elsif", "elseif"), "a further condition is 'elif'"),
+    **dict.fromkeys(("def", "function", "func"), "these files can't define functions"),
+    **dict.fromkeys(("elsif", "elseif"), "write 'elif' for a further condition"),
     **dict.fromkeys(("let", "var", "const", "set"), "a variable is set by 'NAME = value'"),
 }
 # What is often meant by what stands behind a part of a statement: the word before, the word itself.
 FOLLOWING = {
-    ("else", "if"): "a further condition is 'elif'", ("end", "if"): "the end of a block is one word, 'endif'",
-    **{(sign, "="): f"'NAME = NAME {sign} value': of such signs '+=' is the only one" for sign in "-*/"},
-    ("+", "+"): "one more is 'NAME += 1'", ("+", "="): "'+=' is one sign",
-    ("=", "="): "'==' is one sign, and compares", ("-", "-"): "one less is 'NAME = NAME - 1'",
+    ("else", "if"): "write 'elif' for a further condition", ("end", "if"): "the end of a block is one word, 'endif'",
+    **{(sign, "="): f"write 'NAME = NAME {sign} value': only '+=' exists" for sign in "-*/"},
+    ("+", "+"): "write 'NAME += 1'", ("+", "="): "'+=' is one sign",
+    ("=", "="): "'==' is one sign, and compares", ("-", "-"): "write 'NAME = NAME - 1'",
 }
 
 
@@ -89,7 +89,7 @@ def open_detail(text: str, end: int, line: int) -> str:
     if not found or word not in CLOSING and line_at(text, at) == line:
         return ""
     closing = CLOSING.get(word, "end" + word)
-    return f"'{word}' of line {line_at(text, at)} is still open there: its '{closing}' is missing, or stands elsewhere"
+    return f"'{word}' of line {line_at(text, at)} is still open: its '{closing}' is missing, or is in another place"
 
 
 def token_detail(text: str, line: int) -> Detail:
@@ -109,9 +109,9 @@ def token_detail(text: str, line: int) -> Detail:
         return detail(f"there is no token in {quoted(line_text(text, line).strip())}")
     sign = text[at]
     if text[max(at - 2, 0):at + 1] == "'''":
-        return detail("the text that begins with ''' has no end: the next ''' ends it", at=at - 2)
+        return detail("the text that begins with ''' has no end: write ''' after it", at=at - 2)
     if sign == "'" or text[at:at + 2] == "f'":
-        return detail(f"the text {named(text[at:].splitlines()[0])} has no end: the next single quote on its line ends it", at=at)
+        return detail(f"the text {named(text[at:].splitlines()[0])} has no end: write a single quote after it, on the same line", at=at)
     return detail(f"the character {quoted(sign)} begins no token{': ' * (sign in SIGNS)}{SIGNS.get(sign, '')}", at=at)
 
 
@@ -166,9 +166,9 @@ def hint_of(parser: Parser) -> str:
     if parser.text[token.start:token.start + 2] in ("//", "/*"):
         return "a comment begins with '#'"
     if token.text == "." and before.kind == "newline" or token.kind == "newline" and before.text in OPERATORS:
-        return "a statement goes on in the next line inside of brackets, or behind a '\\' at the end of its line"
+        return "a statement goes on in the next line inside of brackets, or after a '\\' at the end of its line"
     if token.text == "?":
-        return "'?' stands in a branch of another '?': that needs a variable of its own"
+        return "'?' is in a branch of another '?': use a variable for one of them"
     if opened and opened[0] in CLOSING:
         return in_brackets(opened[0], before, token)
     if token.kind == "end" and opened and (wrong := [it for it in LIKE_ENDS.findall(parser.text) if it not in ("endif", "endforeach")]):
@@ -187,15 +187,15 @@ def hint_of(parser: Parser) -> str:
 def in_brackets(opened: str, before: Token, token: Token) -> str:
     """The same inside of brackets."""
     if token.text == "=" and opened == "{":
-        return "in a dictionary ':' stands behind a key"
+        return "in a dictionary ':' follows a key"
     if before.kind == "name" and token.kind == "mark" and token.text == "=":
         return f"a keyword is given as '{before.text}: value'"
     if opened == "(" and token.text == "," and before.text not in (",", "("):
-        return "a list stands in brackets, as [1, 2]"
+        return "a list is written in brackets, as [1, 2]"
     ends = before.kind in ("text", "number", "name") or before.text in (")", "]", "}", "true", "false")
     begins = token.kind in ("text", "number", "name") or token.text in ("[", "{", "true", "false")
     if ends and begins:
-        return f"a comma is missing between {named(before.text)} and {named(token.text)}, or a bracket is"
+        return f"a comma or a bracket is missing between {named(before.text)} and {named(token.text)}"
     return ""
 
 
@@ -207,20 +207,20 @@ def on_line(text: str, line: int) -> Detail:
     if line > text.count("\n"):
         what = "at the end of the file"
     at = end if words and line_text(text, line)[:1].strip() else None
-    return detail(f"{what}: no file goes on so", open_detail(text, end, line), at=at)
+    return detail(f"{what}: the file can't continue like this", open_detail(text, end, line), at=at)
 
 
 def refused_in(body: list[tree.Statement]) -> Iterator[tuple[int, str]]:
     """What the grammar refuses beside what can't be read."""
     for statement, is_in_loop in with_loops(body, False):
         if isinstance(statement, tree.Jump) and not is_in_loop:
-            yield statement.start, f"'{statement.word}' stands outside of a foreach"
+            yield statement.start, f"'{statement.word}' is outside of a foreach"
         for root in tree.expressions_of(statement):
             for node in tree.inside(root):
                 if isinstance(node, tree.Call):
                     yield from late_arguments(node)
                 if isinstance(node, tree.Ternary):
-                    yield from ((it.start, "'?' stands inside of a branch of another '?'") for branch in (node.yes, node.no)
+                    yield from ((it.start, "'?' is inside of a branch of another '?'") for branch in (node.yes, node.no)
                                 for it in tree.inside(branch) if isinstance(it, tree.Ternary))
 
 
@@ -230,7 +230,7 @@ def late_arguments(call: tree.Call) -> Iterator[tuple[int, str]]:
         if isinstance(item, tree.Keyword):
             named = item.name
         elif named:
-            yield item.start, f"{call.name}: an argument without a name stands behind '{named}:'; those without stand first"
+            yield item.start, f"{call.name}: an argument without a name follows '{named}:'; arguments without names come first"
 
 
 def nesting_detail(text: str, line: int) -> Detail:
@@ -238,4 +238,4 @@ def nesting_detail(text: str, line: int) -> Detail:
     start = start_of(text, line)
     found = open_at(text, start + len(line_text(text, line)))
     since = f": the outermost begins in line {line_at(text, found[0][1])}" if found else ""
-    return detail(f"brackets, blocks and the prefixes 'not' and '-' stand more than 64 deep here{since}")
+    return detail(f"brackets, blocks and the prefixes 'not' and '-' are nested more than 64 deep here{since}")

@@ -61,13 +61,13 @@ def hint_of(value: str) -> str:
     """What a value would be that is none."""
     begun = value[:1]
     if re.fullmatch(r"[\w./+-]+", value):
-        return f"a text stands between quotes, as '{value}'; a number is an integer, and true and false are truth values"
+        return f"a text is written between quotes, as '{value}'; a number is an integer, and true and false are truth values"
     if begun == '"':
-        return "a text stands between single quotes, as 'text'"
+        return "a text is written between single quotes, as 'text'"
     if begun == "[":
         return "a list has texts between single quotes and nothing else, as ['a', 'b']"
     if begun == "'":
-        return "a text ends at the next single quote, and behind it stands at most a comment '#'"
+        return "a text ends at the next single quote, and only a comment '#' may follow it"
     return "a value is a text '..', a number, true, false, or a list of texts ['a', 'b']"
 
 

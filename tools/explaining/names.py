@@ -78,7 +78,7 @@ def missing_file(context: Context) -> Detail:
         return detail(f"there is no file {quoted(path)}: there is no folder {quoted(folder)}", at=text_at(context, path))
     found = difflib.get_close_matches(name, os.listdir(place), 1, 0.6)
     told = f"; near: {quoted(os.path.join(folder, found[0]))}" if found else ""
-    what = "is a folder, and no file" if os.path.isdir(os.path.join(place, name)) else "is not there"
+    what = "is a folder, not a file" if os.path.isdir(os.path.join(place, name)) else "is not there"
     return detail(f"the file {quoted(path)} {what}{told}", at=text_at(context, path))
 
 
@@ -108,12 +108,12 @@ def not_found(context: Context) -> Detail:
         line = f"'{names[0]} = PATH' in [binaries]"
     else:
         key = " ".join([call.name, *names])
-        why = f"the machine file has no line that says true to {quoted(key)} in [checks]"
+        why = f"the machine file doesn't answer true to {quoted(key)} in [checks]"
         line = f"'{key} = true' in [checks]"
         names = [" ".join(names)]
     what = f"{quoted(names[0])} is" if len(names) == 1 else f"one of {listed(map(quoted, names))} is"
     given = "" if context.asked.machine is not None else "; no machine file is given (--native-file)"
-    told = f"where this machine has it, the machine file says so by {line}: `meson machine-file` writes what it finds"
+    told = f"if this machine has it, the machine file has to have {line}: `meson machine-file` writes what it finds"
     return detail(f"{call.name}: {what} required and not found: {why}{given}", told, at=call.start)
 
 
@@ -170,4 +170,5 @@ def of_project(context: Context, call: tree.Call | None) -> Detail:
             if isinstance(node, tree.Text) and node.value == told.language:
                 why = f"project: the language {quoted(node.value)} is left out: C alone is built"
                 return detail(why, in_its_place("Functions", "add_languages"), at=node.start)
-    return detail("project: a language beside C is left out", in_its_place("Functions", "add_languages"), at=call.start if call else None)
+    at = call.start if call else None
+    return detail("project: a language other than C is left out", in_its_place("Functions", "add_languages"), at=at)

@@ -33,11 +33,11 @@ def of_node(context: Context, node: tree.Node) -> Detail:
     match node:
         case tree.Binary():
             left, right = said(context, node.left), said(context, node.right)
-            return detail(f"'{node.operator}' stands between {left} and {right}", advice(context, node), at=node.start)
+            return detail(f"'{node.operator}' is between {left} and {right}", advice(context, node), at=node.start)
         case tree.Unary():
-            return detail(f"'{node.operator}' stands before {said(context, node.operand)}", at=node.start)
+            return detail(f"'{node.operator}' is before {said(context, node.operand)}", at=node.start)
         case tree.Ternary():
-            return detail(f"the condition of '?' is {said(context, node.condition)}, and no truth value", at=node.condition.start)
+            return detail(f"the condition of '?' is {said(context, node.condition)}, and not a truth value", at=node.condition.start)
         case tree.Index():
             return of_index(context, node)
         case tree.Dictionary():
@@ -64,9 +64,9 @@ def advice(context: Context, node: tree.Binary) -> str:
         return "the divisor is zero"
     if node.operator in ("and", "or"):
         wrong = left if left.kind != "truth value" else right
-        return f"both sides have to be truth values: {wrong.shown()} is none; of a text write != '', of a list .length() > 0"
+        return f"both sides have to be truth values: {wrong.shown()} is not; for a text write != '', for a list .length() > 0"
     if kinds == {"text", "integer"} and node.operator == "+":
-        return "write .to_string() behind the integer, or .to_int() behind the text"
+        return "write .to_string() after the integer, or .to_int() after the text"
     if context.fault.number == 7:
         return "the result needs more than 128 bits"
     return f"'{node.operator}' doesn't take these two types" if left.kind != right.kind else f"'{node.operator}' doesn't take this type"
@@ -83,7 +83,7 @@ def of_index(context: Context, node: tree.Index) -> Detail:
         return detail(f"{quoted(context.place.source(node))} is not there", at=node.start)
     if context.fault.number == 10:
         return detail(no_item(context, receiver, node.receiver, index), at=node.index.start)
-    why = f"{receiver.shown()} can't be asked with {index.shown()} as index"
+    why = f"{receiver.shown()} doesn't take {index.shown()} as an index"
     return detail(f"{why}: a list and a text take an integer, a dictionary a text", at=node.index.start)
 
 
@@ -98,7 +98,7 @@ def no_item(context: Context, receiver: Value, node: tree.Node, index: Value) ->
         known = [it.text for it in flat(context.probe.asked_of(node, NAMES[receiver.kind]) or Value("list"))]
         what = receiver.kind.removesuffix(" object")
         return f"the {what} has no key {quoted(index.text)}{near(index.text, known)}"
-    return f"the index {index.text} is none of {receiver.shown()}{length_of(context, receiver, node)}"
+    return f"the index {index.text} is out of range of {receiver.shown()}{length_of(context, receiver, node)}"
 
 
 def length_of(context: Context, value: Value, node: tree.Node) -> str:
@@ -114,7 +114,7 @@ def length_of(context: Context, value: Value, node: tree.Node) -> str:
 
 def of_call(context: Context, call: tree.Call) -> Detail:
     if context.fault.number == 6:
-        return detail(f"{call.name}: it gives nothing, and stands where a value is wanted", at=call.start)
+        return detail(f"{call.name}: it returns nothing, and a value is needed here", at=call.start)
     receiver = context.value(call.receiver) if call.receiver is not None else None
     first = context.value(call.arguments[0]) if call.arguments else None
     if receiver is None or call.receiver is None:
@@ -137,19 +137,19 @@ def of_statement(context: Context) -> Detail:
             for branch in on_line or [it for it in statement.branches if it.condition]:
                 if branch.condition:
                     what = said(context, branch.condition)
-                    way = "say .enabled()" if what.startswith("a feature option") else "of a text write != '', of a list .length() > 0"
-                    return detail(f"the condition is {what}, and no truth value: {way}", at=branch.condition.start)
+                    way = "say .enabled()" if what.startswith("a feature option") else "for a text write != '', for a list .length() > 0"
+                    return detail(f"the condition is {what}, and not a truth value: {way}", at=branch.condition.start)
         case tree.Foreach():
-            names = "two names walk a dictionary" if len(statement.names) == 2 else "one name walks a list"
+            names = "with two names it takes a dictionary" if len(statement.names) == 2 else "with one name it takes a list"
             return detail(f"foreach: {names}, and this is {said(context, statement.items)}", at=statement.items.start)
         case tree.Assignment() if statement.operator == "+=":
             name = tree.Name(statement.start, statement.start + len(statement.name), statement.name)
             before = context.probe.variable(statement.name) if context.probe.can_ask else None
-            return detail(f"'+=' stands between {shown(before, statement.name)} and {said(context, statement.value)}", at=name.start)
+            return detail(f"'+=' is between {shown(before, statement.name)} and {said(context, statement.value)}", at=name.start)
         case tree.Assignment() | tree.Expression() if isinstance(tree.plain(statement.value), tree.Call):
             call = tree.plain(statement.value)
             assert isinstance(call, tree.Call)
             if call.name in GIVE_NOTHING:
-                return detail(f"{call.name}: it gives nothing, and stands where a value is wanted", at=call.start)
+                return detail(f"{call.name}: it returns nothing, and a value is needed here", at=call.start)
     first = tree.expressions_of(statement)
-    return detail(f"what is refused stands in {quoted(context.place.source(statement))}", at=first[0].start if first else statement.start)
+    return detail(f"the refused part is in {quoted(context.place.source(statement))}", at=first[0].start if first else statement.start)

@@ -29,7 +29,7 @@ def duplicate(context: Context) -> Detail:
     if context.told.entry is not None:
         return key_twice(context, [it for it in nodes if isinstance(it, tree.Dictionary)])
     call = context.call()
-    return made_twice(context, call) if call else detail("something stands twice in this line", at=context.place.statement.start)
+    return made_twice(context, call) if call else detail("this line has something twice", at=context.place.statement.start)
 
 
 def key_twice(context: Context, dictionaries: list[tree.Dictionary]) -> Detail:
@@ -74,16 +74,16 @@ def made_twice(context: Context, call: tree.Call) -> Detail:
     names = [it.text for it in flat(value) if it.kind == TEXT] if value else outputs_of(call)
     own = [it for it in names if os.path.normpath(os.path.join(context.folder, it)) == path]
     if len(own) > 1:
-        return detail(f"{call.name}: {quoted(own[0])} stands twice among its outputs", at=call.start)
+        return detail(f"{call.name}: {quoted(own[0])} is twice among its outputs", at=call.start)
     where = made_before(context, call, node, names) if names else ""
     if where:
         made = ", ".join(map(quoted, own or names))
         told = "give it another name, or declare it in another folder"
-        return detail(f"{call.name}: {made} is made before, {where}", told, at=call.start)
+        return detail(f"{call.name}: {made} is already made, {where}", told, at=call.start)
     sources = [it.text for argument in call.arguments[1:] if (found := context.value(argument)) for it in flat(found) if it.kind == TEXT]
     alike = [it for it in sources if sum(other.replace("/", "_") == it.replace("/", "_") for other in sources) > 1]
     if call.name in TARGETS and alike:
-        why = f"the sources {listed(map(quoted, alike))} have one object, since '/' becomes '_' in its name"
+        why = f"the sources {listed(map(quoted, alike))} have one object file, since '/' becomes '_' in its name"
         return detail(f"{call.name}: {why}", at=call.start)
     return detail(f"{call.name}: {context.told.shown}",
                   "two sources whose paths differ only in '/' and '_' have one object; a library has its links, too", at=call.start)
@@ -121,7 +121,7 @@ def folder(context: Context) -> Detail:
     if not name:
         why = "the name is empty"
     elif name.startswith("/"):
-        why = "the name is absolute: a folder is named from the present one"
+        why = "the name is absolute: a folder is named relative to the present one"
     elif ".." in name.split("/"):
         why = "the name has a part '..': call subdir from the folder above"
     else:
@@ -133,11 +133,11 @@ def project_call(context: Context) -> Detail:
     """E13."""
     first = context.place.body[0] if context.fault.file == "meson.build" else None
     if context.place.statement is not first:
-        return detail("project: it stands only once, as the first statement of the root's meson.build", at=context.place.statement.start)
+        return detail("project: it is called only once, as the first statement of the root's meson.build", at=context.place.statement.start)
     value = first.value if isinstance(first, tree.Expression) else None
     if not isinstance(value, tree.Call) or value.name != "project" or value.receiver is not None:
         source = context.place.source(first).splitlines()[0]
-        return detail(f"in place of project(NAME, 'c') stands {quoted(source)}: it has to be the first statement", at=first.start)
+        return detail(f"the first statement has to be project(NAME, 'c'), and is {quoted(source)}", at=first.start)
     for node in tree.inside(value):
         if isinstance(node, tree.Call) and node is not value:
             return detail(f"project: its arguments may call no function and ask nothing, and {quoted(node.name)} is called", at=node.start)
@@ -150,21 +150,21 @@ def own_words(context: Context) -> Detail:
     if call is None or not call.arguments:
         return detail("the project itself ends the run", at=context.place.statement.start)
     if call.name == "error":
-        return detail("error: the project itself ends the run, with these words", at=call.start)
+        return detail("error: the project itself ends the run, with this message", at=call.start)
     condition = call.arguments[0]
-    return detail(f"assert: the project itself ends the run: not true is {quoted(context.place.source(condition))}", at=condition.start)
+    return detail(f"assert: the project itself ends the run: {quoted(context.place.source(condition))} is not true", at=condition.start)
 
 
 def template(line: str) -> Detail:
     """E19."""
     words = line.split()
     if len(words) == 1:
-        return detail(f"{quoted(words[0])} stands alone: it is '#mesondefine NAME'")
+        return detail(f"{quoted(words[0])} has no name after it: write '#mesondefine NAME'")
     if words and words[0] != "#mesondefine":
         return detail(f"{quoted(words[0])} is not '#mesondefine', with which it begins")
     if len(words) > 2:
         more = quoted(" ".join(words[2:]))
-        return detail(f"behind the name {quoted(words[1])} stands {more}: it is '#mesondefine NAME', and nothing else")
+        return detail(f"after the name {quoted(words[1])} is {more}: write '#mesondefine NAME', and nothing else")
     return detail(f"{quoted(words[1] if len(words) > 1 else line)} is no name: it has letters, digits, '_' and '-'")
 
 
@@ -178,7 +178,7 @@ def frozen(context: Context) -> Detail:
             and name in tree.names_in(node.keywords["configuration"].value)]
     where = f", at {uses[0][0]}:{line_at(open_text(context, uses[0][0]), uses[0][1].start)}" if uses else ""
     what = call.name if call else "a change"
-    return detail(f"{what}: a file was made from {quoted(name)} before{where}, so it doesn't change any more",
+    return detail(f"{what}: a file was made from {quoted(name)} before{where}, so it can't be changed any more",
                   "set all values before configure_file, or change a copy: 'more = data' makes one", at=call.start if call else None)
 
 
@@ -222,5 +222,5 @@ def too_late(context: Context) -> Detail:
             for node in tree.inside(root):
                 if isinstance(node, tree.Call) and node.receiver is None and node.name in TARGETS and name in outputs_of(node):
                     where = f"{path}:{line_at(open_text(context, path), node.start)}"
-                    return detail(f"{what}: it stands behind {node.name} {quoted(name)} of {where}", move, at=at)
+                    return detail(f"{what}: it comes after {node.name} {quoted(name)} of {where}", move, at=at)
     return detail(f"{what}: the target {quoted(name)} was declared before", move, at=at)

@@ -67,7 +67,7 @@ def of_machine(asked: Asked, fault: Fault, told: Told) -> Detail:
     others = {"project options": ("built-in options", BUILT_IN), "built-in options": ("project options", declared(asked.root))}
     other, names = others.get(section or "", ("", ()))
     if told.so == NONE and told.option in names:
-        return detail(f"[{section}], {told.shown}: it stands in the other section, [{other}]")
+        return detail(f"[{section}], {told.shown}: it belongs in the other section, [{other}]")
     return of_value(asked, told, f"[{section}], ")
 
 

@@ -73,7 +73,7 @@ def as_option(project: Project, site: Site, value: bool | int | str) -> Change:
                          replaced(site, site.call, f"({REAL} ? {site.file.source(site.call)} : get_option({escaped(option)}))"))
     text = f"option({escaped(option)}, type: '{TYPES[method]}', value: {shown}, description: {escaped(description)})\n"
     change.edits.append(with_option(project, text))
-    change.notes = [f"the option {option} is what this machine's compiler said: on another one the machine file may have to say otherwise"]
+    change.notes = [f"the option {option} is the answer of this machine's compiler: on another machine its machine file may need another"]
     return change
 
 
@@ -82,7 +82,7 @@ def question_of(project: Project, site: Site) -> str:
     if set(site.call.keywords) - TAKEN or len(site.call.arguments) != 1:
         raise NotFollowed("its arguments can't be followed")
     if ending_of(project, site) != "":
-        raise NotFollowed("it asks for more than one thing by the same words")
+        raise NotFollowed("it asks for more than one thing with the same arguments")
     text = text_of(project, site.call.arguments[0])
     if text is None and site.call.name in ("compiles", "links", "run"):
         text = read(file_of(project, site))
@@ -164,5 +164,5 @@ def things_at(project: Project, word: tree.Keyword | None) -> list[Thing]:
     """The objects that a keyword surely is."""
     items = flat(project.known.value(word.value)) if word else []
     if not all(it.is_sure and isinstance(it.value, Thing) for it in items):
-        raise NotFollowed("what stands beside it is not known here")
+        raise NotFollowed("its other arguments are not known here")
     return [it.value for it in items if isinstance(it.value, Thing)]

@@ -18,10 +18,10 @@ RENAMED = {"add_global_arguments": "add_project_arguments", "add_global_link_arg
 
 
 def overrides(project: Project) -> Iterator[Change]:
-    """What a project says to those that have it as a subproject stands behind `if meson.is_subproject()`."""
+    """What a project says to those that have it as a subproject goes into `if meson.is_subproject()`."""
     for site in project.methods("override_dependency", "override_find_program"):
         if is_whole_statement(site):
-            yield guarded(site, "if meson.is_subproject()", f"meson.{site.call.name} stands behind is_subproject()")
+            yield guarded(site, "if meson.is_subproject()", f"meson.{site.call.name} is put into `if meson.is_subproject()`")
 
 
 def summary(project: Project) -> Iterator[Change]:

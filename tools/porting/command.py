@@ -32,18 +32,19 @@ def arguments(doc: str | None, given: list[str] | None) -> Given:
     parser = Parser(SCRIPT, doc or "", BAD_WORDS)
     parser.add_argument("source", metavar="SOURCE-DIR", nargs="?", help="the folder of the project's meson.build")
     parser.add_argument("--dry-run", action="store_true",
-                        help="print the changes as a patch, write nothing, and say the rest on the standard error")
-    parser.add_argument("--run", action="store_true", help="run what the project runs while configuring, and write down what it says")
-    parser.add_argument("--only", metavar="RULE", action="append", default=[], help="carry out this rule alone; may be given again")
+                        help="print the changes as a patch, write nothing, and print the rest on standard error")
+    parser.add_argument("--run", action="store_true",
+                        help="run the commands that the project runs while configuring, and write down what they print")
+    parser.add_argument("--only", metavar="RULE", action="append", default=[], help="apply this rule alone; may be given several times")
     parser.add_argument("--also", metavar="RULE", action="append", default=[],
-                        help="carry out a rule that has to be asked for, too; `--also help` lists these")
-    parser.add_argument("--all", action="store_true", help="carry out every rule that keeps what is built and installed")
-    parser.add_argument("--list-rules", action="store_true", help="list the rules, and do nothing")
-    parser.add_argument("--program", metavar="PATH", help="the program that is asked at the end; without it the one of this command")
-    parser.add_argument("--no-trial", action="store_true", help="ask neither the program nor the real Meson at the end")
-    parser.add_argument("--no-real", action="store_true", help="don't ask the real Meson at the end, where it is installed")
-    parser.add_argument("--no-build", action="store_true", help="don't build the result at the end")
-    parser.add_argument("-D", metavar="NAME=VALUE", action="append", default=[], dest="options", help="a word for the run at the end")
+                        help="also apply this rule, which has to be asked for; `--also help` lists such rules")
+    parser.add_argument("--all", action="store_true", help="apply every rule after which the same files are built and installed")
+    parser.add_argument("--list-rules", action="store_true", help="list the rules, and change nothing")
+    parser.add_argument("--program", metavar="PATH", help="the program that tries the result (default: the one of this command)")
+    parser.add_argument("--no-trial", action="store_true", help="try the result neither with the program nor with the real Meson")
+    parser.add_argument("--no-real", action="store_true", help="don't try the result with the real Meson")
+    parser.add_argument("--no-build", action="store_true", help="don't build the result")
+    parser.add_argument("-D", metavar="NAME=VALUE", action="append", default=[], dest="options", help="an option for the runs at the end")
     words = parser.parse_args(given)
     for name in words.only + words.also:
         if name == "help" and name in words.also:
@@ -51,9 +52,9 @@ def arguments(doc: str | None, given: list[str] | None) -> Given:
         elif name not in BY_NAME:
             parser.error(f"there is no rule {name!r}; --list-rules lists them")
     if words.source is None and not words.list_rules:
-        parser.error("a SOURCE-DIR is wanted")
+        parser.error("a SOURCE-DIR is required")
     if words.program is not None and not os.access(words.program, os.X_OK):
-        parser.error(f"{words.program}: no program that can be run")
+        parser.error(f"{words.program}: is no program that can be run")
     return words
 
 
@@ -201,9 +202,12 @@ def main(doc: str | None, given: list[str] | None = None) -> int:
 
 
 def carried_out(words: Given) -> int:
+    # All that is said of a patch is no part of it.
+    said_to = sys.stderr if words.dry_run else sys.stdout
     recovered = Journal(words.source).recover()
     if recovered:
-        tell(recovered)
+        with contextlib.redirect_stdout(said_to):
+            tell(recovered)
     try:
         project = Project(words.source)
         project.is_asked_to_run = words.run
@@ -212,8 +216,7 @@ def carried_out(words: Given) -> int:
         raise Stop(str(why)) from why
     if words.dry_run:
         show_patch(project)
-    # All that is said of a patch is no part of it.
-    with contextlib.redirect_stdout(sys.stderr if words.dry_run else sys.stdout):
+    with contextlib.redirect_stdout(said_to):
         return tell_and_write(project, words)
 
 

@@ -30,7 +30,7 @@ LARGEST = 1 << 20
 MOST_ROUNDS = 64
 MARK = "/value-of-the-project"  # stands for a value that a project gives to a variable of a .pc file
 QUESTIONS = {"exists": os.path.exists, "is_file": os.path.isfile, "is_dir": os.path.isdir, "is_symlink": os.path.islink}
-NOT_ASKED = "needs to be run once: --run does that, and writes what it says"
+NOT_ASKED = "needs to be run once: --run does that, and writes down what it prints"
 
 
 def spoken(project: Project, text: str) -> None:
@@ -120,7 +120,7 @@ def answers_of(project: Project, site: Site) -> dict[str, str]:
     rounds = project.known.things[site.call]
     commands = [words_of(project, site, it.arguments) for it in rounds[:MOST_ROUNDS]]
     if "env" in site.call.keywords or len(rounds) > MOST_ROUNDS or None in commands:
-        raise NotRun("its words can't be followed")
+        raise NotRun("its arguments can't be followed")
     done = [outcome(project, site, it) for it in commands if it]
     texts = {"returncode": [str(it.returncode) for it in done], "stdout": [escaped(it.stdout) for it in done],
              "stderr": [escaped(it.stderr) for it in done]}
@@ -146,13 +146,13 @@ def by_round(site: Site, rounds: list[Thing], texts: list[str]) -> str:
         table = dict(zip(values, texts))
         if [table[it] for it in values] == texts:
             return f"{{{', '.join(f'{escaped(key)}: {text}' for key, text in table.items())}}}[{source}]"
-    raise NotRun("it is another command in rounds that no text tells apart")
+    raise NotRun("its command differs from round to round, and no text says in which round it is")
 
 
 def answered(project: Project, site: Site, answers: dict[str, str]) -> Change | None:
     """The call, and the methods of its result, as what they come to."""
     outer = next((it for it in project.methods(*answers) if it.call.receiver and tree.plain(it.call.receiver) is site.call), None)
-    what = "run_command becomes what it said"
+    what = "run_command becomes what it printed"
     if outer is not None:
         return site.change(what, replaced(site, outer.call, answers[outer.call.name]))
     if not isinstance(site.statement, tree.Assignment) or tree.plain(site.statement.value) is not site.call:
@@ -210,12 +210,12 @@ def read_files(project: Project) -> Iterator[Change]:
 def read_text(project: Project, site: Site, node: tree.Node) -> str | None:
     path = path_at(project, site, node)
     if not project.is_asked_to_run:
-        project.doubt(site, f"the text of a file is wanted here, which {NOT_ASKED}")
+        project.doubt(site, f"the text of a file is needed here, which {NOT_ASKED}")
         return None
     try:
         text = files.read_text(path or "", LARGEST)
     except OSError as error:
-        project.doubt(site, f"the text of a file is wanted here, which can't be read: {error}")
+        project.doubt(site, f"the text of a file is needed here, which can't be read: {error}")
         return None
     spoken(project, f"read: {os.path.relpath(path or '', project.root)}")
     return text

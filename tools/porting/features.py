@@ -27,7 +27,7 @@ def features(project: Project) -> Iterator[Change]:
         if base is None or kind_of(project.known.value(base)) != "feature" or is_inner(site):
             continue
         if not can_hoist(site) or is_in_doubt(site.statement, site.call) or any(not is_plain(it) for it in chain):
-            project.doubt(site, f"{site.call.name}: it stands where no statement can be put before it")
+            project.doubt(site, f"{site.call.name}: no statement can be put before it")
             continue
         yield spelled_out(project, site, chain, base)
         return  # the names that the next one finds are those with this one

@@ -50,7 +50,7 @@ def of_several(project: Project, receiver: tree.Node | None, makers: tuple[Thing
     for site, texts in zip(sites, words):
         command = command_of(site, site.file.source(site.call.arguments[0]), texts or [], None)
         edits += site.change("", replaced(site, site.call, command)).edits
-    change = sites[0].change("generator: one of several becomes the words of its command, and a custom_target for each input")
+    change = sites[0].change("generator: one of several becomes the arguments of its command, and a custom_target for each input")
     change.edits += edits
     return change
 

@@ -1,8 +1,11 @@
 """Puts new texts in the place of a project's files: all of them or none, whatever interrupts that.
 
 The new texts are written below SOURCE-DIR/.meson-port first, then a journal that says where each belongs, then each is renamed to its
-place. Without a journal nothing has been renamed, and the folder is taken away; with one, the rest is renamed. An interrupted run is
-finished so by the next one. No place is outside of SOURCE-DIR, and no file changes its owner, its mode or its other names.
+place. If there is no journal, the next run removes the folder. If there is one, the next run renames the rest. No place is outside of
+SOURCE-DIR, and no file changes its owner, its mode or its other names.
+
+A project may bring a folder .meson-port with a journal of its own. Such a journal can make what `port` itself makes, by its name, and no
+other file: no hook in .git, and no settings.
 """
 from __future__ import annotations
 
@@ -19,9 +22,12 @@ from tools import records as dataclasses
 from tools.ending import Stop
 from tools.files import read_bytes, read_text
 
-FOLDER, JOURNAL, UNFINISHED = ".meson-port", "journal.json", "journal.new"
+FOLDER, JOURNAL, UNFINISHED, NEW_FOLDER = ".meson-port", "journal.json", "journal.new", "folder"
 WAITING = re.compile(r"[0-9]{1,9}")  # the name of a text that waits in the folder
 MOST_JOURNAL = 1 << 24
+# The names of the files that `port` changes or makes, and of those that it only makes.
+DEFINITIONS = re.compile(r"meson\.build|meson\.options|meson_options\.txt")
+TEMPLATES = re.compile(r".+\.(pc\.in|template)")
 
 
 @dataclasses.dataclass(frozen=True)
@@ -39,6 +45,21 @@ def place_of(root: str, path: str) -> str | None:
     top = os.path.realpath(root)
     real = os.path.realpath(os.path.join(top, path))
     return os.path.relpath(real, top) if real.startswith(top.rstrip("/") + "/") else None
+
+
+def may_change(place: str, is_new: bool) -> bool:
+    """Returns whether a file has a name that `port` changes, or that it makes if the file is new."""
+    name = os.path.basename(place)
+    return DEFINITIONS.fullmatch(name) is not None or is_new and TEMPLATES.fullmatch(name) is not None
+
+
+def sync_folder(path: str) -> None:
+    """Returns when the disk has the names that a folder has now."""
+    number = os.open(path, os.O_RDONLY | os.O_DIRECTORY | os.O_CLOEXEC)
+    try:
+        os.fsync(number)
+    finally:
+        os.close(number)
 
 
 def digest(data: bytes) -> str:
@@ -70,14 +91,15 @@ class Journal:
         return os.path.join(self.folder, name)
 
     def recover(self) -> str:
-        """Finishes or takes back what an interrupted run has begun, and says which; empty where nothing was begun."""
+        """Finishes or takes back what an interrupted run has begun, and returns which; empty if nothing was begun."""
         if not os.path.lexists(self.folder):
             return ""
         if os.path.islink(self.folder) or not os.path.isdir(self.folder):
             raise Stop(f"{self.folder}: is not the folder of `meson port`; move it away")
         if not os.path.lexists(self.path(JOURNAL)):
+            # The run was killed before it changed a file, or after it had changed all.
             self.clear()
-            return "an interrupted run is taken back: it had changed nothing"
+            return f"an interrupted run has left {FOLDER}, which is removed: no change was half made"
         entries = self.entries()
         self.check_unchanged(entries)
         self.finish(entries)
@@ -89,11 +111,12 @@ class Journal:
             rows = json.loads(read_text(self.path(JOURNAL), MOST_JOURNAL))
             found = [Entry(*it) for it in rows]
             is_good = isinstance(rows, list) and all(isinstance(text, str) for it in found for text in dataclasses.astuple(it)) and all(
-                WAITING.fullmatch(it.waiting) and place_of(self.root, it.place) == it.place for it in found)
+                WAITING.fullmatch(it.waiting) and place_of(self.root, it.place) == it.place and may_change(it.place, not it.before)
+                for it in found)
         except (OSError, ValueError, TypeError, RecursionError):
             is_good = False
         if not is_good:
-            raise Stop(f"{self.path(JOURNAL)}: is no journal of `meson port`; take {FOLDER} away if you don't need what is in it")
+            raise Stop(f"{self.path(JOURNAL)}: is no journal of `meson port`; remove {FOLDER} if you don't need what is in it")
         return found
 
     def check_unchanged(self, entries: list[Entry]) -> None:
@@ -101,14 +124,14 @@ class Journal:
         for it in entries:
             if os.path.lexists(self.path(it.waiting)) and self.before(it.place) != it.before:
                 raise Stop(f"{it.place}: was changed after `meson port` was interrupted; its new text is {FOLDER}/{it.waiting}: "
-                           f"move both where you want them, and take {FOLDER} away")
+                           f"move both where you want them, and remove {FOLDER}")
 
     def before(self, place: str) -> str:
         path = os.path.join(self.root, place)
         return digest(read_bytes(path)) if os.path.lexists(path) else ""
 
     def finish(self, entries: list[Entry]) -> None:
-        """Renames the texts that wait, and takes the folder away."""
+        """Renames the texts that wait, and removes the folder."""
         for it in entries:
             try:
                 self.make_folder(os.path.dirname(it.place))
@@ -116,32 +139,41 @@ class Journal:
             except FileNotFoundError:
                 if os.path.lexists(self.path(it.waiting)):
                     raise
+        # The journal goes only after the disk has the changes.
+        for folder in {os.path.dirname(it.place) for it in entries}:
+            sync_folder(os.path.join(self.root, folder))
         self.clear()
 
     def make_folder(self, place: str) -> None:
-        """Makes the folder of a new file, where it isn't there; it belongs to whom the project belongs."""
+        """Makes the folder of a new file if it is absent. It gets the owner of the project before it gets its name."""
         folder = os.path.join(self.root, place)
         if os.path.isdir(folder):
             return
         self.make_folder(os.path.dirname(place))
-        os.mkdir(folder)
+        made = self.path(NEW_FOLDER)
+        with contextlib.suppress(FileNotFoundError):
+            os.rmdir(made)
+        os.mkdir(made)
         owner = os.stat(self.root)
         if os.geteuid() == 0:
-            os.chown(folder, owner.st_uid, owner.st_gid)
+            os.chown(made, owner.st_uid, owner.st_gid)
+        os.rename(made, folder)
 
     def clear(self) -> None:
-        """Takes away what a run has left in the folder, the journal first, and the folder."""
+        """Removes what a run has left in the folder, the journal first, and the folder."""
         names = os.listdir(self.folder)
         for name in sorted(names, key=lambda it: it != JOURNAL):
             if name in (JOURNAL, UNFINISHED) or WAITING.fullmatch(name):
                 os.unlink(self.path(name))
+            elif name == NEW_FOLDER:
+                os.rmdir(self.path(name))
         try:
             os.rmdir(self.folder)
         except OSError as error:
             raise Stop(f"{self.folder}: has files that are not of `meson port`; move them away") from error
 
     def put(self, texts: dict[str, tuple[bytes | None, bytes]]) -> None:
-        """Puts texts in their places: by its path of each the bytes before, none of a new file, and its new ones."""
+        """Puts texts in their places: for each path the bytes before, none if the file is new, and the bytes after."""
         entries = []
         owners = [self.checked(path, before) for path, (before, _) in texts.items()]
         os.mkdir(self.folder, 0o700)
@@ -160,12 +192,17 @@ class Journal:
         except KeyboardInterrupt:
             self.finish(entries)
             raise
+        except OSError as error:
+            raise Stop(f"{error.filename2 or error.filename or self.folder}: {error.strerror}; not all changes are made: "
+                       "the next `meson port` makes the rest") from error
 
     def checked(self, path: str, before: bytes | None) -> os.stat_result | None:
-        """What stands at a path; stops where that can't be another file without being more than its bytes."""
+        """Returns the state of the file at a path. Stops if more than its bytes would change."""
         place = place_of(self.root, path)
         if place is None:
             raise Stop(f"{path}: is outside of {self.root}, or a link leads there; nothing is changed")
+        if not may_change(place, before is None):
+            raise Stop(f"{path}: is no file that `meson port` changes or makes; nothing is changed")
         real = os.path.join(self.root, place)
         if before is None:
             if os.path.lexists(real):
@@ -194,14 +231,10 @@ class Journal:
             os.fsync(made)
 
     def commit(self, entries: list[Entry]) -> None:
-        """Writes the journal: from here on the run is finished, whatever interrupts it."""
+        """Writes the journal: from here on the next run finishes this one, whatever interrupts it."""
         with open(self.path(UNFINISHED), "x", encoding="utf-8") as it:
             json.dump([dataclasses.astuple(entry) for entry in entries], it)
             it.flush()
             os.fsync(it.fileno())
         os.rename(self.path(UNFINISHED), self.path(JOURNAL))
-        number = os.open(self.folder, os.O_RDONLY | os.O_DIRECTORY | os.O_CLOEXEC)
-        try:
-            os.fsync(number)
-        finally:
-            os.close(number)
+        sync_folder(self.folder)

@@ -35,7 +35,7 @@ DROPPED_WITH = {("custom_target", "build_always_stale"): False, ("custom_target"
                 **{(name, "gnu_symbol_visibility"): "" for name in TARGETS}, **{(name, "install_rpath"): "" for name in TARGETS},
                 **{(name, "export_dynamic"): False for name in TARGETS}, **{(name, "implib"): False for name in TARGETS}}
 OF_CHECKS = {"no_builtin_args", "checked", "static", "header_args", "header_no_builtin_args"}
-WHY = {"native": "; a cross build would need it", "fallback": "; what it stands on has to be installed",
+WHY = {"native": "; a cross build would need it", "fallback": "; what it depends on has to be installed",
        "version": "; the version is not looked at"}
 # What `override_options` says, as words of the compiler.
 OVERRIDDEN = {"werror=false": ["-Wno-error"], "werror=true": ["-Werror"], "warning_level=0": ["-w"], "warning_level=1": ["-Wall"],
@@ -333,7 +333,7 @@ def env_of_custom_target(project: Project) -> Iterator[Change]:
             added = replaced(site, command.value, f"['env', {', '.join(words)}, {site.file.source(command.value)}]")
         else:
             continue
-        yield site.change("custom_target: `env:` becomes words of `env`", added, (start, end, ""))
+        yield site.change("custom_target: `env:` becomes arguments of `env`", added, (start, end, ""))
 
 
 def feed_of_custom_target(project: Project) -> Iterator[Change]:

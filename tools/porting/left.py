@@ -8,7 +8,7 @@ from porting.values import Thing, choices_of, flat, kind_of
 from tools import records as dataclasses
 
 FUNCTIONS = {
-    "subproject": "install what it stands on first, and ask for it by dependency",
+    "subproject": "install what it depends on first, and ask for it by dependency",
     "import": "its module is left out: names as texts, an option for what has to be computed",
     "run_command": "an option, whose value the machine file gives",
     "vcs_tag": "an option, or a custom_target with `capture: true`",
@@ -18,9 +18,9 @@ FUNCTIONS = {
     "install_subdir": "install_data with the files by name", "install_emptydir": "a step of the package",
     "install_symlink": "a step of the package", "summary": "message", "debug": "message",
     "both_libraries": "shared_library and static_library of one name", "shared_module": "shared_library",
-    "build_target": "the function of the kind that is wanted", "add_languages": "C alone is built here",
+    "build_target": "the function of that kind of target", "add_languages": "C alone is built here",
     "add_global_arguments": "add_project_arguments", "add_global_link_arguments": "add_project_link_arguments",
-    "add_test_setup": "the words of `meson test`", "add_project_dependencies": "`dependencies:` of each target",
+    "add_test_setup": "the arguments of `meson test`", "add_project_dependencies": "`dependencies:` of each target",
     "jar": "C alone is built here",
     "structured_sources": "C alone is built here",
 }
@@ -79,7 +79,7 @@ KEYWORDS = {
                      "preserve_path": "a call for each folder"},
     "install_man": {"install_mode": OF_MODE, "locale": "`install_dir:`"},
     "test": {"protocol": "a program that ends with 0, 77 or another status; or `--also test-protocol`, so that its status alone decides"},
-    "dependency": {"fallback": "install what it stands on first", "modules": "the dependency of each part",
+    "dependency": {"fallback": "install what it depends on first", "modules": "the dependency of each part",
                    "components": "the dependency of each part"},
     "find_program": {"dirs": "the machine file"},
     "declare_dependency": {"link_whole": "the sources of that library, in each target that has it", "objects": "a static library"},

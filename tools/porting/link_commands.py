@@ -35,7 +35,7 @@ def linked(project: Project, site: Site) -> Change:
     words, first = site.call.keywords, site.call.arguments[0] if site.call.arguments else None
     strange = sorted(set(words) - OF_LINK)
     if strange or first is None or not can_hoist(site):
-        raise NotFollowed(f"it has `{strange[0]}:`" if strange else "it stands where nothing can stand before it")
+        raise NotFollowed(f"it has `{strange[0]}:`" if strange else "nothing can be put before it")
     if is_linked(project, site):
         raise NotFollowed("another target links it")
     prefix, suffix = (part_of_name(project, site, *it) for it in (("name_prefix", "lib"), ("name_suffix", "so")))

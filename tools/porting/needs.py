@@ -135,7 +135,7 @@ class Needs:
             return []
         condition = self.condition_of(thing, is_sure)
         if condition is None:
-            self.notes.append(f"whether {names[0]} is linked can't be told here: it is left out of Requires.private and Libs.private")
+            self.notes.append(f"it is not known whether {names[0]} is linked: it is left out of Requires.private and Libs.private")
             return []
         if thing.kind == "library":
             return [Need("libs", "-l" + names[0], condition)]

@@ -42,7 +42,7 @@ class Parser:
     def expect(self, word: str) -> Token:
         if not self.is_word(word):
             shown = self.token.text.strip() or "the end of the line"
-            raise self.fault(f"{word!r} is wanted before {shown!r}")
+            raise self.fault(f"{word!r} is missing before {shown!r}")
         return self.take()
 
     def end_of_line(self) -> None:
@@ -63,7 +63,7 @@ class Parser:
     def body(self) -> list[tree.Statement]:
         self.depth += 1
         if self.depth > DEEPEST:
-            raise self.fault("blocks stand too deep in one another")
+            raise self.fault("blocks are nested too deeply")
         statements = []
         while self.token.kind != "end" and not self.is_word("elif", "else", "endif", "endforeach"):
             if self.token.kind == "newline":
@@ -124,20 +124,20 @@ class Parser:
 
     def name(self) -> Token:
         if self.token.kind != "name":
-            raise self.fault(f"a name is wanted before {self.token.text!r}")
+            raise self.fault(f"a name is missing before {self.token.text!r}")
         return self.take()
 
     def whole_expression(self) -> tree.Node:
         """An expression that stands in no other."""
         node = self.expression()
         if tree.depth_of(node) > DEEPEST_NODE:
-            raise SyntaxFault(line_at(self.text, node.start), "expressions stand too deep in one another")
+            raise SyntaxFault(line_at(self.text, node.start), "expressions are nested too deeply")
         return node
 
     def expression(self) -> tree.Node:
         self.depth += 1
         if self.depth > 4 * DEEPEST:
-            raise self.fault("expressions stand too deep in one another")
+            raise self.fault("expressions are nested too deeply")
         condition = self.either()
         if self.is_word("?"):
             self.take()

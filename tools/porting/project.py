@@ -135,7 +135,7 @@ class Project:
         except SyntaxFault as fault:
             raise Unreadable(f"{path}:{fault.line}: {fault.why}") from fault
         except RecursionError as error:
-            raise Unreadable(f"{path}: expressions stand too deep in one another") from error
+            raise Unreadable(f"{path}: expressions are nested too deeply") from error
 
     def option_file(self) -> File | None:
         return next(filter(None, map(self.read, OPTION_FILES)), None)

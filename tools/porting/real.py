@@ -24,8 +24,9 @@ def real_meson() -> str | None:
 
 
 def said(path: str, word: str) -> str:
+    """Returns what a command prints. It runs at the root, so that no PYTHONPATH with an empty part names a folder of the project."""
     try:
-        return run([path, word], seconds=LONGEST, variables=dict(os.environ)).printed
+        return run([path, word], "/", seconds=LONGEST, variables=dict(os.environ)).printed
     except NoAnswer:
         return ""
 

@@ -75,7 +75,7 @@ def sources(project: Project) -> Iterator[Change]:
         is_link = site.call.name == "links"
         code, ending = source_of(project, site), ending_of(project, site)
         if code is None or ending is None:
-            why = "its source is not one plain text" if code is None else "it asks for more than one thing by the same words"
+            why = "its source is not one plain text" if code is None else "it asks for more than one thing with the same arguments"
             project.doubt(site, f"{site.call.name}: {why}")
             continue
         if is_link and not is_linked_whole(site, code):

@@ -2,6 +2,7 @@
 from __future__ import annotations
 
 import os
+import sys
 import tempfile
 from collections.abc import Callable
 
@@ -26,8 +27,9 @@ def program_of(given: str | None) -> str | None:
 
 
 def machine_file(program: str, root: str, words: list[str]) -> bytes:
-    """A machine file of the sources, as far as one can be made."""
-    command = [os.path.join(CHECKOUT, "tools", "machine-file"), program, "machine-file", *words, root]
+    """Returns the text of a machine file of the sources, empty if none can be made."""
+    # Isolated, as the command starts it: else a PYTHONPATH with an empty part would have it import modules of the project.
+    command = [sys.executable, "-I", "-S", os.path.join(CHECKOUT, "tools", "machine-file"), program, "machine-file", *words, root]
     # It is asked to end first, since it ends its compilers and takes its folder away.
     return run(command, seconds=LONGEST, variables=dict(os.environ), most=MOST_TOLD, is_asked_first=True).printed.encode()
 

@@ -1,4 +1,4 @@
-"""Checks that are asked twice with other words beside them: each of them gets a name of its own, and so an answer of its own."""
+"""Checks that are asked twice with other arguments: each of them gets a name of its own, and so an answer of its own."""
 from __future__ import annotations
 
 import re
@@ -36,7 +36,7 @@ def asked_twice(project: Project) -> Iterator[Change]:
             continue
         alias = given.get((*key, *words)) or names.free("check_" + identifier(name))
         given[(*key, *words)] = alias
-        yield site.change(f"{site.call.name} {name}, which is asked before with other words beside it, becomes {alias}",
+        yield site.change(f"{site.call.name} {name}, which is asked before with other arguments, becomes {alias}",
                           replaced(site, site.call.arguments[0], escaped(alias)), *after_prefix(site, escaped(text.replace("\0", alias))))
 
 
