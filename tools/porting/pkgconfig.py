@@ -230,7 +230,9 @@ class Writer(Needs):
         said = {part.text for part in libs} | names_of(requires)
         hidden = [it for it in private if name_of(it.text) not in said and it.where != "cflags"]
         requires_private = merged([it for it in requires_private if it.text is None or name_of(it.text) not in said], [])
-        below = self.as_parts("requires_private", [it for it in hidden if it.where == "requires"])
+        # A package that the call names too is wanted once, with the versions of both.
+        below = merged(self.as_parts("requires_private", [it for it in hidden if it.where == "requires"]), requires_private)
+        requires_private = [it for it in requires_private if it.text is None or name_of(it.text) not in names_of(below)]
         libs_below = self.as_parts("libs_private", [it for it in hidden if it.where == "libs"])
         requires_private = below_shared(below) + requires_private
         libs_private = self.private_libs() + below_shared(libs_below)
