@@ -12,7 +12,7 @@ import time
 
 from tools.asking.evidence import Evidence, Stamp, stamp_of
 
-FORM = 1
+FORM = 2  # another number where the file has another form, or an answer another meaning: what was kept before is then not taken
 FOLDER, NAME = "hawkottoman", "answers.json"
 MOST_BYTES, MOST_ANSWERS = 2**24, 100_000
 # Variables that change no answer; any other one is part of the question.
