@@ -4,11 +4,15 @@ Each is kept by the whole question, the compiler and the environment, with its e
 was. A cache that is damaged, or isn't the user's, counts as empty, and one that can't be written is left alone.
 """
 import contextlib
-import hashlib
 import json
 import os
 import stat
 import time
+
+try:
+    from _blake2 import blake2b  # `hashlib` has it too, and loads all of OpenSSL first
+except ImportError:
+    from hashlib import blake2b
 
 from tools.asking.evidence import Evidence, Stamp, stamp_of
 
@@ -33,7 +37,7 @@ def cache_path() -> str | None:
 def label_of(question: object) -> str:
     """A question with the environment, as a short name."""
     around = sorted((name, it) for name, it in os.environ.items() if name not in FREE)
-    return hashlib.blake2b(json.dumps([FORM, question, around]).encode(), digest_size=16).hexdigest()
+    return blake2b(json.dumps([FORM, question, around]).encode(), digest_size=16).hexdigest()
 
 
 class Kept:
