@@ -100,16 +100,25 @@ def test_kept() -> None:
     check("kept answers: with another environment it asks", len(other.calls) > 5, other.calls)
 
 
+# A type that an old standard lacks, and a check that it decides about.
+OF_STANDARD = """is_new = cc.has_type('new_t', prefix: '#if __STDC_VERSION__ >= 199901L\\ntypedef int new_t;\\n#endif')
+cc.has_header(is_new ? 'stdio.h' : 'stdlib.h')
+"""
+
+
 def test_other_definitions() -> None:
     """The machine file that came last is no answer: what a project asks now counts, and the options that it has now."""
     begin()
-    first = Asked()
-    put("kept/project/meson.build", PROJECT.replace("'c')", "'c', default_options: 'c_args=-Dlater_t=int')", 1) +
-        "cc.has_type('later_t') ? cc.has_header('stdio.h') : cc.has_header('stdlib.h')\n")
-    other, anew = Asked(), Asked("--no-cache")
-    wanted = {"has_type later_t = true", "has_header stdio.h = true"}
-    check("kept answers: other definitions", wanted <= other.lines == anew.lines, other.lines ^ anew.lines)
-    put("kept/project/meson.build", PROJECT + PACKAGES * HAS_PACKAGES)
+    first, definitions = Asked(), PROJECT + PACKAGES * HAS_PACKAGES
+    for name, text, wanted in (
+            ("a question more", definitions + OF_STANDARD, {"has_type new_t = true", "has_header stdio.h = true"}),
+            ("an older standard", definitions.replace("'c')", "'c', default_options: 'c_std=gnu89')", 1) + OF_STANDARD,
+             {"has_type new_t = false", "has_header stdlib.h = true"})):
+        put("kept/project/meson.build", text)
+        other, anew = Asked(), Asked("--no-cache")
+        is_good = wanted <= other.lines and other.lines == anew.lines
+        check(f"kept answers: other definitions: {name}", is_good, f"{other.lines ^ anew.lines} {other.lines}")
+    put("kept/project/meson.build", definitions)
     again = Asked()
     check("kept answers: the first definitions", again.lines == first.lines and again.calls == [], again.lines ^ first.lines)
 
