@@ -7,10 +7,11 @@
     bench/machine.py --program PATH ..  another program than this checkout's
     bench/machine.py --rounds N ..      with so many runs of each, of which the least is shown
 
-Each round makes a run of each, one after the other, in folders of a build that aren't there before. `cold` is with an empty cache of
-answers, `warm` with that of the run before, `alone` with each check compiled by itself and no cache. `program` is `setup` alone. `meson`
-and `muon` are those of PATH, where they are there and take the project. Times are by the clock, in seconds; with --processor they are
-the processor's, which other work on the machine changes less.
+The command is installed into a temporary folder first, as its modules are compiled there. Each round makes a run of each, one after the
+other, in folders of a build that aren't there before. `cold` is with an empty cache of answers, `warm` with that of the run before, `alone`
+with each check compiled by itself and no cache. `program` is `setup` of the program alone. `meson` and `muon` are those of PATH, where they
+are there and take the project. Times are by the clock, in seconds; with --processor they are the processor's, which other work on the
+machine changes less.
 """
 import argparse
 import os
@@ -20,6 +21,7 @@ import tempfile
 
 sys.dont_write_bytecode = True
 
+from commands import copied, installed  # noqa: E402
 from running import Ran, others, ran  # noqa: E402
 
 CHECKOUT = os.path.dirname(os.path.dirname(os.path.realpath(__file__)))
@@ -32,9 +34,9 @@ BUILD, MACHINE = "build-measured", "measured.ini"
 class Measured:
     """One project: a copy as it is, and one that is ported. `clock` is the field of a run that counts: `wall` or `processor`."""
 
-    def __init__(self, source: str, scratch: str, program: str, clock: str) -> None:
+    def __init__(self, source: str, scratch: str, program: str, command: str, clock: str) -> None:
         name = os.path.basename(os.path.abspath(source))
-        self.name, self.program, self.clock = name, program, clock
+        self.name, self.program, self.command, self.clock = name, program, command, clock
         self.plain, self.ported = (os.path.join(scratch, it, name) for it in ("plain", "ported"))
         for folder in (self.plain, self.ported):
             shutil.copytree(source, folder, symlinks=True)
@@ -54,16 +56,16 @@ class Measured:
             self.least[column] = min(whole, self.least.get(column, whole))
 
     def port(self) -> None:
-        words = [os.path.join(CHECKOUT, "tools", "port"), "--run", "--no-build", "--no-real", "--program", self.program, self.ported]
-        self.take("port", self.run(words, self.ported))
+        self.take("port", self.run([self.command, "port", "--run", "--no-build", "--no-real", self.ported], self.ported))
+
+    def made(self, command: str) -> list[Ran]:
+        """`setup` into an empty folder, with the machine file that was asked last."""
+        shutil.rmtree(os.path.join(self.ported, BUILD), ignore_errors=True)
+        return self.run([command, "setup", "--native-file", MACHINE, BUILD], self.ported)
 
     def ours(self, column: str, *words: str) -> None:
-        asks = [os.path.join(CHECKOUT, "tools", "machine-file"), self.program, "machine-file", *words, "."]
-        shutil.rmtree(os.path.join(self.ported, BUILD), ignore_errors=True)
-        asked = self.run(asks, self.ported, MACHINE)
-        made = self.run([self.program, "setup", "--native-file", MACHINE, BUILD], self.ported)
-        self.take(column, asked + made, 2)
-        self.take("program", made)
+        asked = self.run([self.command, "machine-file", *words, "."], self.ported, MACHINE)
+        self.take(column, asked + self.made(self.command), 2)
 
     def round(self) -> None:
         for name, path in others().items():
@@ -73,6 +75,7 @@ class Measured:
         self.ours("cold")
         self.ours("warm")
         self.ours("alone", "--alone", "--no-cache")
+        self.take("program", self.made(self.program))
 
     def line(self) -> str:
         found = [f"{self.least[it]:.2f}" if it in self.least else "-" for it in COLUMNS]
@@ -92,8 +95,10 @@ def main() -> int:
     print(f"| project | {' | '.join(COLUMNS)} | cold over meson | warm over meson |\n|{'---|' * (len(COLUMNS) + 3)}", flush=True)
     with tempfile.TemporaryDirectory(prefix="machine-") as scratch:
         os.environ["XDG_CACHE_HOME"] = os.path.join(scratch, "cache")
+        program = os.path.abspath(words.program)
+        command = installed(copied(program, os.path.join(scratch, "checkout")), os.path.join(scratch, "prefix"))
         for source in words.folders or EXAMPLES:
-            it = Measured(source, scratch, os.path.abspath(words.program), "processor" if words.processor else "wall")
+            it = Measured(source, scratch, program, command, "processor" if words.processor else "wall")
             it.port()
             for _ in range(words.rounds):
                 it.round()

@@ -55,7 +55,7 @@ def variables() -> dict[str, str]:
 
 
 class Asked:
-    """What a run of `meson machine-file` gave, and how often it has called the compiler."""
+    """What a run of `meson machine-file` gave, and how often it has called the compiler and the program."""
 
     def __init__(self, *words: str, env: dict[str, str] | None = None) -> None:
         log = put("kept/log", "")
@@ -63,6 +63,7 @@ class Asked:
         done = run([sys.executable, "-c", COUNTING, *command], {**variables(), "COUNTED": log, **(env or {})})
         is_question = lambda line: line.startswith(variables()["CC"]) and "--version" not in line and "-print-search-dirs" not in line
         self.calls = [it for it in read(log).splitlines() if is_question(it)]
+        self.runs = sum(it.startswith("meson questions ") for it in read(log).splitlines())
         self.said, self.status = done.stderr, done.returncode
         self.lines = set(done.stdout.splitlines())
 
@@ -88,6 +89,7 @@ def test_kept() -> None:
     second = Asked()
     check("kept answers: the second run asks nothing", second.calls == [], second.calls)
     check("kept answers: the second run says the same", second.lines == first.lines, second.lines ^ first.lines)
+    check("kept answers: the second run runs the program once", second.runs == 1 < first.runs, f"{first.runs} {second.runs}")
     anew = Asked("--no-cache")
     check("kept answers: --no-cache asks again", len(anew.calls) > 5 and anew.lines == first.lines, anew.calls)
     alone = Asked("--alone")
@@ -96,6 +98,29 @@ def test_kept() -> None:
     check("kept answers: other words are asked for", len(other.calls) > 5, other.calls)
     other = Asked(env={"CPATH": f"{WORK}/kept"})
     check("kept answers: with another environment it asks", len(other.calls) > 5, other.calls)
+
+
+# A type that an old standard lacks, and a check that it decides about.
+OF_STANDARD = """is_new = cc.has_type('new_t', prefix: '#if __STDC_VERSION__ >= 199901L\\ntypedef int new_t;\\n#endif')
+cc.has_header(is_new ? 'stdio.h' : 'stdlib.h')
+"""
+
+
+def test_other_definitions() -> None:
+    """The machine file that came last is no answer: what a project asks now counts, and the options that it has now."""
+    begin()
+    first, definitions = Asked(), PROJECT + PACKAGES * HAS_PACKAGES
+    for name, text, wanted in (
+            ("a question more", definitions + OF_STANDARD, {"has_type new_t = true", "has_header stdio.h = true"}),
+            ("an older standard", definitions.replace("'c')", "'c', default_options: 'c_std=gnu89')", 1) + OF_STANDARD,
+             {"has_type new_t = false", "has_header stdlib.h = true"})):
+        put("kept/project/meson.build", text)
+        other, anew = Asked(), Asked("--no-cache")
+        is_good = wanted <= other.lines and other.lines == anew.lines
+        check(f"kept answers: other definitions: {name}", is_good, f"{other.lines ^ anew.lines} {other.lines}")
+    put("kept/project/meson.build", definitions)
+    again = Asked()
+    check("kept answers: the first definitions", again.lines == first.lines and again.calls == [], again.lines ^ first.lines)
 
 
 # What changes on the machine, and a line of the machine file that comes of it.
@@ -157,4 +182,4 @@ def test_damage() -> None:
     os.remove(os.path.dirname(path))
 
 
-TESTS = (test_kept, test_changes, test_damage)
+TESTS = (test_kept, test_other_definitions, test_changes, test_damage)

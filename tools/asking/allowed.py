@@ -20,6 +20,7 @@ LINKED = re.compile(r"[^-/,@][^/,@]*", re.DOTALL)  # is no option and no file
 FORMS = re.compile(r"-[DU]\w+(?:\(.*?\))?(?:=.*)?|-std=[a-z0-9+:]+|-W(?![lpa],)[\w+.,=:#-]*|-l:?[\w.+-]+|-z[a-z][\w=-]*|-u\w+"
                    r"|--param=[\w-]+=\d+|-f(?:debug|file|macro|profile|coverage)-prefix-map=" + PATH +
                    r"|-Wl,--?rpath[,=](?:[^-,@][^,@]*)?", re.DOTALL)
+STARRED = frozenset("abcdefghijklmnopqrstuvwxyzABCDEFGHIJKLMNOPQRSTUVWXYZ0123456789.-")
 OF_FOLDERS = ("-I", "-isystem", "-iquote", "-idirafter")
 # Words that take the next one as their value: a macro, a keyword of the linker, a folder of headers.
 TAKES_NEXT = {"-D": re.compile(r"\w.*", re.DOTALL), "-U": re.compile(r"\w+"), "-z": re.compile(r"[a-z][\w=-]*"), "-u": re.compile(r"\w+"),
@@ -31,8 +32,25 @@ LIBRARY = re.compile(f"/{PATH}" + r"\.(?:a|so(?:\.\d+)*)")
 SYMBOLS = re.compile(f"-Wl,--?(?:version-script|dynamic-list)[,=]({LINKED_PATH})")
 
 
-def read_tables() -> dict[str, re.Pattern[str]]:
-    """Returns for each table a pattern of the names in it."""
+class Names:
+    """The names of a table. A `*` in a name stands for letters, digits, dots and dashes."""
+
+    def __init__(self, names: list[str]) -> None:
+        self.plain = {it for it in names if "*" not in it}
+        self.forms = [it.split("*") for it in names if "*" in it]
+
+    def __contains__(self, word: str) -> bool:
+        return word in self.plain or any(word.startswith(before) and is_between(word, before, after) for before, after in self.forms)
+
+
+def is_between(word: str, before: str, after: str) -> bool:
+    """Whether only what a `*` stands for is between the beginning of a word and this end."""
+    rest = word[len(before):]
+    return rest.endswith(after) and STARRED.issuperset(rest[:len(rest) - len(after)])
+
+
+def read_tables() -> dict[str, Names]:
+    """Returns the names of each table."""
     found: dict[str, list[str]] = {}
     title = ""
     with open(TABLES, encoding="utf-8") as it:
@@ -41,7 +59,7 @@ def read_tables() -> dict[str, re.Pattern[str]]:
                 title = line.strip()[1:-1]
             elif line.strip() and not line.startswith("#"):
                 found.setdefault(title, []).extend(line.split())
-    return {title: re.compile("|".join(re.escape(it).replace(r"\*", "[a-zA-Z0-9.-]*") for it in names)) for title, names in found.items()}
+    return {title: Names(names) for title, names in found.items()}
 
 
 KNOWN = read_tables()
@@ -71,7 +89,7 @@ class Allowed:
 
     def is_allowed(self, word: str) -> bool:
         """Whether a word can be given alone."""
-        if FORMS.fullmatch(word) or KNOWN["words"].fullmatch(word) or is_attached(word):
+        if FORMS.fullmatch(word) or word in KNOWN["words"] or is_attached(word):
             return True
         if is_named(word, "-f", "f") or is_named(word, "-m", "m"):
             return True
@@ -100,7 +118,7 @@ def is_named(word: str, option: str, table: str) -> bool:
     if not word.startswith(option):
         return False
     name, _, value = word.removeprefix(option).partition("=")
-    return VALUE.fullmatch(value) is not None and any(KNOWN[table].fullmatch(it) for it in (name, name.removeprefix("no-")))
+    return VALUE.fullmatch(value) is not None and any(it in KNOWN[table] for it in (name, name.removeprefix("no-")))
 
 
 def is_linker_word(word: str) -> bool:
@@ -113,8 +131,8 @@ def is_linker_word(word: str) -> bool:
         name, _, value = re.sub("^--?", "", part).partition("=")
         if not part.startswith("-"):
             return False
-        if "=" not in part and KNOWN["linker"].fullmatch(name) or re.fullmatch(r"-l:?[\w.+-]+|-z[a-z][\w=-]*", part):
+        if "=" not in part and name in KNOWN["linker"] or re.fullmatch(r"-l:?[\w.+-]+|-z[a-z][\w=-]*", part):
             continue
-        if not KNOWN["linker="].fullmatch(name) or not LINKED.fullmatch(value if "=" in part else next(waiting, "")):
+        if name not in KNOWN["linker="] or not LINKED.fullmatch(value if "=" in part else next(waiting, "")):
             return False
     return True

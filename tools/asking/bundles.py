@@ -20,35 +20,36 @@ from tools.asking.compiler import MAIN, Compiler, Flags
 
 DIGITS = 19  # of a number
 ROUNDS = 4  # compilations of one bundle: each leaves out what the one before has refused
-WORD = re.compile(r"[A-Za-z_]\w*")
-TYPE = re.compile(r"(?:\w+ )*\w+(?: ?\*+)?(?: ?\[\d+\])?")
-MEMBER = re.compile(r"\w+(?:\.\w+)*")
-HEADER = re.compile(r"[\w./+-]+")
+# Patterns are texts: each is compiled when it is used first, and a run whose answers are kept uses none.
+WORD = r"[A-Za-z_]\w*"
+TYPE = r"(?:\w+ )*\w+(?: ?\*+)?(?: ?\[\d+\])?"
+MEMBER = r"\w+(?:\.\w+)*"
+HEADER = r"[\w./+-]+"
 # Names that the system's headers read, one that each program defines, and those of the language.
-TAKEN = re.compile(r"_[A-Z]\w*|__builtin_\w*|main|defined|auto|break|case|char|const|continue|default|do|double|else|enum|extern|float|for"
-                   r"|goto|if|inline|int|long|register|restrict|return|short|signed|sizeof|static|struct|switch|typedef|union|unsigned|void"
-                   r"|volatile|while")
+TAKEN = (r"_[A-Z]\w*|__builtin_\w*|main|defined|auto|break|case|char|const|continue|default|do|double|else|enum|extern|float|for"
+         r"|goto|if|inline|int|long|register|restrict|return|short|signed|sizeof|static|struct|switch|typedef|union|unsigned|void"
+         r"|volatile|while")
 # The lines of a text before checks that leaves nothing open, but for conditions, which are counted.
-LINE = re.compile(r"""\s*(?:\#\s*(?:include\s*(?:<[\w./+-]+>|"[\w./+-]+")|(?:define|undef|ifdef|ifndef)\s+\w+(?:\s+[\w +-]*)?
-                      |if\s+[\w !()&|<>=]+|else|endif))?\s*""", re.VERBOSE | re.ASCII)
+LINE = r"""(?xa)\s*(?:\#\s*(?:include\s*(?:<[\w./+-]+>|"[\w./+-]+")|(?:define|undef|ifdef|ifndef)\s+\w+(?:\s+[\w +-]*)?
+                      |if\s+[\w !()&|<>=]+|else|endif))?\s*"""
 # What an error says that means no more than that a name is not known; the name is the first group.
-NOT_KNOWN = re.compile(r"'([^']*)' undeclared\b|unknown type name '([^']*)'|use of undeclared identifier '([^']*)'"
-                       r"|invalid application of 'sizeof' to (?:an )?incomplete type '([^']*)'"
-                       r"|'[^']*' has no member named '([^']*)'|no member named '([^']*)' in '[^']*'"
-                       r"|variable has incomplete type '([^']*)'")
-NOT_COMPLETE = re.compile(r"storage size of 'foo' isn't known|field 'target' has incomplete type|#error")
-NO_HEADER = re.compile(r"fatal error: (?:[^ ]+: No such file or directory|'[^']+' file not found)")
+NOT_KNOWN = (r"'([^']*)' undeclared\b|unknown type name '([^']*)'|use of undeclared identifier '([^']*)'"
+             r"|invalid application of 'sizeof' to (?:an )?incomplete type '([^']*)'"
+             r"|'[^']*' has no member named '([^']*)'|no member named '([^']*)' in '[^']*'"
+             r"|variable has incomplete type '([^']*)'")
+NOT_COMPLETE = r"storage size of 'foo' isn't known|field 'target' has incomplete type|#error"
+NO_HEADER = r"fatal error: (?:[^ ]+: No such file or directory|'[^']+' file not found)"
 # Words that change no other word's meaning, and what the compiler says of one that it doesn't know.
-FREE = re.compile(r"-W(?!(?:no-)?(?:error|fatal))[a-z][\w+-]*(?:=\w+)?|-f(?:no-[a-z-]+|visibility=hidden|stack-[a-z-]+|strict-[a-z-]+)")
-NO_WORD = re.compile(r".*error: (?:unrecognized command[- ]line option|unknown warning option|unknown argument:|missing argument to"
-                     r"|argument to) "
-                     r"'([^'=]+)=?'.*"
-                     r"|.*command[- ]line option '([^']+)' is valid for C\+\+/ObjC\+\+ but not for C.*")
-UNDEFINED = re.compile(r"(?:undefined reference to [`']|undefined symbol: )([^'\s]+)")
-ERROR = re.compile(r"(?:^|: )(?:fatal )?error: ")
+FREE = r"-W(?!(?:no-)?(?:error|fatal))[a-z][\w+-]*(?:=\w+)?|-f(?:no-[a-z-]+|visibility=hidden|stack-[a-z-]+|strict-[a-z-]+)"
+NO_WORD = (r".*error: (?:unrecognized command[- ]line option|unknown warning option|unknown argument:|missing argument to"
+           r"|argument to) "
+           r"'([^'=]+)=?'.*"
+           r"|.*command[- ]line option '([^']+)' is valid for C\+\+/ObjC\+\+ but not for C.*")
+UNDEFINED = r"(?:undefined reference to [`']|undefined symbol: )([^'\s]+)"
+ERROR = r"(?:^|: )(?:fatal )?error: "
 # Errors that say that there were others.
-SUMMARY = re.compile(r"collect2: error: ld returned \d+ exit status|.*error: linker command failed .*"
-                     r"|fatal error: too many errors emitted.*")
+SUMMARY = (r"collect2: error: ld returned \d+ exit status|.*error: linker command failed .*"
+           r"|fatal error: too many errors emitted.*")
 
 
 @dataclasses.dataclass(frozen=True)
@@ -71,25 +72,26 @@ def is_closed(prefix: str) -> bool:
     """Whether a text consists of whole directives, so that what follows it is read as it stands."""
     lines = prefix.split("\n")
     opens = sum(re.match(r"\s*#\s*if", it) is not None for it in lines)
-    return all(map(LINE.fullmatch, lines)) and opens == sum(re.match(r"\s*#\s*endif", it) is not None for it in lines)
+    return all(re.fullmatch(LINE, it) for it in lines) and opens == sum(re.match(r"\s*#\s*endif", it) is not None for it in lines)
 
 
 def set_of(check: Check) -> tuple[str, str, Flags] | None:
     """The set whose checks are asked together: its family, what stands before them, their words. None where it is asked alone."""
     method, (a, b) = arguments_of(check.key)[0], (*arguments_of(check.key)[1], "")[:2]
-    if method == "has_argument" and FREE.fullmatch(a):
+    if method == "has_argument" and re.fullmatch(FREE, a):
         return method, "", Flags()
     if not is_closed(check.prefix):
         return None
-    if method == "has_header" and HEADER.fullmatch(a):
+    if method == "has_header" and re.fullmatch(HEADER, a):
         return method, check.prefix, check.flags
-    if method in ("has_type", "has_member") and TYPE.fullmatch(a) and (method == "has_type" or MEMBER.fullmatch(b)):
+    if method in ("has_type", "has_member") and re.fullmatch(TYPE, a) and (method == "has_type" or re.fullmatch(MEMBER, b)):
         return "compile", check.prefix, check.flags
-    if method in ("has_header_symbol", "check_header") and HEADER.fullmatch(a) and (method == "check_header" or WORD.fullmatch(b)):
+    is_symbol = method == "has_header_symbol" and re.fullmatch(WORD, b)
+    if (is_symbol or method == "check_header") and re.fullmatch(HEADER, a):
         return "compile", f"{check.prefix}\n#include <{a}>".removeprefix("\n"), check.flags
-    if method == "has_function" and WORD.fullmatch(a) and not TAKEN.fullmatch(a):
+    if method == "has_function" and re.fullmatch(WORD, a) and not re.fullmatch(TAKEN, a):
         return method, check.prefix, check.flags
-    return (method, check.prefix, check.flags) if method in NUMBERS and TYPE.fullmatch(a) else None
+    return (method, check.prefix, check.flags) if method in NUMBERS and re.fullmatch(TYPE, a) else None
 
 
 def bundles_of(checks: list[Check]) -> tuple[list[list[Check]], list[Check]]:
@@ -148,7 +150,7 @@ def ask_words(compiler: Compiler, bundle: list[Check]) -> Answers:
             break
         done = compiler.attempt("compile", OF_ARGUMENT, Flags(tuple(word for words in left.values() for word in words)), hears=True)
         lines = [it for it in done.said.split("\n") if "error: " in it or "is valid for C++/ObjC++" in it]
-        matches = [NO_WORD.fullmatch(it) for it in lines]
+        matches = [re.fullmatch(NO_WORD, it) for it in lines]
         named = {it for match in matches if match for it in match.groups()}
         refused = [check for check, words in left.items() if named & set(words)]
         if done.is_good and not lines:
@@ -197,26 +199,26 @@ class Unit:
         by_function = {argument_of(it): self.name(it) for it in self.bundle}
         found: dict[str, bool] = {}
         for line in said.split("\n"):
-            undefined = UNDEFINED.search(line)
+            undefined = re.search(UNDEFINED, line)
             match = re.match(r"([^:\s]+):\d+:(?:\d+:)? (?:fatal )?error: (.*)", line)
             if undefined and undefined[1] in by_function:
                 found.setdefault(by_function[undefined[1]], True)
             elif match and match[1] in checks:
                 found.setdefault(match[1], is_understood(match[2], checks[match[1]]))
-            elif match and NO_HEADER.search(line) and "limits.h" not in line:
+            elif match and re.search(NO_HEADER, line) and "limits.h" not in line:
                 # It stands before all checks, none of which includes a header.
                 self.has_no_header = True
                 return dict.fromkeys(checks, True)
-            elif undefined or ERROR.search(line) and not SUMMARY.fullmatch(line.strip()):
+            elif undefined or re.search(ERROR, line) and not re.fullmatch(SUMMARY, line.strip()):
                 return None
         return found
 
 
 def is_understood(said: str, check: Check) -> bool:
     """Whether an error says that a name is not known that this check asks for."""
-    match = NOT_KNOWN.match(said)
+    match = re.match(NOT_KNOWN, said)
     if not match:
-        return NOT_COMPLETE.match(said) is not None
+        return re.match(NOT_COMPLETE, said) is not None
     named = next(it for it in match.groups() if it is not None)
     asked = {it for argument in arguments_of(check.key)[1] for it in re.findall(r"\w+", argument)}
     return set(re.findall(r"\w+", named)) <= asked

@@ -4,15 +4,19 @@ Each is kept by the whole question, the compiler and the environment, with its e
 was. A cache that is damaged, or isn't the user's, counts as empty, and one that can't be written is left alone.
 """
 import contextlib
-import hashlib
 import json
 import os
 import stat
 import time
 
+try:
+    from _blake2 import blake2b  # `hashlib` has it too, and loads all of OpenSSL first
+except ImportError:
+    from hashlib import blake2b
+
 from tools.asking.evidence import Evidence, Stamp, stamp_of
 
-FORM = 1
+FORM = 2  # another number where the file has another form, or an answer another meaning: what was kept before is then not taken
 FOLDER, NAME = "hawkottoman", "answers.json"
 MOST_BYTES, MOST_ANSWERS = 2**24, 100_000
 # Variables that change no answer; any other one is part of the question.
@@ -33,7 +37,7 @@ def cache_path() -> str | None:
 def label_of(question: object) -> str:
     """A question with the environment, as a short name."""
     around = sorted((name, it) for name, it in os.environ.items() if name not in FREE)
-    return hashlib.blake2b(json.dumps([FORM, question, around]).encode(), digest_size=16).hexdigest()
+    return blake2b(json.dumps([FORM, question, around]).encode(), digest_size=16).hexdigest()
 
 
 class Kept:

@@ -6,7 +6,6 @@ runs in a sandbox (sandbox.py).
 """
 import functools
 import os
-import platform
 import re
 import shlex
 import shutil
@@ -90,13 +89,14 @@ class Compiler:
         self.itself += [[it, stamp_of(it)] for it in tools]
         self.id = "clang" if "__clang__" in defined else "gcc" if "__GNUC__" in defined else "unknown"
         self.version = (re.search(r"\d+(\.\d+)+", defined.get("__VERSION__", "")) or ["unknown"])[0]
-        cpu = platform.machine() or "unknown"
+        system = os.uname()
+        cpu = system.machine or "unknown"
         if cpu == "x86_64" and "__x86_64__" not in defined:
             cpu = "i686"
         families = {r"i.86": "x86", r"aarch64.*|arm64": "aarch64", r"arm.*": "arm", r"ppc64.*|powerpc64.*": "ppc64"}
         family = next((family for form, family in families.items() if re.fullmatch(form, cpu)), cpu)
         endian = "big" if defined.get("__BYTE_ORDER__") == "__ORDER_BIG_ENDIAN__" else "little"
-        self.host = {"system": platform.system().lower(), "cpu_family": family, "cpu": cpu, "endian": endian}
+        self.host = {"system": system.sysname.lower(), "cpu_family": family, "cpu": cpu, "endian": endian}
 
     def found_out(self) -> tuple[dict[str, str], list[str]]:
         """What the compiler defines before all sources, and the programs that it runs."""
@@ -124,6 +124,8 @@ class Compiler:
         for name, words, own in (("c_args", c_args, self.c_args), ("c_link_args", c_link_args, self.c_link_args)):
             if words == own or any(it.startswith(f"-D{name}=") for it in given):
                 continue
+            if not self.has_words_of_project:
+                self.choose_sandbox()  # by the user's words, before there are any of the project
             self.has_words_of_project = True
             refused = self.allowed.refused(words)
             if refused is not None:
@@ -158,14 +160,19 @@ class Compiler:
 
     def fault_of_empty(self) -> str:
         """Why it can't compile and link an empty program; empty where it can."""
-        for mode in ("compile", "link"):
-            done = self.attempt(mode, MAIN, Flags(tuple(self.standard)), hears=True)
-            if not done.is_good:
-                given = shlex.join([*self.c, *self.standard, *self.c_args, *(self.c_link_args if mode == "link" else [])])
-                return f"the C compiler can't {mode} an empty program: `{given}`: {done.why}"
+        # Other compilers than GCC compile with words of their own. GCC compiles to link, so what it links it compiles.
+        fault = (self.id != "gcc" and self.fault_of("compile")) or self.fault_of("link")
+        if fault:
+            return self.fault_of("compile") or fault
         asked = [*pkg_config(), "--version"]
         is_broken = not self.ask(asked).is_good and run(asked, self.scratch).is_good
         return "pkg-config doesn't work in the sandbox" if is_broken else ""
+
+    def fault_of(self, mode: str) -> str:
+        """Why it can't take an empty program in this way; empty where it can."""
+        done = self.attempt(mode, MAIN, Flags(tuple(self.standard)), hears=True)
+        given = shlex.join([*self.c, *self.standard, *self.c_args, *(self.c_link_args if mode == "link" else [])])
+        return "" if done.is_good else f"the C compiler can't {mode} an empty program: `{given}`: {done.why}"
 
     def in_sandbox(self, words: list[str], folder: str, hears: bool = True) -> Done:
         """Runs a command that may write in this folder alone."""

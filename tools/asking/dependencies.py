@@ -95,9 +95,15 @@ BY_COMPILING: dict[str, Callable[[Compiler], Found | None]] = {
     "iconv": of_c_library("iconv.h", 'iconv_open("", "")', "iconv"), "intl": of_c_library("libintl.h", 'gettext("Hello world")', "intl")}
 
 
+# Packages whose headers alone are used: their libraries are static, and are no part of another library.
+OF_HEADERS = ("valgrind",)
+
+
 def dependency(compiler: Compiler, name: str) -> Found | None:
     """The lines of its section, or none where it isn't found."""
     if not is_package(name):
         raise NoAnswer("is not asked: pkg-config would read the file of this name, or take it for other arguments")
-    by_compiling = BY_COMPILING.get(name)
-    return of_pkg_config(compiler, name) or (by_compiling(compiler) if by_compiling else None)
+    by_compiling, package = BY_COMPILING.get(name), of_pkg_config(compiler, name)
+    if package and name in OF_HEADERS:
+        return {**package, "link_args": []}
+    return package or (by_compiling(compiler) if by_compiling else None)

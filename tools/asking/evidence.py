@@ -13,11 +13,11 @@ from tools.files import read_bytes
 
 MOST_BYTES = 1 << 24  # of a header or a package
 Stamp = list[int] | None
-INCLUDE = re.compile(r"#\s*include\s*[<\"]([^>\"\n]+)[>\"]|__has_include(?:_next)?\s*\(\s*[<\"]([^>\"\n]+)[>\"]")
-MISSING = re.compile(r"fatal error: '?([^:'\n]+)'?(?:: No such file or directory| file not found)")
-OPENED = re.compile(r"^attempt to open (/.*) (succeeded|failed)$", re.M)
-LINKER_RAN = re.compile(r"ld returned \d+ exit status|linker command failed")
-BAD_OPTION = re.compile(r"\bld(?:\.\w+)?: unrecognized option ")  # with which it opens no file
+INCLUDE = r"#\s*include\s*[<\"]([^>\"\n]+)[>\"]|__has_include(?:_next)?\s*\(\s*[<\"]([^>\"\n]+)[>\"]"
+MISSING = r"fatal error: '?([^:'\n]+)'?(?:: No such file or directory| file not found)"
+OPENED = r"(?m)^attempt to open (/.*) (succeeded|failed)$"
+LINKER_RAN = r"ld returned \d+ exit status|linker command failed"
+BAD_OPTION = r"\bld(?:\.\w+)?: unrecognized option "  # with which it opens no file
 HERE = threading.local()  # `gathers`: the evidence of the question that this thread answers
 
 
@@ -73,7 +73,7 @@ def add_headers(evidence: Evidence, source: str, said: str, headers: list[tuple[
     if folders is None:
         evidence.is_whole = False
         return
-    names = {name for pair in INCLUDE.findall(source) for name in pair if name} | set(MISSING.findall(said))
+    names = {name for pair in re.findall(INCLUDE, source) for name in pair if name} | set(re.findall(MISSING, said))
     above: list[str] = []
     for depth, path in headers:
         del above[depth - 1:]
@@ -92,7 +92,7 @@ def of_conditions(path: str) -> set[str]:
     """The headers of which a header asks whether they are there."""
     if path not in CONDITIONS:
         text = text_of(path)
-        CONDITIONS[path] = {name for _, name in INCLUDE.findall(text) if name} if "__has_include" in text else set()
+        CONDITIONS[path] = {name for _, name in re.findall(INCLUDE, text) if name} if "__has_include" in text else set()
     return CONDITIONS[path]
 
 
@@ -106,8 +106,8 @@ def text_of(path: str) -> str:
 
 def add_linked(evidence: Evidence, is_good: bool, printed: str, said: str) -> None:
     """What the linker has opened, or has looked for in vain; a linker that doesn't say so leaves the evidence with a gap."""
-    opened = OPENED.findall(printed)
-    if not opened and (is_good or LINKER_RAN.search(said)) and not BAD_OPTION.search(said):
+    opened = re.findall(OPENED, printed)
+    if not opened and (is_good or re.search(LINKER_RAN, said)) and not re.search(BAD_OPTION, said):
         evidence.is_whole = False
     # What was opened and is gone was made for this link.
     evidence.paths |= {path for path, how in opened if how == "failed" or os.path.exists(path)}

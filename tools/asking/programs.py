@@ -12,7 +12,7 @@ CALLED = ("cc1", "collect2", "lto1", "lto-wrapper", "as", "ld", "ld.bfd", "ld.go
 # Commands that run the compiler that is named after them.
 LAUNCHERS = ("ccache", "sccache", "distcc", "icecc")
 INTERPRETER = 3  # the kind of an ELF file's segment that names the loader
-MOST_BYTES = 1 << 20  # of a program that are read
+FIRST_BYTES, MOST_BYTES = 1 << 16, 1 << 20  # of a program that are read: of an ELF file the first ones, where they name its loader
 DEEPEST = 4  # scripts that call scripts
 
 
@@ -55,8 +55,7 @@ def add_all(found: dict[str, None], paths: list[str], deepest: int) -> None:
         if path in found:
             continue
         found[path] = None
-        with open(path, "rb") as it:
-            head = it.read(MOST_BYTES)
+        head = head_of(path)
         if head.startswith(b"\x7fELF"):
             add_all(found, files_named(loader_of(head), []), 0)
         elif head.startswith(b"#!") and deepest:
@@ -65,10 +64,19 @@ def add_all(found: dict[str, None], paths: list[str], deepest: int) -> None:
             add_all(found, [it for word in whole for it in files_named(word, path_folders())], deepest - 1)
 
 
+def head_of(path: str) -> bytes:
+    """Returns the beginning of a program, with which its loader or its interpreter is found."""
+    with open(path, "rb") as it:
+        head = it.read(FIRST_BYTES)
+        is_enough = head.startswith(b"\x7fELF") and loader_of(head) != "/"
+        return head if is_enough else head + it.read(MOST_BYTES - FIRST_BYTES)
+
+
 def loader_of(head: bytes) -> str:
     """Returns the path of the program that loads an ELF file, or of none that is there."""
     try:
-        places = [(at, size) for kind, at, _, size in Elf(bytearray(head)).segments if kind == INTERPRETER]
+        places = [(at, size) for kind, at, _, size in Elf(bytearray(head)).segments
+                  if kind == INTERPRETER and at + size <= len(head)]
     except (IndexError, OverflowError, ValueError, struct.error):
         places = []
     return "".join(os.fsdecode(head[at:at + size].rstrip(b"\0")) for at, size in places) or "/"

@@ -3,6 +3,7 @@ from __future__ import annotations
 
 import hashlib
 import os
+import re
 import shlex
 import shutil
 import subprocess
@@ -28,7 +29,7 @@ LONGEST = 60
 LARGEST = 1 << 20
 # In a loop of more rounds than these no command is run.
 MOST_ROUNDS = 64
-MARK = "/value-of-the-project"  # stands for a value that a project gives to a variable of a .pc file
+MARK = "/value-of-the-project"  # stands, with a number, for a value that a project gives to a variable of a .pc file
 QUESTIONS = {"exists": os.path.exists, "is_file": os.path.isfile, "is_dir": os.path.isdir, "is_symlink": os.path.islink}
 NOT_ASKED = "needs to be run once: --run does that, and writes down what it prints"
 
@@ -120,11 +121,19 @@ def answers_of(project: Project, site: Site) -> dict[str, str]:
     rounds = project.known.things[site.call]
     commands = [words_of(project, site, it.arguments) for it in rounds[:MOST_ROUNDS]]
     if "env" in site.call.keywords or len(rounds) > MOST_ROUNDS or None in commands:
-        raise NotRun("its arguments can't be followed")
+        missing = missing_program(project, site, rounds)
+        raise NotRun(f"it runs {missing}, which is not installed here" if missing else "its arguments can't be followed")
     done = [outcome(project, site, it) for it in commands if it]
     texts = {"returncode": [str(it.returncode) for it in done], "stdout": [escaped(it.stdout) for it in done],
              "stderr": [escaped(it.stderr) for it in done]}
     return {name: by_round(site, rounds, it) for name, it in texts.items()}
+
+
+def missing_program(project: Project, site: Site, rounds: list[Thing]) -> str:
+    """The program that a command is to run and this machine doesn't have; empty if there is no such program."""
+    first = [it for thing in rounds for it in flat(thing.arguments[0] if thing.arguments else "")[:1]]
+    programs = [it for it in first if it.is_sure and isinstance(it.value, Thing) and it.value.kind == "program"]
+    return next((it.value.name for it in programs if it.value.name and word_of(project, site, it, True) is None), "")
 
 
 def outcome(project: Project, site: Site, words: list[str]) -> subprocess.CompletedProcess[str]:
@@ -340,24 +349,39 @@ def definition_of(site: Site) -> tree.Node | None:
 
 def variable_below(project: Project, site: Site, package: str, name: str) -> Change | None:
     """A variable whose text begins with another one, to which the project gives a value: that value, and an option for the rest."""
-    node = tree.plain(definition_of(site)) if definition_of(site) else None
-    key = text_of(project, node.items[0]) if isinstance(node, tree.List) and len(node.items) == 2 else None
-    if not isinstance(node, tree.List) or key is None:
+    given = definitions_at(project, site)
+    if not given:
         project.doubt(site, f"{site.call.name}: `pkgconfig_define:` can not be followed: an option")
         return None
-    done = run(project, [*pkg_config(), f"--variable={name}", f"--define-variable={key}={MARK}", package], project.root)
-    rest = done.stdout.strip().removeprefix(MARK + "/") if done is not None and done.returncode == 0 else MARK
-    if MARK in rest or rest == "" or rest.startswith("/"):
-        project.doubt(site, f"{site.call.name}: the variable {name} of {package} is none below {key}: an option")
+    defined = [f"--define-variable={key}={MARK}-{number}" for number, (key, _) in enumerate(given)]
+    done = run(project, [*pkg_config(), f"--variable={name}", *defined, package], project.root)
+    if done is None or done.returncode != 0:
+        project.doubt(site, lack_of_variable(project, package, name))
         return None
+    found = re.fullmatch(rf"{MARK}-(\d+)/+([^/].*)", done.stdout.strip())
+    if found is None or MARK in found[2]:
+        keys = " or ".join(key for key, _ in given)
+        project.doubt(site, f"{site.call.name}: the variable {name} of {package} is none below {keys}: an option")
+        return None
+    key, value = given[int(found[1])]
     description = f"The variable {name} of {package}, below its {key}"
     option = option_name(project, f"{identifier(package)}_{identifier(name)}", description)
-    text = f"({site.file.source(node.items[1])}) / get_option('{option}')"
+    text = f"({site.file.source(value)}) / get_option('{option}')"
     change = site.change(f"{site.call.name} becomes the option {option}", replaced(site, site.call, f"({text})"))
     if declared(project, option) is None:
-        line = f"option('{option}', type: 'string', value: {escaped(rest)}, description: {escaped(description)})\n"
+        line = f"option('{option}', type: 'string', value: {escaped(found[2])}, description: {escaped(description)})\n"
         change.edits.append(with_option(project, line))
     return change
+
+
+def definitions_at(project: Project, site: Site) -> list[tuple[str, tree.Node]]:
+    """The variables to which a call gives values, and these; none where a name is not known."""
+    word = definition_of(site)
+    node = tree.plain(word) if word else None
+    items = node.items if isinstance(node, tree.List) else []
+    keys = [text_of(project, it) for it in items[::2]]
+    pairs = [(key, value) for key, value in zip(keys, items[1::2]) if key is not None]
+    return pairs if 2 * len(pairs) == len(items) else []
 
 
 def program_of_variable(project: Project, site: Site, package: str, name: str) -> str | None:

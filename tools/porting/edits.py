@@ -98,6 +98,12 @@ def do_overlap(edits: list[Edit], others: list[Edit]) -> bool:
                for a in edits for b in others)
 
 
+def do_clash(edits: list[Edit]) -> bool:
+    """Whether the first edit of a change and another of it change one place. Lines may be put before what another one replaces."""
+    others = [it for it in edits[1:] if not edits[0].start == edits[0].end == it.start < it.end]
+    return do_overlap(edits[:1], others)
+
+
 class Taken:
     """Edits by the parts of the files in which they are, so that those near an edit are found without a look at all others."""
     PART = 10  # a part has 1,024 characters

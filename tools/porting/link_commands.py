@@ -3,18 +3,24 @@ from __future__ import annotations
 
 from collections.abc import Iterator
 
+from tools.asking.allowed import is_package
+
 from porting import tree
 from porting.edits import Change
 from porting.lexer import escaped
-from porting.needs import WITHOUT_FILE
+from porting.needs import WITHOUT_FILE, Needs, is_nothing
 from porting.objects import KEPT, library_lines
 from porting.project import Project, Site
 from porting.rule import TARGETS, before_statement, can_hoist, free_name, identifier, replaced, text_of
-from porting.values import Many, Thing, flat
+from porting.values import Item, Many, Thing, flat, texts_of
 
 OF_NAME = ("name_prefix", "name_suffix")
 OF_LINK = {*OF_NAME, *KEPT, "link_args", "install", "install_dir", "build_by_default"}
 PROJECT_WORDS = "its link command has neither the project's link arguments nor those of the machine file"
+# Keywords of a dependency that change what is linked.
+CHANGING = {"static", "modules", "components", "method"}
+# How a command is run with what pkg-config says of packages: `$0` is pkg-config, and the rest is the command.
+ASKING = ("libs=$(for it in ", '; do "$0" --libs $it || exit; done) && exec "$@" $libs')
 
 
 class NotFollowed(Exception):
@@ -43,9 +49,10 @@ def linked(project: Project, site: Site) -> Change:
     known = text_of(project, first)
     shown = site.file.source(first)
     output = escaped(f"{prefix}{known}.{suffix}") if known is not None else f"{escaped(prefix)} + {shown} + {escaped('.' + suffix)}"
+    linking = Linking(project, site)
     command = ["find_program('cc')", "'-shared'", "'-o'", "'@OUTPUT@'", "'-Wl,--whole-archive'", name, "'-Wl,--no-whole-archive'"]
     command += [site.file.source(words["link_args"].value)] if "link_args" in words else []
-    command += needed(project, site)
+    command = linking.with_packages(command + linking.words_once())
     text = f"custom_target({shown}, output: {output}, command: [{', '.join(command)}], {', '.join(installed(project, site))})"
     change = site.change(f"{site.call.name} of another name becomes a custom_target with the link command",
                          before_statement(site, library_lines(site, name)), replaced(site, site.call, text))
@@ -71,29 +78,90 @@ def part_of_name(project: Project, site: Site, keyword: str, usual: str) -> str:
     return known
 
 
-def needed(project: Project, site: Site) -> list[str]:
-    """What a module links beside its objects: libraries of the compiler, and static ones of the project."""
-    words = []
-    for keyword in ("link_with", "dependencies"):
-        word = site.call.keywords.get(keyword)
-        node = tree.plain(word.value) if word else None
-        for it in node.items if isinstance(node, tree.List) else [node] if node is not None else []:
-            words += [text for item in flat(project.known.value(it)) for text in needed_of(site, it, item.value, item.is_sure)]
-    return list(dict.fromkeys(words))
+class Linking(Needs):
+    """What a module links after its objects: expressions of the words of its command, and packages."""
 
+    def __init__(self, project: Project, site: Site) -> None:
+        things = project.known.things[site.call]
+        super().__init__(project, things[-1].names if len(things) == 1 else {})
+        self.words: list[str] = []
+        self.packages: list[str] = []  # names of those that are there
+        self.perhaps: list[str] = []  # expressions of the names of others
+        for keyword in ("link_with", "dependencies"):
+            word = site.call.keywords.get(keyword)
+            node = tree.plain(word.value) if word else None
+            for it in node.items if isinstance(node, tree.List) else [node] if node is not None else []:
+                items = flat(project.known.value(it))
+                for item in items:
+                    self.add(item, site.file.source(it) if len(items) == 1 else None)
 
-def needed_of(site: Site, node: tree.Node, value: object, is_sure: bool) -> list[str]:
-    if isinstance(value, Thing) and is_sure:
-        if value.function == "static_library":
-            return [site.file.source(node)]
-        if value.kind == "internal" and not any(it in value.keywords for it in ("link_with", "link_args", "link_whole", "dependencies")):
-            return []
-        is_there = value.keywords.get("required", True) is True
-        if value.kind == "library" and value.name and is_there:
-            return [escaped("-l" + value.name)]
-        if value.kind == "dependency" and value.name in WITHOUT_FILE and is_there:
-            return [escaped(WITHOUT_FILE[value.name][1])] if WITHOUT_FILE[value.name][1] else []
-    raise NotFollowed("what it links is not known here")
+    def add(self, item: Item, written: str | None = None) -> None:
+        """Takes one item. `written` is the expression that gives it at the call; none for a part of something else."""
+        value = item.value
+        if is_nothing(value):
+            return
+        if isinstance(value, Thing) and value.kind in ("dependency", "library"):
+            self.add_found(value, item.is_sure, written)
+        elif isinstance(value, Thing) and value.kind == "target" and item.is_sure:
+            self.add_library(value, written)
+        elif isinstance(value, Thing) and value.kind == "internal" and item.is_sure:
+            self.add_declared(value)
+        else:
+            raise NotFollowed("what it links is not known here")
+
+    def add_library(self, library: Thing, written: str | None) -> None:
+        """A library of the project; of one that may be static also what it needs."""
+        named = written or self.expression_of(library)
+        needs = [it for keyword in ("link_with", "link_whole", "dependencies") for it in flat(library.keywords.get(keyword, Many([])))]
+        if named is None or library.function not in ("static_library", "shared_library", "library"):
+            raise NotFollowed("a library that it links can't be named here")
+        if library.function == "library" and needs:
+            raise NotFollowed("a library that it links may be static, and needs others")
+        self.words.append(named)
+        for it in needs if library.function == "static_library" and id(library) not in self.seen else []:
+            self.seen.add(id(library))
+            self.add(it)
+
+    def add_declared(self, dependency: Thing) -> None:
+        """What a dependency stands for that the project declares."""
+        link_args = texts_of(dependency.keywords.get("link_args", Many([])))
+        if link_args is None or "link_whole" in dependency.keywords:
+            raise NotFollowed("a dependency that the project declares can't be followed")
+        self.words += map(escaped, link_args)
+        for keyword in ("link_with", "dependencies"):
+            for it in flat(dependency.keywords.get(keyword, Many([]))):
+                self.add(it)
+
+    def add_found(self, thing: Thing, is_sure: bool, written: str | None) -> None:
+        """A library of the compiler, a package, or a dependency that has no .pc file."""
+        name = thing.name
+        if name is None or len(thing.arguments) != 1 or CHANGING & set(thing.keywords):
+            raise NotFollowed("a dependency that it links can't be followed")
+        is_there = thing.keywords.get("required", True) is True
+        condition = f"{written}.found()" if written and is_sure and not is_there else self.condition_of(thing, is_sure)
+        if condition is None:
+            raise NotFollowed(f"whether {name} is there can't be asked here")
+        chosen = lambda word, other: f"({condition} ? {escaped(word)} : {other})" if condition else escaped(word)
+        if thing.kind == "library":
+            self.words.append(chosen("-l" + name, "[]"))
+        elif name in WITHOUT_FILE:
+            self.words += [chosen(WITHOUT_FILE[name][1], "[]")] if WITHOUT_FILE[name][1] else []
+        elif is_package(name):
+            (self.perhaps if condition else self.packages).append(chosen(name, "''") if condition else name)
+        else:
+            raise NotFollowed(f"{name} is no name of a package")
+
+    def words_once(self) -> list[str]:
+        """Each word at its last place, so that a library comes after all that need it."""
+        return list(dict.fromkeys(reversed(self.words)))[::-1]
+
+    def with_packages(self, command: list[str]) -> list[str]:
+        """A command, with the words of the packages at its end where there are any."""
+        begins, ends = ASKING
+        perhaps = list(dict.fromkeys(self.perhaps))
+        begins += " ".join(dict.fromkeys(self.packages))
+        script = " + ' ' + ".join([escaped(begins), *perhaps]) + f" + {escaped(ends)}" if perhaps else escaped(begins + ends)
+        return ["'sh'", "'-c'", script, "find_program('pkg-config')", *command] if self.packages or perhaps else command
 
 
 def installed(project: Project, site: Site) -> list[str]:

@@ -95,6 +95,7 @@ class Writer(Needs):
         things = project.known.things[site.call]
         super().__init__(project, things[-1].names if len(things) == 1 else {})
         self.before: list[str] = []
+        self.is_data = "dataonly" in self.words and self.value(self.words["dataonly"].value) is True
 
     def value(self, node: tree.Node) -> object:
         return self.project.known.value(node)
@@ -186,7 +187,6 @@ class Writer(Needs):
 
     def dictionary(self) -> dict[str, str]:
         main = self.main()
-        is_data = "dataonly" in self.words and self.value(self.words["dataonly"].value) is True
         libraries = [main] if main else []
         public: list[Need] = []
         named: list[Need] = []
@@ -205,7 +205,7 @@ class Writer(Needs):
                 named += self.needs_of_item(library, True, True)
         self.keep_names(libraries)
         # What a static library needs stands before what the call names, as the real Meson has it.
-        return self.lines(main, own, public + named, private, is_data)
+        return self.lines(main, own, public + named, private)
 
     def own_flags(self, library: Thing, before: list[Part]) -> list[Part]:
         if library.name is None:
@@ -222,7 +222,7 @@ class Writer(Needs):
             folder = "-L${prefix}/" + known
         return [*([] if Part(folder) in before else [Part(folder)]), Part(f"-l{library.name}")]
 
-    def lines(self, main: Thing | None, own: list[Part], public: list[Need], private: list[Need], is_data: bool) -> dict[str, str]:
+    def lines(self, main: Thing | None, own: list[Part], public: list[Need], private: list[Need]) -> dict[str, str]:
         requires_private = self.requires("requires_private")
         requires = self.as_parts("requires", [it for it in public if it.where == "requires"]) + self.requires("requires")
         requires = merged(requires, requires_private)
@@ -230,11 +230,13 @@ class Writer(Needs):
         said = {part.text for part in libs} | names_of(requires)
         hidden = [it for it in private if name_of(it.text) not in said and it.where != "cflags"]
         requires_private = merged([it for it in requires_private if it.text is None or name_of(it.text) not in said], [])
-        below = self.as_parts("requires_private", [it for it in hidden if it.where == "requires"])
+        # A package that the call names too is wanted once, with the versions of both.
+        below = merged(self.as_parts("requires_private", [it for it in hidden if it.where == "requires"]), requires_private)
+        requires_private = [it for it in requires_private if it.text is None or name_of(it.text) not in names_of(below)]
         libs_below = self.as_parts("libs_private", [it for it in hidden if it.where == "libs"])
         requires_private = below_shared(below) + requires_private
         libs_private = self.private_libs() + below_shared(libs_below)
-        cflags = [] if is_data else self.include_flags() + self.parts("extra_cflags")
+        cflags = [] if self.is_data else self.include_flags() + self.parts("extra_cflags")
         cflags += self.as_parts("cflags", [it for it in public if it.where == "cflags"])
         return {
             "prefix": "get_option('prefix')", "includedir": "'${prefix}' / get_option('includedir')",
@@ -317,19 +319,25 @@ def folder_of(writer: Writer, main: Thing | None) -> str:
         return writer.source(writer.words["install_dir"].value)
     if main is not None and main.call is not None and "install_dir" in main.keywords:
         return f"({writer.project.files[main.path].source(main.call.keywords['install_dir'].value)}) / 'pkgconfig'"
-    is_data = "dataonly" in writer.words and writer.value(writer.words["dataonly"].value) is True
-    return f"get_option('{'datadir' if is_data else 'libdir'}') / 'pkgconfig'"
+    return f"get_option('{'datadir' if writer.is_data else 'libdir'}') / 'pkgconfig'"
 
 
-def template_of(project: Project) -> tuple[str, dict[str, str]]:
-    """The path of the template, and the file where it is not there yet."""
+def left_out_folders(writer: Writer, dictionary: dict[str, str]) -> list[str]:
+    """The folders that the real Meson names in no such file: that of libraries where there are none, and of headers beside data."""
+    has_libraries = dictionary["libs"] != "''" or dictionary["libs_private"] != "''"
+    is_needed = {"includedir": not writer.is_data, "libdir": has_libraries}
+    return [name for name, it in is_needed.items() if not it and f"${{{name}}}" not in dictionary["variables"]]
+
+
+def template_of(project: Project, text: str) -> tuple[str, dict[str, str]]:
+    """The path of a template with this text, and the file where it is not there yet."""
     number, path = 1, TEMPLATE_NAME
     while project.exists(path):
-        if project.new_files.get(path) == TEMPLATE or content(project, path) == TEMPLATE:
+        if project.new_files.get(path) == text or content(project, path) == text:
             return path, {}
         number += 1
         path = f"pkgconfig-{number}.pc.in"
-    return path, {path: TEMPLATE}
+    return path, {path: text}
 
 
 def content(project: Project, path: str) -> str | None:
@@ -342,8 +350,11 @@ def content(project: Project, path: str) -> str | None:
 def written(project: Project, site: Site) -> tuple[Change, bool]:
     """The change of a call, and whether it takes names of variables."""
     writer = Writer(project, site)
-    dictionary = writer.dictionary()
-    template, files = template_of(project)
+    dictionary, text = writer.dictionary(), TEMPLATE
+    for it in left_out_folders(writer, dictionary):
+        text = text.replace(f"{it}=@{it}@\n", "")
+        dictionary.pop(it)
+    template, files = template_of(project, text)
     known = writer.value(writer.words["filebase"].value) if "filebase" in writer.words else None
     name = writer.word("filebase", dictionary["name"])
     output = escaped(known + ".pc") if isinstance(known, str) else f"{name[:-1]}.pc'" if name.endswith("'") else f"{name} + '.pc'"
@@ -367,5 +378,5 @@ def generate(project: Project) -> Iterator[Change]:
             project.doubt(site, f"pkg.generate: {why}")
             return  # what the next one may name is known once this one is written
         yield change
-        if takes_names:
+        if takes_names or change.files:
             return  # which names are free for the next one is known once this one is written

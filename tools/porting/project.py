@@ -7,7 +7,7 @@ import subprocess
 from collections.abc import Iterable, Iterator
 
 from porting import evaluate, tree
-from porting.edits import Change, Edit, Taken, changed, do_overlap
+from porting.edits import Change, Edit, Taken, changed, do_clash
 from porting.lexer import Lines, SyntaxFault
 from porting.journal import place_of
 from porting.parser import parse
@@ -196,7 +196,7 @@ class Project:
         chosen: list[Change] = []
         taken = Taken()
         for change in changes:
-            is_free = not taken.overlaps(change.edits) and not do_overlap(change.edits[:1], change.edits[1:])
+            is_free = not taken.overlaps(change.edits) and not do_clash(change.edits)
             is_inside = all(place_of(self.root, it) for it in change.files)
             if is_free and is_inside and (rule, change.path, change.place, change.what) not in self.refused:
                 chosen.append(change)
