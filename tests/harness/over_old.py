@@ -13,6 +13,9 @@ LATE_ERRORS = (errno.EIO, errno.ENOSPC, errno.EDQUOT)
 
 NEVER_WHOLE = b"of a run before\n"
 
+# The outputs that are synced before they are renamed. What is lost of others late is told by nobody.
+SYNCED = ("build.ninja", DOCUMENT)
+
 
 def old_sets(whole) -> dict:
     """The old outputs over which a case is run, by what they are: of other bytes, as long as those that come, and of the same bytes."""
@@ -72,6 +75,8 @@ def why_not_kept(came, stamps: dict, old: dict, whole, kind: str) -> str | None:
     after = {**old, **in_place(whole.outputs)}
     said_the_same = (came.status, came.log, came.complaint) == (whole.status, whole.log, whole.complaint)
     if said_the_same and in_place(came.outputs) == after and (came.may_go_on or kind == "late"):
+        return None
+    if said_the_same and kind == "late" and all(came.outputs.get(it) == after.get(it) for it in SYNCED):
         return None
     statuses = (3, 2) if kind == "memory" else (2,)
     if came.status not in statuses:

@@ -65,7 +65,12 @@ fn begin_file<R: Files<File = File>>(
 ) -> io::Result<BufWriter<File>> {
     disk.make_folders_of(paths.name.as_str())?;
     let file = make_file(disk.files, paths.beside.as_str())?;
-    BufWriter::with_capacity(disk.alloc, BUFFER, file)
+    let begun = BufWriter::with_capacity(disk.alloc, BUFFER, file);
+    if begun.is_err() {
+        // The error that is returned is the one that counts, also if the file can't be removed.
+        let _ = fs::remove_file(disk.files, paths.beside.as_str());
+    }
+    begun
 }
 
 /// Begins the output of this name, below the folder.
