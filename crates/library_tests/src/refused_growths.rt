@@ -1,4 +1,4 @@
-//! Runs in which memory is refused. A test can't refuse memory by itself. In `rt try --test --fail-alloc N` the N-th allocation fails.
+//! Runs in which memory is refused. A test can't refuse memory by itself: `rt try --test --fail-alloc N` has the N-th allocation fail.
 use crate::failing_runs::{Ran, WHOLE};
 use crate::rows::{ROWS, Row};
 use meson::Status;
@@ -6,8 +6,8 @@ use std::alloc::{AllocError, Global};
 use std::test::Fail;
 
 impl Row {
-    // Whether one run ended as the row says, and the other one too, or that one found no memory: for its devices, or on the way.
-    fn is_beside(&self, whole: &Result<Ran, AllocError>, other: &Result<Ran, AllocError>) -> bool {
+    // Whether one run ended as the row says. The other one did too, or it ran out of memory: in the run, or before it for its devices.
+    fn are_right(&self, whole: &Result<Ran, AllocError>, other: &Result<Ran, AllocError>) -> bool {
         let Ok(whole) = whole else {
             return false;
         };
@@ -18,11 +18,11 @@ impl Row {
         is_right && whole.status == self.status
     }
 
-    // Whether the row goes right twice, if at most one allocation fails.
+    // Whether two runs of the row go right, of which at most one meets a refused allocation.
     fn goes_right(&self, alloc: Global) -> bool {
         let first = self.run(alloc, WHOLE);
         let second = self.run(alloc, WHOLE);
-        self.is_beside(&first, &second) || self.is_beside(&second, &first)
+        self.are_right(&first, &second) || self.are_right(&second, &first)
     }
 }
 
