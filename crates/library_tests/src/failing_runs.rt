@@ -234,7 +234,8 @@ impl Row {
     }
 }
 
-// These three tests are quick as `rt ci` builds them. `rt try` needs more than the minute that it gives: `rt try --test --seconds 900`.
+// These three tests make some ten thousand runs. `rt try` builds them without optimization, so they need more than the minute that it
+// gives: `rt try --test --seconds 900`.
 #[test]
 fn each_event_fails_once(rt: HostRuntime) -> Result<(), Fail> {
     for row in [PROGRAM, EMPTY, REFUSED] {
