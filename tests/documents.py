@@ -1,6 +1,6 @@
-"""Whether the documents are plain English: no sentence is too long, and house words are rare; whether their links lead somewhere.
-The same of the help texts and the messages of the commands, which have no house words. tests/scripts runs this too;
-`python3 -B tests/documents.py` alone prints the counts."""
+"""Whether the documents are plain English: no sentence is too long, and house words are rare; whether their links lead somewhere; whether
+crates/library_tests calls each call of docs/LIBRARY.md. The same English of the help texts and the messages of the commands, which have no
+house words. tests/scripts runs this too; `python3 -B tests/documents.py` alone prints the counts."""
 import ast
 import glob
 import os
@@ -15,6 +15,8 @@ OFTEN = 2
 HOUSE = {"tell": r"tell|tells|telling|told", "stand": r"stand|stands|standing|stood", "beside": r"beside|besides", "behind": r"behind"}
 # README has at most so many lines, so that it can be read at once.
 README_LINES = 150
+# The tables of docs/LIBRARY.md for Rattle end here.
+LIBRARY_END = "## From C and Python"
 
 
 def documents() -> list[str]:
@@ -72,6 +74,27 @@ def broken_links(name: str) -> list[str]:
         if not os.path.exists(os.path.join(CHECKOUT, target)) or anchor and anchor not in anchors(text_of(target)):
             broken.append(link)
     return broken
+
+
+def used_paths(source: str) -> set[str]:
+    """The paths below `meson` that Rattle sources name, those of `use` lists too."""
+    lists = re.findall(r"\buse (meson[\w:]*)::\{([^}]*)\}", source)
+    listed = {f"{module}::{name}" for module, names in lists for name in re.findall(r"\w+", names)}
+    return listed | set(re.findall(r"\bmeson(?:::\w+)+", source))
+
+
+def uncalled(page: str, source: str) -> list[str]:
+    """The calls in the tables of docs/LIBRARY.md that Rattle sources don't use: methods by name, all others by their path."""
+    missing, used = [], used_paths(source)
+    for calls, place in re.findall(r"^\| (`.*?) \| (.*?) \|", page.partition(LIBRARY_END)[0], re.M):
+        path = re.search(r"[\w:]+::\w+", place)
+        for call in re.findall(r"`([\w:]+)`", calls):
+            name = call.rpartition("::")[2]
+            is_called = re.search(rf"(?:\.|::){name}\(", source) if path is None or "::" in call else True
+            needed = path and (path[0] if "::" in call else path[0].rpartition("::")[0] + f"::{name}")
+            if not is_called or needed and needed not in used:
+                missing.append(call)
+    return missing
 
 
 def test_counting() -> None:
@@ -133,7 +156,31 @@ def test_messages() -> None:
     check("the messages of the scripts: no house words", not found, "\n".join(found))
 
 
-TESTS = [test_counting, test_documents, test_helps, test_messages]
+# Calls over a ledger of steps. The prover lets no test pick the ledger yet, so these are reached through `setup` alone.
+NOT_CALLED = ("evaluate", "Steps")
+
+
+def test_calls() -> None:
+    """Which calls of a table count as called, then those of docs/LIBRARY.md."""
+    page = f"""| Call | Path | Gives |
+|---|---|---|
+| `a` `b` | `meson::a` .. | 1 |
+| `C::new` `C::get` | `meson::d::C` | 2 |
+| `E::new` | `meson::e::E` | 3 |
+| `put` `set` | the same | `lost` |
+
+{LIBRARY_END}
+
+| `f` | `meson.f` | 4 |
+"""
+    source = "use meson::d::{\n    C, D,\n};\nuse meson::f::E;\nfn g() {\n    meson::a();\n    C::new();\n    E::new().put(set);\n}\n"
+    check("documents: calls that nothing uses are found", uncalled(page, source) == ["b", "C::get", "E::new", "set"], uncalled(page, source))
+    source = "".join(text_of(it) for it in sorted(glob.glob("crates/library_tests/src/*.rt", root_dir=CHECKOUT)))
+    missing = [it for it in uncalled(text_of("docs/LIBRARY.md"), source) if it not in NOT_CALLED]
+    check("documents: crates/library_tests calls each call of docs/LIBRARY.md", bool(source) and not missing, missing)
+
+
+TESTS = [test_counting, test_calls, test_documents, test_helps, test_messages]
 
 
 if __name__ == "__main__":

@@ -1,0 +1,163 @@
+//! Configuration data, templates and headers.
+use crate::shown::shown;
+use meson::ports::Outputs;
+use meson::ports::memory::{MemOutputs, MemTree};
+use meson::template::{ConfigData, ConfigValue, LINE_LIMIT, PassStop, SetStop, header, pass};
+use std::alloc::Global;
+use std::test::Fail;
+
+// The integer that a name stands for.
+fn number(config: &ConfigData, name: &str) -> Option<i128> {
+    match config.get(name) {
+        Some(ConfigValue::Integer(number)) => Some(*number),
+        _ => None,
+    }
+}
+
+// The text that a name stands for.
+fn text<'c>(config: &'c ConfigData, name: &str) -> Option<&'c str> {
+    match config.get(name) {
+        Some(ConfigValue::Text(text)) => Some(text.as_str()),
+        _ => None,
+    }
+}
+
+#[test]
+fn configuration_data_is_a_map_ordered_by_name(rt: HostRuntime) -> Result<(), Fail> {
+    let mut config = ConfigData::new(rt.alloc());
+    config.set("b", ConfigValue::Integer(2))?;
+    config.set10("c", true)?;
+    config.set10("d", false)?;
+    config.set_quoted("V", "a\"b")?;
+    config.set("b", ConfigValue::Integer(3))?;
+    assert_eq!(rt;
+        (
+            number(&config, "b"),
+            number(&config, "c"),
+            number(&config, "d")
+        ),
+        (Some(3), Some(1), Some(0))
+    );
+    assert_eq!(rt; text(&config, "V"), Some("\"a\\\"b\""));
+    assert!(rt; config.has("V") && !config.has("v") && config.get("v").is_none());
+    let keys = config.keys()?;
+    assert_eq!(rt; keys.as_slice(), ["V", "b", "c", "d"].as_slice());
+    Ok(())
+}
+
+fn is_frozen(answer: Result<(), SetStop>) -> bool {
+    matches!(answer, Err(SetStop::Frozen))
+}
+
+#[test]
+fn frozen_data_is_not_changed_but_its_copy_is(rt: HostRuntime) -> Result<(), Fail> {
+    let mut other = ConfigData::new(rt.alloc());
+    other.set("a", ConfigValue::Integer(7))?;
+    let mut config = ConfigData::new(rt.alloc());
+    config.set("a", ConfigValue::Integer(1))?;
+    config.freeze();
+    assert!(rt; is_frozen(config.set("a", ConfigValue::Integer(2))));
+    assert!(rt; is_frozen(config.set10("a", true)) && is_frozen(config.set_quoted("a", "x")));
+    assert!(rt; is_frozen(config.merge_from(&other)));
+    let mut copy = config.copy()?;
+    copy.merge_from(&other)?;
+    copy.set("b", ConfigValue::Boolean(true))?;
+    assert_eq!(rt; (number(&config, "a"), config.has("b")), (Some(1), false));
+    assert_eq!(rt; (number(&copy, "a"), copy.has("b")), (Some(7), true));
+    Ok(())
+}
+
+// `A` is true, `B` is 2, `C` a text and `D` false.
+fn sample(alloc: Global) -> Result<ConfigData, Fail> {
+    let mut config = ConfigData::new(alloc);
+    config.set("D", ConfigValue::Boolean(false))?;
+    config.set("C", ConfigValue::Text(String::from_str(alloc, "x")?))?;
+    config.set("B", ConfigValue::Integer(2))?;
+    config.set("A", ConfigValue::Boolean(true))?;
+    Ok(config)
+}
+
+#[test]
+fn a_header_has_a_line_for_each_name(rt: HostRuntime) -> Result<(), Fail> {
+    let config = sample(rt.alloc())?;
+    let mut out = MemOutputs::new(rt.alloc(), 1_000)?;
+    out.open("c.h")?;
+    header(&config, &mut out)?;
+    assert_eq!(rt;
+        shown(rt.alloc(), &out)?.as_str(),
+        "⟦open c.h⟧/* Generated. Do not edit. */\n#pragma once\n\n#define A\n#define B 2\n#define C x\n#undef D\n"
+    );
+    Ok(())
+}
+
+// Writes the template `t` with these bytes to the output `o`, and gives how that ended and what the outputs took.
+fn passed(
+    alloc: Global,
+    template: &str,
+    room: usize,
+) -> Result<(Option<PassStop>, MemOutputs), Fail> {
+    let config = sample(alloc)?;
+    let bytes = template.as_bytes().to_vec(alloc)?;
+    let mut tree = MemTree::new(
+        alloc,
+        vec![in alloc; (String::from_str(alloc, "t")?, bytes)]?,
+    )?;
+    let mut out = MemOutputs::new(alloc, room)?;
+    let mut line = vec![in alloc; 0u8; LINE_LIMIT]?;
+    out.open("o")?;
+    let stop = pass(&mut tree, "t", &config, line.as_mut_slice(), &mut out).err();
+    Ok((stop, out))
+}
+
+#[test]
+fn the_names_of_a_template_are_replaced(rt: HostRuntime) -> Result<(), Fail> {
+    for (template, stop, events) in [
+        (
+            "#mesondefine A\nx@Z@y\nz",
+            None,
+            "#define A\nx⟦log⟧WARNING: t:2: no value for Z\n⟦put⟧y\nz",
+        ),
+        (
+            "#mesondefine D\n#mesondefine Z\n",
+            None,
+            "#undef D\n/* undef Z */\n",
+        ),
+        ("x\\@A@B@\n\\\\@B@\n@B@B@\n", None, "x@A2\n\\2\n2B@\n"),
+        ("@C@@A@@D@", None, "xtruefalse"),
+        (
+            "one\ntwo\n#mesondefine A B\n",
+            Some(PassStop::Template(3)),
+            "one\ntwo\n",
+        ),
+        ("", None, ""),
+    ] {
+        let (ended, out) = passed(rt.alloc(), template, 1_000)?;
+        assert_eq!(rt; ended, stop, "{template}");
+        let expected = format!(in rt.alloc(); "⟦open o⟧{events}")?;
+        assert_eq!(rt;
+            shown(rt.alloc(), &out)?.as_str(),
+            expected.as_str(),
+            "{template}"
+        );
+    }
+    Ok(())
+}
+
+// A line of 65,536 bytes, its end counted, is the longest.
+#[test]
+fn a_line_past_the_limit_is_refused(rt: HostRuntime) -> Result<(), Fail> {
+    let alloc = rt.alloc();
+    let most = "a".repeat(alloc, 65_535)?;
+    let short = format!(in alloc; "{most}\n")?;
+    let unended = format!(in alloc; "{most}a")?;
+    let long = format!(in alloc; "x\n{most}a\n")?;
+    for (template, stop, bytes) in [
+        (&short, None, 65_536),
+        (&unended, None, 65_536),
+        (&long, Some(PassStop::Limit(2)), 2),
+    ] {
+        let (ended, out) = passed(alloc, template.as_str(), 70_000)?;
+        assert_eq!(rt; (ended, out.event_count()), (stop, bytes + 1));
+    }
+    Ok(())
+}
