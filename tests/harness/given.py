@@ -11,6 +11,9 @@ MODES = {"cut", "fail", "pieces"}
 # The kinds of calls that fail, in the order of their counts.
 KINDS = ("memory", "device", "late", "put")
 
+# The calls that remove a file.
+REMOVALS = ("unlink", "unlinkat")
+
 # How a directive 'fail' ends whose runs are over old outputs.
 OVER_OLD = " over old outputs"
 
@@ -43,8 +46,8 @@ class Came:
         return [it for it in self.begun if it not in self.outputs]
 
     def left_over(self):
-        """The outputs of which an unfinished file is left, which the run has to remove."""
-        return [it + UNENDED for it in self.begun if it + UNENDED in self.outputs]
+        """The unfinished files that are left, which the run has to remove, unless it is the call to remove one that failed."""
+        return [it + UNENDED for it in self.begun if it + UNENDED in self.outputs and self.failed not in REMOVALS]
 
 
 class Given:

@@ -26,6 +26,9 @@ FAULT_LINE = re.compile(rb"[^\n]+:[0-9]+: ERROR: E([0-9]+) [^\n]*\n")
 
 DOCUMENT = "meson-info/introspect.json"
 
+# The outputs that are synced before they are renamed. What is lost of others late is told by nobody.
+SYNCED = ("build.ninja", DOCUMENT)
+
 # The events of a run: an output is begun, gets bytes and is ended; there are bytes of the log, and of a fault's line.
 EVENTS = ("open", "bytes", "close", "log", "fault")
 

@@ -3,7 +3,7 @@ old output is as it was or the new one, whole, and the run that comes after make
 import errno
 import os
 
-from judge import DOCUMENT, SAID, UNENDED, shown
+from judge import DOCUMENT, SAID, SYNCED, UNENDED, shown
 
 # The time that old outputs have.
 OLD_TIME = 10**9
@@ -12,10 +12,6 @@ OLD_TIME = 10**9
 LATE_ERRORS = (errno.EIO, errno.ENOSPC, errno.EDQUOT)
 
 NEVER_WHOLE = b"of a run before\n"
-
-# The outputs that are synced before they are renamed. What is lost of others late is told by nobody.
-SYNCED = ("build.ninja", DOCUMENT)
-
 
 def old_sets(whole) -> dict:
     """The old outputs over which a case is run, by what they are: of other bytes, as long as those that come, and of the same bytes."""
@@ -88,9 +84,7 @@ def why_not_kept(came, stamps: dict, old: dict, whole, kind: str) -> str | None:
         is_kept = came.outputs.get(name) == old[name] and stamps.get(name) == OLD_TIME
         if not is_kept and (name not in whole.outputs or came.outputs.get(name) != whole.outputs[name]):
             return f"the old output {name} is neither as it was nor the new one, whole:\n{shown(came.outputs.get(name, b'(nothing)'))}"
-    # One call fails: where that is the one that removes an unfinished output, this is left.
-    left = came.left_over() if came.failed in ("unlink", "unlinkat") else []
-    more = sorted(set(came.outputs) - set(old) - set(whole.begun) - set(left))
+    more = sorted(set(in_place(came.outputs)) - set(old) - set(whole.begun)) + came.left_over()
     return f"there is more than outputs: {more}" if more else None
 
 

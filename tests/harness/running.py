@@ -8,7 +8,7 @@ import subprocess
 import tempfile
 
 from form import FormError
-from given import KINDS, OVER_OLD, Came, Given
+from given import KINDS, OVER_OLD, REMOVALS, Came, Given
 from in_memory import Memory
 from judge import DOCUMENT, FAULT_LINE, SAID, UNENDED, differing, shown
 from over_old import each_fails_over_old, in_place
@@ -26,9 +26,6 @@ USUAL_KINDS = ("memory", "device")
 # The groups whose cases show the disk, the command line and whole runs of the program: they run by it too. So does each of so many others.
 OF_PROGRAM = ("command_line", "devices", "first_path")
 SAMPLE = 25
-
-# The calls that remove a file.
-REMOVALS = ("unlink", "unlinkat")
 
 # The ways in which a case is run.
 LIBRARY, PROGRAM = "through the library", "by the program"
@@ -152,7 +149,7 @@ class Room(Given):
         """Whether a run may end as if the call of this name on this path had not failed."""
         # Nobody is told that a file could not be closed, since what it holds is known as written before, nor that a folder could not be
         # made which is there, nor that what stood beside an output could not be removed where nothing stood there.
-        if failed in ("close", "mkdir", "unlink", "unlinkat"):
+        if failed in ("close", "mkdir", *REMOVALS):
             return True
         # A list that is collected is given room by a guess first, and where that is refused, by what comes: a run that came to just what
         # it comes to with all memory has lost nothing.
@@ -319,7 +316,7 @@ def differs_from_failing(came, whole, kind):
     more = [it for it in came.after if not is_of_the_end(it)]
     if more:
         return f"these calls came after it: {more}"
-    if came.left_over() and came.failed not in REMOVALS:
+    if came.left_over():
         return f"these are left: {came.left_over()}"
     if not whole.log.startswith(came.log):
         return f"the log is no beginning of the whole one:\n{shown(came.log)}"

@@ -47,8 +47,8 @@ def in_place_of(path: str) -> str:
     return f"`{CALLED} machine-file > {quoted([path])}` makes one"
 
 
-def is_pipe(path: str) -> bool:
-    """Returns whether a machine file is a pipe or a device, which can't be read twice."""
+def is_special(path: str) -> bool:
+    """Returns whether a machine file is neither a file nor a folder: a pipe or a device, which can't be read twice."""
     return os.path.exists(path) and not os.path.isfile(path) and not os.path.isdir(path)
 
 
@@ -108,7 +108,7 @@ def instead_of(name: str, value: str, folder: str) -> str:
 def main() -> int:
     program, status, words = sys.argv[1], int(sys.argv[2]), sys.argv[3:]
     path = machine_path(words)
-    if path is not None and is_pipe(path):
+    if path is not None and is_special(path):
         return DONE
     if status == FAULT:
         of_fault(program, words)
