@@ -1,12 +1,12 @@
 #!/usr/bin/env python3
-"""Measures what the installed command costs beside the program and Ninja, over examples/hello.
+"""Measures what the installed command adds to the time of the program and Ninja, over examples/hello.
 
     bench/commands.py                    the command of this checkout, installed into a temporary folder
     bench/commands.py --program PATH     with another program
     bench/commands.py --rounds N         the least of N runs each (default: 12)
 
-Each row is the processor's time of a command, of it alone what it waits for, and the bound of the difference. `meson` and `muon` run beside
-it where they are installed, in the same round. The status is 0 where each difference is within its bound.
+Each row is the processor's time of a command, the time of what it waits for, and the difference with its bound. `meson` and `muon` run in
+the same round, if they are installed. The exit status is 0 if each difference is within its bound.
 """
 import argparse
 import collections
@@ -50,7 +50,7 @@ def milliseconds(words: list[str], folder: str) -> float:
 
 
 def least(commands: dict[str, list[str]], folder: str, rounds: int) -> dict[str, float]:
-    """The least time of each command, in turn; another program that fails is left out."""
+    """The least time of each command, in turn; another program that fails has none."""
     found, left_out = {}, set()
     for _ in range(rounds):
         for name, words in commands.items():
@@ -103,10 +103,11 @@ def measure(program: str, rounds: int) -> int:
         for words in (["setup", *NATIVE, "build"], ["compile", "-C", "build"]):
             subprocess.run([command, *words], cwd=folder, check=True, stdout=subprocess.DEVNULL)
         for row in ROWS:
-            found = least(commands_of(row, program, command, checkout), folder, rounds)
+            commands = commands_of(row, program, command, checkout)
+            found = least(commands, folder, rounds)
             waited = sum(it for name, it in found.items() if name.startswith("waits"))
             more = found["ours"] - waited
-            beside = "".join(f", {name} {found[name]:.1f}" for name in OF_OTHERS if name in found)
+            beside = "".join(f", {name} " + (f"{found[name]:.1f}" if name in found else "fails") for name in OF_OTHERS if name in commands)
             is_good = more <= row.bound
             failures += not is_good
             print(f"{row.name:24} {found['ours']:7.1f} ms, waits for {waited:5.1f}, more {more:5.1f} (at most {row.bound})"

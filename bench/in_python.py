@@ -1,4 +1,4 @@
-"""Loads of the language, with the same statements in Python beside them as the file 'same.py'."""
+"""Loads of the language, with the same statements in Python in the file 'same.py'."""
 import collections.abc
 
 import loads

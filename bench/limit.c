@@ -3,7 +3,7 @@
      look PATH          ask whether it is there
      read PATH          read the file whole
      make PATH          make the folder
-     write SIZE PATH    write so many bytes beside it, and rename them to it
+     write SIZE PATH    write so many bytes to a file next to it, and rename that file to it
 
    Ends with 0 where each of them was done, whether or not what it looked at is there; else says which was not, and ends with 1. */
 #define _GNU_SOURCE

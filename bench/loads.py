@@ -56,7 +56,7 @@ def configured(folder: str, size: int) -> int:
 
 
 def headers(folder: str, count: int) -> int:
-    """A project with so many headers by `configure_file`, each of a template of 20 lines; its option `value` stands in all of them."""
+    """A project with so many headers by `configure_file`, each of a template of 20 lines; its option `value` is in all of them."""
     write(folder, "meson.options", "option('value', type: 'string')\n")
     write(folder, "h.in", "".join(f'#define SETTING_{i} "@value@"\n' for i in range(20)))
     lines = ["project('p','c')", "c = configuration_data({'value': get_option('value')})", f"foreach i : range({count})"]

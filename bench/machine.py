@@ -1,17 +1,17 @@
 #!/usr/bin/env python3
-"""Measures how long a project takes to be configured: `machine-file` and `setup`, beside `setup` of the real Meson and of muon.
+"""Measures how long a project takes to be configured: `machine-file` and `setup`, compared with `setup` of the real Meson and of muon.
 
     bench/machine.py                    examples/hello and examples/inifile
-    bench/machine.py DIR..              projects, each a folder with a meson.build; ported in a copy first, which is timed too, without
-                                        a build
+    bench/machine.py DIR..              projects, each a folder with a meson.build; each is ported in a copy first, which is timed too,
+                                        without a build
     bench/machine.py --program PATH ..  another program than this checkout's
-    bench/machine.py --rounds N ..      with so many runs of each, of which the least is shown
+    bench/machine.py --rounds N ..      with N runs of each, of which the least is shown
 
-The command is installed into a temporary folder first, as its modules are compiled there. Each round makes a run of each, one after the
-other, in folders of a build that aren't there before. `cold` is with an empty cache of answers, `warm` with that of the run before, `alone`
-with each check compiled by itself and no cache. `program` is `setup` of the program alone. `meson` and `muon` are those of PATH, where they
-are there and take the project. Times are by the clock, in seconds; with --processor they are the processor's, which other work on the
-machine changes less.
+The command is installed into a temporary folder first, since its modules are compiled there. Each round makes a run of each, one after the
+other, in new build folders. `cold` is with an empty cache of answers, `warm` with that of the run before, and `alone` with each check
+compiled by itself and no cache. `program` is `setup` of the program alone. `meson` and `muon` are those of PATH, if they are installed and
+accept the project. Times are by the clock, in seconds; with --processor they are the processor's, which other work on the machine changes
+less.
 """
 import argparse
 import os
@@ -86,7 +86,7 @@ class Measured:
 def main() -> int:
     parser = argparse.ArgumentParser(prog="machine.py", description=__doc__, formatter_class=argparse.RawDescriptionHelpFormatter)
     parser.add_argument("folders", metavar="DIR", nargs="*", help="the folder of a project")
-    parser.add_argument("--program", default=PROGRAM, help="the program; without it that of this checkout")
+    parser.add_argument("--program", default=PROGRAM, help="the program (default: that of this checkout)")
     parser.add_argument("--rounds", type=int, default=5, help="how many runs of each")
     parser.add_argument("--processor", action="store_true", help="measure the processor's time")
     words = parser.parse_args()

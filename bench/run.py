@@ -4,9 +4,9 @@
     bench/run.py                    all groups
     bench/run.py values options     these groups
     bench/run.py --rounds 1 ..      with fewer runs of each load
-    bench/run.py --program PATH ..  with another program of whole runs than this checkout's
+    bench/run.py --program PATH ..  with another program for whole runs than this checkout's
 
-The table GROUPS says what is measured, and loads.py makes the loads. The status is 0 where each judged figure is within its bound.
+The table GROUPS says what is measured, and loads.py makes the loads. The exit status is 0 if each judged figure is within its bound.
 """
 import argparse
 import collections.abc
@@ -50,7 +50,7 @@ class Load:
     peak: float | None = None
     # The most that the memory of one at the last size may be over that at the first; None: not judged.
     memory_growth: float | None = None
-    # The name of a command beside ours, and the most that the time of ours may be over that of it; None: not judged.
+    # The name of a command to compare with, and the greatest allowed ratio of our time to its time; None: not judged.
     over: tuple[str, float] | None = None
 
 
@@ -60,7 +60,7 @@ Commands = collections.abc.Callable[[Load, typing.Any], dict[str, list[str]]]
 
 @dataclasses.dataclass
 class Group:
-    """Loads that one command works through. The time of a run is that of its calls, where the program tells it, else the processor's."""
+    """Loads that one command works through. The time of a run is that of its calls if the program prints it, else the processor's."""
 
     says: str
     one: str
@@ -114,11 +114,11 @@ def setup_for_120_seconds(load: Load, size: typing.Any) -> dict[str, list[str]]:
 
 
 def setup_sources_otherwise(load: Load, size: typing.Any) -> dict[str, list[str]]:
-    """The same without libraries behind one another, of which thousands take others longer than can be waited for."""
+    """The same without chains of libraries: thousands of these take the other programs too long to wait for."""
     return {} if load.name in ("chain", "ladder") else setup_otherwise(load, size)
 
 
-# What a load of the group `limits` stands beside, and the most that ours may take of its time.
+# What a load of the group `limits` is compared with, and the greatest allowed ratio of our time to its time.
 BESIDE_LIMIT = ("limit", 3.0)
 BESIDE_PYTHON = ("python", 1.0)
 
@@ -131,7 +131,7 @@ def what_limits(load: Load, size: typing.Any) -> dict[str, list[str]]:
 
 
 def limited(name: str, size: int, make: loads.Maker, peak: float | None = None) -> Load:
-    """A project beside the limit. Its outputs are told by a run before those that are measured."""
+    """A project that is compared with the limit. A run before the measured ones shows its outputs."""
 
     def make_and_list(folder: str, count: int) -> int:
         items = make(folder, count)
@@ -143,7 +143,7 @@ def limited(name: str, size: int, make: loads.Maker, peak: float | None = None) 
 
 
 def spoken(name: str, size: int, make: loads.Maker) -> Load:
-    """Statements beside the same in Python."""
+    """Statements that are compared with the same in Python."""
     return Load(name, (size,), make, over=BESIDE_PYTHON)
 
 
@@ -154,7 +154,7 @@ def tenfold(name: str, size: int, make: loads.Maker) -> Load:
 
 GROUPS = {
     "run": Group(
-        "whole runs, beside others: the smallest project, and great ones of each kind", "one", setup,
+        "whole runs, compared with other programs: the smallest project, and large ones of each kind", "one", setup,
         [
             Load("smallest", (0,), loads.assignments, growth=None),
             tenfold("programs", 20_000, loads.programs_in_folders),
@@ -201,7 +201,7 @@ GROUPS = {
         rounds=3, beside=setup_sources_otherwise, beside_rounds=1,
     ),
     "limits": Group(
-        "whole runs: projects beside the calls of the system that they need, statements beside the same in Python", "one", setup,
+        "whole runs: projects compared with the system calls that they need, statements compared with the same in Python", "one", setup,
         [
             limited("programs", 20_000, loads.programs_with_arguments),
             limited("one_program", 8_000, loads.one_program, peak=18 * 2**20),
@@ -303,7 +303,7 @@ def least_runs(group: Group, commands: dict[str, list[str]], folder: str, rounds
 
 
 def measured(group: Group, load: Load, size: typing.Any, rounds: int) -> tuple[int, dict[str, Ran]]:
-    """How many items a load of this size has, and the least runs of ours and of the others beside it, by their names."""
+    """How many items a load of this size has, and the least runs of ours and of the others, by their names."""
     with tempfile.TemporaryDirectory() as folder:
         count = load.make(folder, size) if load.make else size
         best = least_runs(group, {"ours": group.command(load, size), **group.beside(load, size)}, folder, rounds)
@@ -369,7 +369,7 @@ def main() -> int:
     parser = argparse.ArgumentParser(description=__doc__, formatter_class=argparse.RawDescriptionHelpFormatter)
     parser.add_argument("groups", nargs="*", metavar="GROUP", help=", ".join(GROUPS))
     parser.add_argument("--rounds", type=int, help="how often each load is run")
-    parser.add_argument("--program", default=MESON, help="another program of whole runs than this checkout's")
+    parser.add_argument("--program", default=MESON, help="measure whole runs of this program, not of the checkout's")
     words = parser.parse_args()
     MESON = os.path.abspath(words.program)
     for name in words.groups:

@@ -1,16 +1,18 @@
 #!/usr/bin/env python3
-"""Measures what it costs that outputs are synced before they take their places: `meson setup` of a project with 300 headers by
-`configure_file`, run with no sync at all, with the syncs that the program asks for, and with one for each output.
+"""Measures what it costs to sync outputs before they take their places.
 
-    bench/sync.py                       this checkout's program, in a folder of the system's temporary ones
+`meson setup` runs over a project with 300 headers by `configure_file`: with no sync at all, with the syncs that the program requests, and
+with a sync of each output.
+
+    bench/sync.py                       this checkout's program, in the system's temporary folder
     bench/sync.py --program PATH        another program
     bench/sync.py --folder FOLDER       in a folder of another disk
-    bench/sync.py --headers N           with so many headers
-    bench/sync.py --rounds N            with so many runs of each, of which the least and the middle time are shown
+    bench/sync.py --headers N           with N headers
+    bench/sync.py --rounds N            with N runs of each; the least and the middle time are shown
 
-Each is measured into an empty folder, over old outputs of other bytes, and over old outputs of the same bytes, which stay. The preloaded
-library of the tests (tests/harness/faults.c) does no sync, or one before each rename; it stands before the program in all three, so that
-its own cost is in all of them. Times are by the clock.
+Each is measured into an empty folder, over old outputs with other bytes, and over old outputs with the same bytes, which stay. The library
+of the tests (tests/harness/faults.c) is loaded before the program. It makes no sync, or one before each rename. It is loaded for all three,
+so that its own cost is in each of them. Times are by the clock.
 """
 import argparse
 import os
@@ -21,13 +23,13 @@ import sys
 import tempfile
 import time
 
-CHECKOUT = os.path.dirname(os.path.dirname(os.path.realpath(__file__)))
-sys.path.insert(0, os.path.join(CHECKOUT, "tests", "harness"))
 sys.dont_write_bytecode = True
+sys.path.insert(0, os.path.dirname(os.path.dirname(os.path.realpath(__file__))))
 
 import loads  # noqa: E402
-from faults import faults_library  # noqa: E402
+from tests.harness.faults import faults_library  # noqa: E402
 
+CHECKOUT = os.path.dirname(os.path.dirname(os.path.realpath(__file__)))
 PROGRAM = os.path.join(CHECKOUT, "crates", "hawkottoman", "out", "hawkottoman")
 
 # How the library changes the syncs of a run, by what is shown of it.
@@ -73,8 +75,8 @@ def show(program: str, folder: str, library: str, rounds: int) -> None:
 
 def main() -> int:
     parser = argparse.ArgumentParser(description=__doc__, formatter_class=argparse.RawDescriptionHelpFormatter)
-    parser.add_argument("--program", default=PROGRAM, help="another program than this checkout's")
-    parser.add_argument("--folder", help="a folder of the disk that is measured")
+    parser.add_argument("--program", default=PROGRAM, help="measure this program in place of the checkout's")
+    parser.add_argument("--folder", help="measure the disk that has this folder")
     parser.add_argument("--headers", type=int, default=300, help="how many headers are written")
     parser.add_argument("--rounds", type=int, default=7, help="how often each is run")
     words = parser.parse_args()

@@ -23,7 +23,7 @@ enum hawkottoman_status {
     HAWKOTTOMAN_FAULT = 1,    /* the definition files are refused: an `E` event has the line that says why */
     HAWKOTTOMAN_MEMORY = 3,   /* memory ran out: neither the room nor *length means anything */
     HAWKOTTOMAN_SETTINGS = 4, /* source_root is no absolute path, or build_folder is none of 1 to 64 parts without `..` */
-    HAWKOTTOMAN_SLICES = 5    /* the slices spell no tree or no option words, or a directory isn't UTF-8 */
+    HAWKOTTOMAN_SLICES = 5    /* the slices spell no tree or no option arguments, or a directory isn't UTF-8 */
 };
 
 /* The calls. Each takes
@@ -31,7 +31,7 @@ enum hawkottoman_status {
  *   paths         the paths of the files, relative to the source directory: UTF-8, each ended by a zero byte, no two the same
  *   sizes         the size of each file in bytes; sizes_count says how many files there are
  *   contents      the contents of the files, joined, in the order of the paths
- *   words         the option words (`name=value`, as after -D): UTF-8, each ended by a zero byte
+ *   words         the option arguments (`name=value`, as after -D): UTF-8, each ended by a zero byte
  *   machine       the bytes of the machine file, or none
  *   source_root   the path of the source directory: absolute, UTF-8
  *   build_folder  the path of the build directory, relative to the source directory: UTF-8

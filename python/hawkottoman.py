@@ -156,7 +156,7 @@ def setup(files: Mapping[str, bytes], words: Iterable[str] = (), machine: bytes 
           build_folder: str = "build") -> Run:
     """Configures the project whose files these are, by their paths in the source directory, as `meson setup` does.
 
-    `words` are option words (`name=value`), `machine` is the machine file. Raises OutOfMemory, BadSettings or BadSlices.
+    `words` are option arguments (`name=value`), `machine` is the machine file. Raises OutOfMemory, BadSettings or BadSlices.
     """
     return _call("setup", files, list(words), machine, source_root, build_folder)
 

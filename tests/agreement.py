@@ -20,8 +20,9 @@ import sys
 import tempfile
 
 sys.dont_write_bytecode = True
-sys.path.insert(0, os.path.dirname(os.path.realpath(__file__)))
-from machine_lines import machine_lines  # noqa: E402
+sys.path.insert(0, os.path.dirname(os.path.dirname(os.path.realpath(__file__))))
+
+from tests.machine_lines import machine_lines  # noqa: E402
 
 CHECKOUT = os.path.dirname(os.path.dirname(os.path.realpath(__file__)))
 # Lines of the real Meson's log, each with the method of its check and the arguments among its groups; the last group is the answer.

@@ -5,17 +5,14 @@ text before the checks that leaves something open.
 """
 import os
 import shutil
-import sys
 import tempfile
 
-from workshop import CHECKOUT, check
-
-sys.path.insert(0, CHECKOUT)
-from tools.asking.bundles import Check, ask_together, bundles_of  # noqa: E402
-from tools.asking.checks import answer  # noqa: E402
-from tools.asking.compiler import Compiler, Flags  # noqa: E402
-from tools.asking.processes import end_all  # noqa: E402
-from tools.side_by_side import side_by_side  # noqa: E402
+from tests.workshop import check
+from tools.asking.bundles import Check, ask_together, bundles_of
+from tools.asking.checks import answer
+from tools.asking.compiler import Compiler, Flags
+from tools.asking.processes import end_all
+from tools.parallel import side_by_side
 
 STAT = "#include <sys/stat.h>"
 KEYS = {

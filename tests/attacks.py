@@ -10,7 +10,7 @@ import signal
 import subprocess
 import time
 
-from workshop import CHECKOUT, WORK, check, configured, environment, over, put, read, refuses, run, shell, words_of
+from tests.workshop import CHECKOUT, WORK, check, configured, environment, over, put, read, refuses, run, shell, words_of
 
 ROOT = os.path.realpath(WORK)
 
@@ -118,7 +118,6 @@ def test_links_that_come_late() -> None:
     check("meson install: a link that comes with the build: nothing is written", not files_below("outside"))
     fresh("d", "outside")
     swap = f"""import os, sys
-sys.path.insert(0, {CHECKOUT!r})
 sys.dont_write_bytecode = True
 from tools.root import Root, write_file
 def make(folder, name):
@@ -127,7 +126,7 @@ def make(folder, name):
     write_file(b'x', 0o644, (0, 0))(folder, name)
 Root({WORK + '/d'!r}).put('/usr/a.h', make)
 """
-    done = run(["python3", "-c", swap])
+    done = run(["python3", "-c", swap], {"PYTHONPATH": CHECKOUT})
     is_good = not files_below("outside") and "d/moved/a.h" in files_below("d")
     check("meson install: a folder that becomes a link under way", is_good, done.stderr)
 

@@ -1,12 +1,9 @@
 """Which checks `build-program` begins, over crates made by hand; tests/scripts runs this too."""
-import sys
 from collections.abc import Sequence
 
-from workshop import CHECKOUT, check
-
-sys.path.insert(0, CHECKOUT)
-from tools.building.crates import MIB, Crate, crates_of, longest_way_first  # noqa: E402
-from tools.building.plan import Check, Plan  # noqa: E402
+from tests.workshop import check
+from tools.building.crates import MIB, Crate, crates_of, longest_way_first
+from tools.building.plan import Check, Plan
 
 
 def crate(name: str, *below: str, work: float = 100, size: float = 1000) -> Crate:
@@ -76,8 +73,12 @@ def test_idle_processors() -> None:
     check("build-program: beside one at work the others that are idle", got == {"a": 3}, got)
     got = processors(plan(*(crate(it, work=900) for it in "abcd")))
     check("build-program: four beside one another have one each", got == dict.fromkeys("abcd", 1), got)
-    got = processors(plan(crate("a", work=900, size=4000), size=6000))
-    check("build-program: within the memory, which one alone may pass", got == {"a": 4}, got)
+    got = processors(plan(crate("a", work=900), crate("b", work=900)))
+    check("build-program: two beside one another share them", got == {"a": 2, "b": 2}, got)
+    got = processors(plan(crate("a", work=900, size=4000), size=6100))
+    check("build-program: one that is alone gets as many as there is memory for", got == {"a": 3}, got)
+    got = processors(plan(crate("a", work=900, size=4000), size=3000))
+    check("build-program: and one processor in any memory", got == {"a": 1}, got)
     got = processors(plan(crate("a", work=900, size=4000), size=8100), [Check(crate("z", size=3000), 0, 5000)])
     check("build-program: beside another as many as there is memory for", got == {"a": 1}, got)
     got = processors(plan(crate("a", work=15)))
@@ -87,13 +88,20 @@ def test_idle_processors() -> None:
     check("build-program: without a measure about the same", 350 < crate("a", work=900).seconds(4) < 400, crate("a", work=900).seconds(4))
 
 
+def minutes_of_build(jobs: int, room: float) -> float:
+    """How long the whole build takes by the plan, if each check takes what the model says."""
+    made, at_work, now = Plan(longest_way_first(crates_of()), jobs, room), [], 0.0
+    while begun := [*at_work, *made.begin(at_work, now, 1)]:
+        ended = min(begun, key=lambda it: it.end)
+        at_work, now = [it for it in begun if it is not ended], ended.end
+    return now / 60
+
+
 def test_whole_build() -> None:
     """By the model the whole build is done sooner than with one processor for each check."""
     crates = longest_way_first(crates_of())
-    narrow, wide = Plan(crates, 4, 8e9), Plan(list(crates), 4, 8e9)
-    wide.improve([], 0, 1)
-    ends = narrow.end_of(crates, frozenset(), [], 0, 1), wide.end_of(wide.left, wide.wide, [], 0, 1)
-    check("build-program: the whole is done in four fifths of the time", ends[1] <= 0.8 * ends[0], ends)
+    narrow, got = Plan(crates, 4, 8e9).end_of(crates, {}, [], 0, 1) / 60, minutes_of_build(4, 8e9)
+    check("build-program: the whole is done in three quarters of the time", got <= 0.75 * narrow, (got, narrow))
 
 
 def test_crates() -> None:

@@ -11,14 +11,10 @@ import time
 import types
 from collections.abc import Callable
 
-from workshop import (CHECKOUT, COMMAND, WORK, check, configured, document, environment, only_on_path, over, put, read, refuses, run, shell,
-                      shows_help, wait_until, words_of)
-
-sys.path.insert(0, CHECKOUT)
-# Behind this folder, whose commands.py has the name of one in tools/.
-sys.path.append(os.path.join(CHECKOUT, "tools"))
-from tools.explaining.devices import unwritable  # noqa: E402
-from tools.last_setup import build_folder_of  # noqa: E402
+from tests.workshop import (CHECKOUT, COMMAND, WORK, check, configured, document, environment, only_on_path, over, put, read, refuses, run,
+                            shell, shows_help, wait_until, words_of)
+from tools.explaining.devices import unwritable
+from tools.setup_arguments import build_folder_of
 
 COPY = os.path.join(WORK, "checkout")
 MESON = os.path.join(COPY, "meson")
@@ -636,8 +632,8 @@ def try_name(installed: str) -> None:
     done = run([installed, "explain", "e"], with_tools(), cwd=f"{WORK}/sources")
     check("meson self-install: the name in what is explained", "run `hawkottoman-meson explain` in" in done.stdout, f"{done}")
     put("questions", NOTHING_ASKED)
-    early = f"import os, sys; sys.path.insert(0, {CHECKOUT!r}); sys.argv[0] = 'test'; import tools.early; os.kill(os.getpid(), 15)"
-    done = run([sys.executable, "-B", "-c", early], {"HAWKOTTOMAN_CALLED": "hawkottoman-meson"})
+    early = "import os, sys; sys.argv[0] = 'test'; import tools.early_signals; os.kill(os.getpid(), 15)"
+    done = run([sys.executable, "-B", "-c", early], {"HAWKOTTOMAN_CALLED": "hawkottoman-meson", "PYTHONPATH": CHECKOUT})
     is_good = (done.returncode, done.stderr) == (130, "hawkottoman-meson test: interrupted\n")
     check("meson self-install: the name in what ends at once", is_good, f"{done}")
     wrong = {}

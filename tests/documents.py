@@ -1,20 +1,25 @@
 """Whether the documents are plain English: no sentence is too long, and house words are rare; whether their links lead somewhere; whether
 crates/library_tests calls each call of docs/LIBRARY.md. The same English of the help texts and the messages of the commands, which have no
-house words. tests/scripts runs this too; `python3 -B tests/documents.py` alone prints the counts."""
+house words. tests/scripts runs this too; `python3 -B -m tests.documents` in the checkout prints the counts."""
 import ast
 import glob
+import itertools
 import os
 import re
 
-from workshop import CHECKOUT, check, run
+from tests.workshop import CHECKOUT, check, run
 
 # A sentence has at most so many words.
 LONGEST = 30
+# What ends a sentence of a document. In a help text it is also what ends a part of a list, as that of the exit statuses.
+ENDS, ENDS_OF_PARTS = ".!?", ".!?:;"
 # Each house word, with its forms, is in a document at most so often in a thousand words.
 OFTEN = 2
 HOUSE = {"tell": r"tell|tells|telling|told", "stand": r"stand|stands|standing|stood", "beside": r"beside|besides", "behind": r"behind"}
 # README has at most so many lines, so that it can be read at once.
 README_LINES = 150
+# An entry of docs/DECISIONS.md has so many sentences, so that it says the decision and why, and no more than one.
+ENTRY_SENTENCES = range(3, 9)
 # The tables of docs/LIBRARY.md for Rattle end here.
 LIBRARY_END = "## From C and Python"
 
@@ -40,15 +45,22 @@ def without_code(text: str) -> str:
     return re.sub(r"`[^`]*`", "x", "\n".join(kept))
 
 
-def sentences(text: str) -> list[str]:
+def sentences(text: str, ends: str = ENDS) -> list[str]:
     """The sentences of a document; each item of a list is one of its own, and tables and headings have none."""
     lines = ["" if line.startswith(("|", "#")) else re.sub(r"^ *([-*]|\d+\.) ", "\n\n", line) for line in without_code(text).split("\n")]
     paragraphs = re.split(r"\n\s*\n", "\n".join(lines))
-    return [it for part in paragraphs for it in re.split(r"(?<=[.!?:;])[*_)]*\s+", " ".join(part.split())) if it]
+    return [it for part in paragraphs for it in re.split(rf"(?<=[{ends}])[*_)]*\s+", " ".join(part.split())) if it]
 
 
-def long_sentences(text: str) -> list[str]:
-    return [it for it in sentences(text) if len(it.split()) > LONGEST]
+def long_sentences(text: str, ends: str = ENDS) -> list[str]:
+    return [it for it in sentences(text, ends) if len(it.split()) > LONGEST]
+
+
+def uneven_entries(text: str) -> dict[str, int]:
+    """The entries of docs/DECISIONS.md that have too few or too many sentences, and how many."""
+    entries = re.split(r"^### (.*)$", re.sub(r"^## .*$", "", text, flags=re.M), flags=re.M)[1:]
+    counts = {title: len(sentences(entry)) for title, entry in zip(entries[::2], entries[1::2])}
+    return {title: count for title, count in counts.items() if count not in ENTRY_SENTENCES}
 
 
 def house_words(text: str) -> dict[str, float]:
@@ -100,8 +112,11 @@ def uncalled(page: str, source: str) -> list[str]:
 def test_counting() -> None:
     """What is counted, in a document of a few lines."""
     long = " ".join(["word"] * 31)
-    page = f"# {long}\n\n| {long} |\n\n{long}.\n\n- {long} `a b`; short.\n\n```\n{long}\n```\n\n    {long}\n"
-    check("documents: long sentences are found", [len(it.split()) for it in long_sentences(page)] == [31, 32], long_sentences(page))
+    page = f"# {long}\n\n| {long} |\n\n{long}.\n\n- {long} `a b`; more. Short.\n\n```\n{long}\n```\n\n    {long}\n"
+    check("documents: long sentences are found", [len(it.split()) for it in long_sentences(page)] == [31, 33], long_sentences(page))
+    page = "# Title\n\n## Layer\n\n### Short\n\nOne: `a.b`; one.\nTwo.\n\n### Good\n\nOne. Two.\n\n- Three.\n\n## Next\n\n"
+    page += "### Long\n\n" + "One. " * 9
+    check("documents: uneven entries are found", uneven_entries(page) == {"Short": 2, "Long": 9}, uneven_entries(page))
     found = house_words("It stands `behind` it.\nHe told her; | beside | Tell |\n```\ntells\n```\n" + "word " * 91)
     wanted = {"tell": 20.0, "stand": 10.0, "beside": 10.0, "behind": 0.0}
     check("documents: house words are found", found == wanted, found)
@@ -117,12 +132,12 @@ def test_documents() -> None:
         broken = broken_links(name)
         check(f"documents: {name}: links", not broken, broken)
     lines = text_of("README.md").count("\n")
+    uneven = uneven_entries(text_of("docs/DECISIONS.md"))
+    check("documents: docs/DECISIONS.md: an entry has three to eight sentences", not uneven, uneven)
     check("documents: README.md is short", lines <= README_LINES, lines)
 
 
 COMMANDS = ("configure", "explain", "compile", "test", "install", "introspect", "machine-file", "port", "self-install")
-# What the program says, which a script looks for.
-OF_PROGRAM = (" stands for nothing", "stands twice")
 
 
 def test_helps() -> None:
@@ -132,10 +147,27 @@ def test_helps() -> None:
         usage, first, *rest = text.partition("\npositional arguments:\n")[0].partition("\noptions:\n")[0].split("\n\n")
         is_sentence = re.fullmatch(r"[A-Z][a-z]+s [^.]*[.:]", " ".join(first.split()))
         check(f"meson {command} --help: begins with a sentence", usage.lower().startswith("usage: ") and is_sentence, first)
-        found = long_sentences("\n\n".join([first, *rest]))
-        check(f"meson {command} --help: no sentence over {LONGEST} words", not found, "\n".join(found))
+        found = long_sentences("\n\n".join([first, *rest]), ENDS_OF_PARTS)
+        check(f"meson {command} --help: no part of a sentence over {LONGEST} words", not found, "\n".join(found))
         often = {word for word, count in house_words(text).items() if count}
         check(f"meson {command} --help: no house words", not often, often)
+
+
+def help_of(path: str) -> str:
+    """The help of a script that nobody calls by `meson`: its documentation, or the comment at the head of a shell script."""
+    text = text_of(path)
+    if "python" in text.partition("\n")[0]:
+        return ast.get_docstring(ast.parse(text)) or ""
+    lines = itertools.takewhile(lambda line: line.startswith("#"), text.split("\n")[1:])
+    return "\n".join(line.removeprefix("#").removeprefix(" ") for line in lines)
+
+
+def test_helps_of_tests() -> None:
+    """The help of the tests, of the benchmark and of what builds: its first word is a verb, and it has no house words."""
+    paths = sorted(it for where in ("tests/*", "bench/*", "tools/build-*", "test") for it in glob.glob(where, root_dir=CHECKOUT)
+                   if os.path.isfile(os.path.join(CHECKOUT, it)) and os.access(os.path.join(CHECKOUT, it), os.X_OK))
+    wrong = [it for it in paths if not re.match(r"[A-Z][a-z]+s\b", help_of(it)) or any(house_words(help_of(it)).values())]
+    check("the help of each test: a verb first, no house words", len(paths) > 20 and not wrong, f"{len(paths)} scripts: {wrong}")
 
 
 def messages(path: str) -> list[str]:
@@ -145,7 +177,7 @@ def messages(path: str) -> list[str]:
     bodies = [it.body for it in nodes if isinstance(it, (ast.Module, ast.ClassDef, ast.FunctionDef)) and it.body]
     documenting = {it[0].value for it in bodies if isinstance(it[0], ast.Expr)}
     texts = [it for it in nodes if isinstance(it, ast.Constant) and isinstance(it.value, str) and it not in documenting]
-    return [it.value for it in texts if " " in it.value and it.value not in OF_PROGRAM]
+    return [it.value for it in texts if " " in it.value]
 
 
 def test_messages() -> None:
@@ -154,10 +186,6 @@ def test_messages() -> None:
     found = [f"{os.path.relpath(path, CHECKOUT)}: {text}" for path in scripts for text in messages(path)
              if any(house_words(text.replace("`", "")).values())]
     check("the messages of the scripts: no house words", not found, "\n".join(found))
-
-
-# Calls over a ledger of steps. The prover lets no test pick the ledger yet, so these are reached through `setup` alone.
-NOT_CALLED = ("evaluate", "Steps")
 
 
 def test_calls() -> None:
@@ -176,11 +204,11 @@ def test_calls() -> None:
     source = "use meson::d::{\n    C, D,\n};\nuse meson::f::E;\nfn g() {\n    meson::a();\n    C::new();\n    E::new().put(set);\n}\n"
     check("documents: calls that nothing uses are found", uncalled(page, source) == ["b", "C::get", "E::new", "set"], uncalled(page, source))
     source = "".join(text_of(it) for it in sorted(glob.glob("crates/library_tests/src/*.rt", root_dir=CHECKOUT)))
-    missing = [it for it in uncalled(text_of("docs/LIBRARY.md"), source) if it not in NOT_CALLED]
+    missing = uncalled(text_of("docs/LIBRARY.md"), source)
     check("documents: crates/library_tests calls each call of docs/LIBRARY.md", bool(source) and not missing, missing)
 
 
-TESTS = [test_counting, test_calls, test_documents, test_helps, test_messages]
+TESTS = [test_counting, test_calls, test_documents, test_helps, test_helps_of_tests, test_messages]
 
 
 if __name__ == "__main__":

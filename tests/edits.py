@@ -4,7 +4,7 @@ from importlib.machinery import SourceFileLoader
 from importlib.util import module_from_spec, spec_from_loader
 from types import ModuleType
 
-from workshop import CHECKOUT, check
+from tests.workshop import CHECKOUT, check
 
 
 def wrong_bodies() -> ModuleType:

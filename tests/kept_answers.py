@@ -9,7 +9,7 @@ import subprocess
 import sys
 from collections.abc import Callable
 
-from workshop import WORK, check, environment, put, read, run, words_of
+from tests.workshop import WORK, check, environment, put, read, run, words_of
 
 PROJECT = """project('kept', 'c')
 cc = meson.get_compiler('c')

@@ -1,12 +1,9 @@
 """The parts that stand for slower ones of the standard library: the words of a command, and records; tests/scripts runs this too."""
-import sys
 
-from workshop import CHECKOUT, check
-
-sys.path.insert(0, CHECKOUT)
-from tools import records  # noqa: E402
-from tools.ending import Stop  # noqa: E402
-from tools.words import Parser  # noqa: E402
+from tests.workshop import check
+from tools import records
+from tools.command_line import Parser
+from tools.ending import Stop
 
 
 def parsed(*words: str) -> dict[str, object] | str:

@@ -9,8 +9,8 @@ import shutil
 import signal
 import subprocess
 
-from attacks import files_below, fresh, is_running, try_streams, wait_for_pids
-from workshop import WORK, check, environment, put, refuses, run, wait_until, words_of
+from tests.attacks import files_below, fresh, is_running, try_streams, wait_for_pids
+from tests.workshop import WORK, check, environment, put, refuses, run, wait_until, words_of
 
 MACHINE_FILE = ["meson", "machine-file", "m"]
 

@@ -2,7 +2,7 @@
 
 Each line, without blanks at its ends, is empty, a comment, `[section]`, or `key = value`, cut at the first `=`
 (in `[checks]` the last). A value is a string '..', a number, a truth value or a list of such strings, then at most a
-comment. No section and no key stands twice, and each has the type that its place asks for.
+comment. No section and no key occurs twice, and each has the type that its place asks for.
 """
 import re
 
@@ -82,7 +82,7 @@ def machine_lines(data):
                 section = line[1:-1]
                 plain = section in ("binaries", "built-in options", "project options", "host_machine", "compiler", "checks", "properties")
                 if section in sections or not plain and not re.fullmatch(r"dependency .+", section):
-                    raise ValueError(f"no section, or one that stands twice: {line}")
+                    raise ValueError(f"no section, or one that occurs twice: {line}")
                 sections[section] = {}
                 continue
             cut = line.rfind("=") if section == "checks" else line.find("=")
@@ -90,7 +90,7 @@ def machine_lines(data):
                 raise ValueError(f"no such line: {line}")
             key, value = line[:cut].strip(BLANKS), value_of(line[cut + 1:].strip(BLANKS))
             if key in sections[section]:
-                raise ValueError(f"a key that stands twice: {key}")
+                raise ValueError(f"a key that occurs twice: {key}")
             check_place(section, key, value)
             sections[section][key] = value
         except ValueError as error:

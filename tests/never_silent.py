@@ -9,10 +9,10 @@ import subprocess
 import sys
 import time
 
-from attacks import is_running
-from commands import MESON, NOTHING_ASKED, meson, taken, with_tools
-from workshop import (CHECKOUT, COMMAND, WORK, check, configured, environment, only_on_path, over, put, read, refuses, run, shell,
-                      wait_until)
+from tests.attacks import is_running
+from tests.commands import MESON, NOTHING_ASKED, meson, taken, with_tools
+from tests.workshop import (CHECKOUT, COMMAND, WORK, check, configured, environment, only_on_path, over, put, read, refuses, run, shell,
+                            wait_until)
 
 ASKED = '{"section":"%s","key":%s,"answer":%s,"file":"meson.build","line":%d,"beside":{}}'
 SOURCES = os.path.join(os.path.realpath(WORK), "silent")
@@ -333,10 +333,10 @@ def test_own_faults() -> None:
 
 def test_dear_sources() -> None:
     """Sources that make an explanation dear: it is given up, and `setup` ends all the same."""
-    lines = ["import sys, tools.explaining.brief as it, tools.commands.advise as advise, tools.limit", "def endless(*words):",
-             "    while True: pass", "it.brief, tools.limit.SECONDS, sys.argv = endless, 0.2, ['advise', 'program', '1', 'b']",
+    lines = ["import sys, tools.explaining.brief as it, tools.commands.advise as advise, tools.time_limit", "def endless(*words):",
+             "    while True: pass", "it.brief, tools.time_limit.SECONDS, sys.argv = endless, 0.2, ['advise', 'program', '1', 'b']",
              "advise.main()"]
-    done = run([sys.executable, "-B", "-c", "\n".join(lines)], {"PYTHONPATH": f"{CHECKOUT}:{CHECKOUT}/tools"})
+    done = run([sys.executable, "-B", "-c", "\n".join(lines)], {"PYTHONPATH": CHECKOUT})
     wanted = "meson: it takes too long to say here what the fault is about\nmeson: more: meson explain b\n"
     check("meson setup: an explanation that is dear", (done.returncode, done.stderr) == (0, wanted), f"{done}")
 
@@ -481,8 +481,8 @@ def test_configure() -> None:
     with open(f"{CHECKOUT}/docs/REFERENCE.md", encoding="utf-8") as it:
         listed = it.read().partition("\n| Option |")[2].partition("\n\n")[0].splitlines()[2:]
     names = {name for line in listed for name in re.findall(r"`(\w+)`", line.split("|")[1])}
-    asks = f"import sys; sys.path[:0] = [{CHECKOUT!r}, {CHECKOUT + '/tools'!r}]; from tools.option_table import BUILT_IN; print(*BUILT_IN)"
-    known = run([sys.executable, "-B", "-c", asks]).stdout.split()
+    asks = "from tools.option_table import BUILT_IN; print(*BUILT_IN)"
+    known = run([sys.executable, "-B", "-c", asks], {"PYTHONPATH": CHECKOUT}).stdout.split()
     check("meson configure: the options of docs/REFERENCE.md", names == set(known) and len(known) == 17, names ^ set(known))
     put("instead", "exit 1")
     done = meson("configure", "d", cwd=SOURCES)

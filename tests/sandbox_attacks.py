@@ -13,14 +13,12 @@ import tempfile
 import time
 from collections.abc import Iterator
 
-from attacks import files_below, fresh
-from workshop import CHECKOUT, WORK, check, put, run
-
-sys.path[:0] = [CHECKOUT, os.path.join(CHECKOUT, "tools")]
-from tools.asking.allowed import Allowed  # noqa: E402
-from tools.asking.compiler import Compiler, Flags  # noqa: E402
-from tools.asking.processes import NoAnswer  # noqa: E402
-from tools.asking.sandbox import Sandbox, version_of_landlock  # noqa: E402
+from tests.attacks import files_below, fresh
+from tests.workshop import CHECKOUT, WORK, check, put, run
+from tools.asking.allowed import Allowed
+from tools.asking.compiler import Compiler, Flags
+from tools.asking.processes import NoAnswer
+from tools.asking.sandbox import Sandbox, version_of_landlock
 
 HAS_LANDLOCK = version_of_landlock() > 0
 MAIN = "int main(void) { return 0; }"
@@ -242,13 +240,14 @@ def test_what_weakens_the_sandbox() -> None:
         check(f"{option} of a project that work in no sandbox", is_refused and not files_below("outside") or not HAS_LANDLOCK, f"{done}")
     done = run(["meson", "machine-file", "--ask", "has_argument -gsplit-dwarf"])
     check("a word for which the compiler calls objcopy", done.stdout.endswith("has_argument -gsplit-dwarf = true\n"), f"{done}")
-    names_programs = (f"import sys; sys.path[:0] = ['{CHECKOUT}', '{CHECKOUT}/tools']; sys.dont_write_bytecode = True; import tempfile\n"
+    names_programs = ("import sys; sys.dont_write_bytecode = True; import tempfile\n"
                       "from tools.asking.programs import programs_of\n"
                       "print(*programs_of([sys.argv[1]], [], tempfile.gettempdir()), sep='\\n')")
     for name in ("as", "bin/tool", "tool"):
         put(f"m/{name}", "#!/bin/sh\n", 0o755)
     named = put("names", "#!/bin/sh\n# bin/tool ./tool ../m/tool\nexec cc \"$@\"\n", 0o755)
-    done = run([sys.executable, "-c", names_programs, named], {"PATH": f".:bin::{os.environ['PATH']}"}, f"{WORK}/m")
+    env = {"PATH": f".:bin::{os.environ['PATH']}", "PYTHONPATH": CHECKOUT}
+    done = run([sys.executable, "-c", names_programs, named], env, f"{WORK}/m")
     is_clean = done.returncode == 0 and "/cc1\n" in done.stdout and os.path.realpath(f"{WORK}/m") not in done.stdout
     check("programs of the present folder are none of the compiler's", is_clean, f"{done}")
 

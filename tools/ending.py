@@ -15,7 +15,7 @@ if TYPE_CHECKING:
     from types import FrameType
     from typing import NoReturn
 
-from tools.early import INTERRUPTED, SIGNALS
+from tools.early_signals import INTERRUPTED, SIGNALS
 
 # The name by which the command was called, which is none of what it runs.
 CALLED = os.environ.pop("HAWKOTTOMAN_CALLED", "meson")

@@ -11,6 +11,9 @@ TYPE_CHECKING = False
 if TYPE_CHECKING:
     from typing import BinaryIO
 
+# The names of an option file, of which the first that is there counts, and of all definition files.
+OPTION_FILES = ("meson.options", "meson_options.txt")
+DEFINITION_FILES = ("meson.build", *OPTION_FILES)
 # Bytes of a file that is read: of a definition file as many as the program takes, of any other file more than it writes.
 DEFINITION, MOST_BYTES = 1 << 24, 1 << 30
 LOGS = "meson-logs"
@@ -18,7 +21,7 @@ FOLDER = os.O_PATH | os.O_DIRECTORY | os.O_CLOEXEC
 
 
 def open_file(path: str) -> BinaryIO:
-    """Opens a file to be read. Whatever stands against it is an OSError that says so."""
+    """Opens a file to be read. If it can't be opened, an OSError says why."""
     try:
         number = os.open(path, os.O_RDONLY | os.O_NONBLOCK | os.O_CLOEXEC)
     except ValueError as error:  # a name that has a NUL

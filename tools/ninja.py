@@ -50,7 +50,7 @@ def plain(path: str) -> str:
 
 
 def paths_in(text: str) -> list[str]:
-    """The paths that stand in a line of Ninja's files."""
+    """Returns the paths that are in a line of Ninja's files."""
     return list(map(plain, re.findall(r"(?:[^$ ]|\$.)+", text)))
 
 

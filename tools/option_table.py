@@ -3,15 +3,15 @@ from __future__ import annotations
 
 import os
 
-from porting import tree
-from porting.lexer import SyntaxFault
-from porting.options import declarations
-from porting.parser import parse
 from tools.asking.compare import read_sections
 from tools.document import read_content
 from tools.ending import CALLED, one_line, show
-from tools.files import DEFINITION, read_text
-from tools.last_setup import Setup, machine_path, read_setup, settings_of
+from tools.files import DEFINITION, OPTION_FILES, read_text
+from tools.porting import tree
+from tools.porting.lexer import SyntaxFault
+from tools.porting.options import declarations
+from tools.porting.parser import parse
+from tools.setup_arguments import Setup, machine_path, read_setup, settings_of
 
 TYPE_CHECKING = False
 if TYPE_CHECKING:
@@ -52,7 +52,7 @@ def source_of(call: tree.Call, name: str, text: str) -> str:
 
 def declared(sources: str) -> dict[str, tuple[str, str, str]] | None:
     """Returns the default, the choices and the description of each option of the project; none if its option file can't be read."""
-    for name in ("meson.options", "meson_options.txt"):
+    for name in OPTION_FILES:
         path = os.path.join(sources, name)
         if os.path.isfile(path):
             text = read_text(path, DEFINITION)

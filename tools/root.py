@@ -118,7 +118,7 @@ class Root:
             close(opened)
 
     def descend(self, folders: list[str], makes: bool) -> list[int | None]:
-        """The numbers of the folders that are open from the root down to the last; none stands for one that is absent."""
+        """Returns the numbers of the folders that are open from the root down to the last; None for one that is absent."""
         opened: list[int | None] = [open_folder(self.path, None)]
         waiting, links = folders[::-1], 0
         try:
@@ -161,7 +161,7 @@ def open_folder(path: str, above: int | None) -> int | None:
 
 
 def enter(opened: list[int | None], part: str, makes: bool) -> str | None:
-    """Opens a folder in the last one, or gives the text of the link that stands there."""
+    """Opens a folder in the last one, or returns the text of the link that is there."""
     above = opened[-1]
     if above is None:
         opened.append(None)

@@ -3,7 +3,7 @@ import dataclasses
 import json
 import re
 
-from form import FormError
+from tests.harness.form import FormError
 
 # The keys of a line, in their order.
 KEYS = ["section", "key", "answer", "file", "line", "beside"]

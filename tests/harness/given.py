@@ -2,8 +2,8 @@
 import dataclasses
 import os
 
-from form import FormError, written_out
-from judge import UNENDED, Expected, filled, result_parts, row_place
+from tests.harness.form import FormError, written_out
+from tests.harness.judge import UNENDED, Expected, filled, result_parts, row_place
 
 # The directives that ask for further runs.
 MODES = {"cut", "fail", "pieces"}

@@ -1,13 +1,10 @@
 """Runs a case through the library for Python, over files in memory."""
 import faulthandler
 import os
-import sys
 
-from given import Came, Given
-from judge import UNENDED
-
-sys.path.insert(0, os.path.join(os.path.dirname(os.path.realpath(__file__)), "..", "..", "python"))
-import hawkottoman  # noqa: E402
+from python import hawkottoman
+from tests.harness.given import Came, Given
+from tests.harness.judge import UNENDED
 
 # The folder of the sources, which no disk needs to have.
 ROOT = "/s"

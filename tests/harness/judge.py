@@ -4,8 +4,8 @@ import itertools
 import json
 import re
 
-from asked import asked_differs, questions_of
-from form import FormError, HOLE, fault_of, written_out
+from tests.harness.asked import asked_differs, questions_of
+from tests.harness.form import FormError, HOLE, fault_of, written_out
 
 # The words of each fault, behind its number.
 WORDS = {

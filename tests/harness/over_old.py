@@ -3,7 +3,7 @@ old output is as it was or the new one, whole, and the run that comes after make
 import errno
 import os
 
-from judge import DOCUMENT, SAID, SYNCED, UNENDED, shown
+from tests.harness.judge import DOCUMENT, SAID, SYNCED, UNENDED, shown
 
 # The time that old outputs have.
 OLD_TIME = 10**9

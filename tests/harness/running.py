@@ -7,12 +7,12 @@ import struct
 import subprocess
 import tempfile
 
-from form import FormError
-from given import KINDS, OVER_OLD, REMOVALS, Came, Given
-from in_memory import Memory
-from judge import DOCUMENT, FAULT_LINE, SAID, UNENDED, differing, shown
-from over_old import each_fails_over_old, in_place
-from places import changes, kind_of, locked, make_thing, pipe_of, states_below, stream_changer
+from tests.harness.form import FormError
+from tests.harness.given import KINDS, OVER_OLD, REMOVALS, Came, Given
+from tests.harness.in_memory import Memory
+from tests.harness.judge import DOCUMENT, FAULT_LINE, SAID, UNENDED, differing, shown
+from tests.harness.over_old import each_fails_over_old, in_place
+from tests.harness.places import changes, kind_of, locked, make_thing, pipe_of, states_below, stream_changer
 
 # The most seconds that one run may take.
 MOST_SECONDS = 60

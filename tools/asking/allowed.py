@@ -13,7 +13,7 @@ DANGER = "%r is not among the arguments that a compiler may get for a project"
 # A package of pkg-config: it would read the file of any other name.
 PACKAGE = re.compile(r"[A-Za-z0-9][A-Za-z0-9+._-]*")
 VALUE = re.compile(r"[\w.,:+!-]*")  # has no slash, so it names nothing outside of the present folder
-# A path as it may stand in the makefile that lto-wrapper writes: between quotes, where `make` and the shell would still read `'` and `$`.
+# A path as it may be in the makefile that lto-wrapper writes: between quotes, where `make` and the shell would still read `'` and `$`.
 PATH, LINKED_PATH = r"[\w./+:=%~@, -]*", r"[\w./+:=%~ -]+"
 LINKED = re.compile(r"[^-/,@][^/,@]*", re.DOTALL)  # is no option and no file
 # Words of which their own form is enough. A macro has any text: it is handed on to the compiler alone.
@@ -33,7 +33,7 @@ SYMBOLS = re.compile(f"-Wl,--?(?:version-script|dynamic-list)[,=]({LINKED_PATH})
 
 
 class Names:
-    """The names of a table. A `*` in a name stands for letters, digits, dots and dashes."""
+    """The names of a table. A `*` in a name matches letters, digits, dots and dashes."""
 
     def __init__(self, names: list[str]) -> None:
         self.plain = {it for it in names if "*" not in it}
@@ -44,7 +44,7 @@ class Names:
 
 
 def is_between(word: str, before: str, after: str) -> bool:
-    """Whether only what a `*` stands for is between the beginning of a word and this end."""
+    """Whether a `*` matches what is between the beginning of a word and this end."""
     rest = word[len(before):]
     return rest.endswith(after) and STARRED.issuperset(rest[:len(rest) - len(after)])
 

@@ -54,7 +54,7 @@ SUMMARY = (r"collect2: error: ld returned \d+ exit status|.*error: linker comman
 
 @dataclasses.dataclass(frozen=True)
 class Check:
-    """A check with what stands beside it."""
+    """A check with its prefix and flags."""
     key: str
     prefix: str
     flags: Flags
@@ -69,14 +69,14 @@ def argument_of(check: Check) -> str:
 
 
 def is_closed(prefix: str) -> bool:
-    """Whether a text consists of whole directives, so that what follows it is read as it stands."""
+    """Whether a text consists of whole directives, so that what follows it is read as it is written."""
     lines = prefix.split("\n")
     opens = sum(re.match(r"\s*#\s*if", it) is not None for it in lines)
     return all(re.fullmatch(LINE, it) for it in lines) and opens == sum(re.match(r"\s*#\s*endif", it) is not None for it in lines)
 
 
 def set_of(check: Check) -> tuple[str, str, Flags] | None:
-    """The set whose checks are asked together: its family, what stands before them, their words. None where it is asked alone."""
+    """Returns the set whose checks are asked together: its family, what is before them, their flags. None if a check is asked alone."""
     method, (a, b) = arguments_of(check.key)[0], (*arguments_of(check.key)[1], "")[:2]
     if method == "has_argument" and re.fullmatch(FREE, a):
         return method, "", Flags()
@@ -125,7 +125,7 @@ def ask_together(compiler: Compiler, bundle: list[Check]) -> Answers:
 
 
 def marked(compiler: Compiler, before: str, flags: Flags, tests: list[str]) -> list[bool | None]:
-    """How each condition of the preprocessor comes out behind a text; none where it isn't told exactly once."""
+    """Says how each condition of the preprocessor comes out after a text; none if it isn't printed exactly once."""
     mark = "mark_" + os.urandom(8).hex()
     blocks = "".join(f"\n{it}\n{mark} {number} yes\n#else\n{mark} {number} no\n#endif" for number, it in enumerate(tests))
     done = compiler.attempt("preprocess", f"{before}{blocks}", flags, hears=True)
@@ -206,7 +206,7 @@ class Unit:
             elif match and match[1] in checks:
                 found.setdefault(match[1], is_understood(match[2], checks[match[1]]))
             elif match and re.search(NO_HEADER, line) and "limits.h" not in line:
-                # It stands before all checks, none of which includes a header.
+                # It is before all checks, none of which includes a header.
                 self.has_no_header = True
                 return dict.fromkeys(checks, True)
             elif undefined or re.search(ERROR, line) and not re.fullmatch(SUMMARY, line.strip()):

@@ -24,7 +24,7 @@ BUILTIN = ("{prefix}\nint main(void) {{\n#if {needs_macro:d} && !defined({a})\n#
 # The same condition for the preprocessor, with a name of its own: where it doesn't hold, a compilation of `BUILTIN` ends in an `#error`.
 BUILTIN_TEST = ("#undef {mark}\n#ifdef __has_builtin\n#if __has_builtin({builtin})\n#define {mark}\n#endif\n#else\n#define {mark}\n#endif\n"
                 "#if defined({mark}) && ({needs_macro:d} == 0 || defined({a}))")
-# What a number is, what stands before it, and a type that it needs.
+# What a number is, what is before it, and a type that it needs.
 NUMBERS = {"sizeof": ("sizeof({a})", "{prefix}\n#include <stddef.h>\n#include <stdio.h>", ""),
            "alignment": ("offsetof(struct {tmp}, target)", "{prefix}\n#include <stdio.h>\n#include <stddef.h>",
                          "\nstruct {tmp} {{ char c;\n{a} target; }};")}
@@ -32,7 +32,7 @@ NUMBERS = {"sizeof": ("sizeof({a})", "{prefix}\n#include <stddef.h>\n#include <s
 HOLDS = "%s\nint main(void) { static int check[1 - 2 * !(%s)]; check[0] = 0; return check[0]; }"
 GREATEST = 2**62
 OF_TWO = ("has_member", "has_header_symbol")  # arguments
-# Checks of the words of the compiler and the linker, which no other words of the project stand beside.
+# Checks of arguments of the compiler and the linker, which get no other arguments of the project.
 OF_WORDS = ("has_argument", "has_link_argument", "find_library")
 METHODS = (*SOURCES, *NUMBERS, *OF_WORDS, "has_function")
 
@@ -76,7 +76,7 @@ def has_function(compiler: Compiler, name: str, prefix: str, flags: Flags) -> bo
 
 
 def names_of_function(name: str, prefix: str) -> dict[str, object]:
-    """What stands in the sources that ask for a function."""
+    """Returns what is in the sources that ask for a function."""
     is_builtin = name.startswith("__builtin_")
     return {"prefix": prefix, "a": name, "builtin": "__builtin_" + name.removeprefix("__builtin_"),
             "needs_macro": "#include" in prefix and not is_builtin}

@@ -22,7 +22,7 @@ from tools.asking.programs import after_launchers
 from tools.asking.sandbox import SECONDS, Sandbox, sandbox_of
 from tools.ending import Stop
 from tools.files import read_bytes
-from tools.side_by_side import side_by_side
+from tools.parallel import side_by_side
 from tools.variables import pkg_config, words_of
 
 # The programs that a compiler runs, and what is looked at of all that it defines.
@@ -198,9 +198,9 @@ class Compiler:
                 it.write(source + "\n")
             own = (OF_CLANG + (OF_CLANG_THAT_COMPILES if mode == "compile" else [])) if self.id == "clang" else []
             evidence = at_work() if self.cache.path else None
-            tells = ["-H"] if evidence else []
+            lists_headers = ["-H"] if evidence else []
             first = [] if ending in ASSEMBLY else INCLUDED_FIRST
-            given = [*self.own, file, *first, *MODES[mode], *tells, *flags.compile_args, *self.c_args, "-O0", *own, *flags.args]
+            given = [*self.own, file, *first, *MODES[mode], *lists_headers, *flags.compile_args, *self.c_args, "-O0", *own, *flags.args]
             given += [GUARD, *flags.link_args, *self.c_link_args, GUARD, *(["-Wl,--verbose"] if evidence else [])] if mode == "link" else []
             path = os.path.join(folder, "made")
             to = [] if hears and mode == "preprocess" else ["-o", path]
@@ -210,7 +210,7 @@ class Compiler:
             return dataclasses.replace(done, said=done.said.replace(file, "empty" + ending), made=made)
 
     def noted(self, evidence: Evidence, mode: str, source: str, flags: Flags, done: Done) -> Done:
-        """Takes what a run tells of the files that it has read out of what it says, and adds it to the evidence."""
+        """Takes what a run reports of the files that it has read out of what it says, and adds it to the evidence."""
         said, headers = cut_headers(done.said)
         if headers or "#" in source:
             add_headers(evidence, source, said, headers, self.searched(flags))
@@ -231,7 +231,7 @@ class Compiler:
         return self.attempt(mode, source, flags).is_good
 
     def expansion(self, name: str, prefix: str, flags: Flags = Flags()) -> str:
-        """What a macro stands for behind a prefix; empty where it is none."""
+        """Returns what a macro expands to after a prefix; empty if it is none."""
         printed = self.attempt("preprocess", f'{prefix}\n#ifndef {name}\n#define {name}\n#endif\n"it is" {name}', flags, hears=True).printed
         return printed.rpartition('"it is"')[2].strip()
 

@@ -4,10 +4,10 @@ import shutil
 from collections.abc import Iterator
 
 from tools import records as dataclasses
+from tools.asking.allowed import DANGER, is_package
 from tools.asking.bundles import Check, ask_together, bundles_of
 from tools.asking.cache import label_of
 from tools.asking.checks import METHODS, NUMBERS, OF_WORDS, answer, arguments_of
-from tools.asking.allowed import DANGER, is_package
 from tools.asking.compiler import Compiler, Flags, identity
 from tools.asking.dependencies import dependency
 from tools.asking.evidence import gathered
@@ -15,7 +15,7 @@ from tools.asking.packages import who_has
 from tools.asking.processes import NoAnswer, end_all
 from tools.asking.questions import Question
 from tools.asking.text import Sections, can_hold, is_written, spelled
-from tools.side_by_side import side_by_side
+from tools.parallel import side_by_side
 from tools.variables import pkg_config
 
 OWN = ""  # what a program is that is a file of the project, which the run finds by itself
@@ -185,7 +185,7 @@ class Machine:
         return found if isinstance(found, dict) else {"link_args": ["-l" + name]} if is_library else {}
 
     def lack(self, question: Question) -> str:
-        """What is missing where a question stands that a run ended with, and who has it; nothing where its answer is no reason to end."""
+        """Says what a run that ended with a question lacks, and who has it; nothing if the answer is no reason to end."""
         came = self.answers.get(question.label, OWN)
         if came is None or came is False:
             return f"{question.name} is not found; {who_has(self.compiler, question.name)}"
@@ -193,7 +193,7 @@ class Machine:
         return f"{question.name} has version {came.get('version', 'unknown')}, and {wanted} is required" if isinstance(came, dict) else ""
 
     def remarks(self, questions: list[Question]) -> Iterator[tuple[str, str]]:
-        """What is to be said: comments of the machine file, each with what users are told at once, where that is something."""
+        """Returns what is to be said: comments of the machine file, each with what is reported to users at once, if anything."""
         first: dict[str, tuple[str, object]] = {}
         for question in each_once(questions):
             came = self.answers.get(question.label, OWN)

@@ -20,7 +20,7 @@ SHOWN = 3  # packages
 
 
 def lacks(compiler: Compiler, name: str) -> str:
-    """The dependency of a dependency that stands in its way, as pkg-config says it."""
+    """Returns the missing dependency of a dependency, as pkg-config reports it."""
     said = compiler.ask([*pkg_config(), "--print-errors", "--exists", "--", name]).said if is_package(name) else ""
     match = re.search(r"Package '?([^\s']+)'?, required by '([^']+)', not found", said)
     return match[1] if match and match[2] != "virtual:world" else ""
@@ -31,7 +31,7 @@ def of_file(path: str, stem: str) -> str:
         # By its name a package is guessed for a .pc file alone.
         if shutil.which(words[0]) and (words[0] != "apt-cache" or path.endswith(".pc")):
             asked = [it.format(path=path, pattern=re.escape(path), stem=re.escape(stem)) for it in words]
-            # At the root: scripts among these commands could be told to look in the present folder for modules.
+            # At the root: scripts among these commands could be made to look in the present folder for modules.
             printed = run(asked, "/").printed
             names = list(dict.fromkeys(re.findall(form, printed, re.M)))
             if names:

@@ -12,7 +12,7 @@ from tools import records as dataclasses
 from tools.ending import Stop
 
 SECONDS, GRACE = 300, 20  # that a command may take, and that it may take to end its own commands
-# Bytes that a command may print or say, that the program may tell, and that are read at once.
+# Bytes that a command may print or say, that the program may report, and that are read at once.
 MOST_BYTES, MOST_TOLD, PIECE = 1 << 24, 1 << 28, 1 << 16
 AT_WORK: set[int] = set()  # the groups of processes of the commands that run
 ENDED = threading.Event()  # no further command is begun

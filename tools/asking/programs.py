@@ -40,7 +40,7 @@ def programs_of(compiler: list[str], others: list[str], folder: str) -> tuple[st
     on_path = path_folders()
     for word in (*compiler, *others):
         if not word.startswith("-"):
-            # All of its name: a command that stands in for a compiler calls the next one on PATH.
+            # All of its name: a command that wraps a compiler calls the next one on PATH.
             add_all(found, [*files_named(word, on_path), *files_named(os.path.basename(word), on_path)], DEEPEST)
     listed = re.search(r"^programs: =?(.*)$", run([*compiler, "-print-search-dirs"], folder).printed, re.M)
     own = [it for it in (listed[1].split(":") if listed else []) if os.path.isabs(it)]

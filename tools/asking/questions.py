@@ -1,19 +1,19 @@
-"""What a run of the program asks of the machine, as `meson questions` tells it."""
+"""What a run of the program asks of the machine, as `meson questions` prints it."""
 import json
 import os
 import tempfile
 
-from porting.lexer import SyntaxFault, tokens_of
 from tools import records as dataclasses
 from tools.asking.checks import OF_WORDS
 from tools.asking.processes import MOST_TOLD, run
 from tools.ending import Stop
 from tools.files import DEFINITION, read_text
-from tools.links import linked_copy
+from tools.linked_copy import linked_copy
+from tools.porting.lexer import SyntaxFault, tokens_of
 
 ROOT_FILE = "meson.build"
 BUILD = "build-of-the-questions"
-# Behind the call of `project`: two checks, beside which stand the options in use.
+# After the call of `project`: two checks, which have the options in use.
 IN_USE = """
 meson.get_compiler('c').sizeof('in use', prefix: get_option('c_std'), args: get_option('c_args'))
 meson.get_compiler('c').sizeof('in use by the linker', args: get_option('c_link_args'))
@@ -37,7 +37,7 @@ class Question:
 
     @property
     def name(self) -> str:
-        """As users are told of it: a check by its key, a program by its name, a dependency by its section."""
+        """Returns its name in messages: a check by its key, a program by its name, a dependency by its section."""
         return {"checks": "", "binaries": "program "}.get(self.section, self.section) + (self.key or "")
 
     @property

@@ -4,7 +4,7 @@ A sandboxed process can execute only the files of `programs`, write only below t
 memory, files, processes and time have limits. What it reads is not bounded: headers and libraries lie at any place, behind any links.
 
 One gap is known: the loader is among the programs, and a program that is handed to the loader is mapped, not executed. So a compiler that
-can be told to run the loader runs a program inside the sandbox; the words that could tell it so are never given (allowed.py).
+can be made to run the loader runs a program inside the sandbox; the arguments that could do this are never given (allowed.py).
 """
 import contextlib
 import ctypes

@@ -89,12 +89,12 @@ def built(root: str, words: argparse.Namespace) -> int:
 
 
 def parser_of(name: str, text: str) -> argparse.ArgumentParser:
-    """A parser of the words of a command that builds."""
+    """Returns a parser of the arguments of a command that builds."""
     parser = argparse.ArgumentParser(prog=name, description=text, formatter_class=argparse.RawDescriptionHelpFormatter)
     parser.add_argument("-j", "--jobs", type=above_zero, default=len(os.sched_getaffinity(0)),
-                        help="how many processors are used at most (default: those that there are, here %(default)s)")
+                        help="use at most so many processors (default: all, here %(default)s)")
     parser.add_argument("-m", "--memory", type=above_zero, default=max(1, min(MOST_BYTES, free_bytes() - OTHER_BYTES) // GB), metavar="GB",
-                        help="how much memory is taken, about (default: what is free but for 1 GB, at most 8; here %(default)s)")
+                        help="take about so much memory (default: the free memory less 1 GB, at most 8 GB; here %(default)s)")
     return parser
 
 

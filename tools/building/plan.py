@@ -2,14 +2,16 @@
 
 What a check takes of memory grows until it ends, so a crate begins only where there is memory until all that are at work have ended; and
 a long check that begins early can keep a crate waiting that more others wait for. The first is asked of the model, the second is tried. So
-is which crates take all processors that are idle when they begin: one that is alone gains by it, and beside others it takes more work.
+is how many processors each crate takes at most of those that are idle when it begins: with several a check ends sooner, but each of them
+does less.
 """
 import dataclasses
 import random
 
 from tools.building.crates import Crate
 
-TRIES = 600
+# How often the plan is changed before the build begins, which takes some four seconds, and then at the end of each check.
+FIRST_TRIES, TRIES = 4000, 600
 
 
 @dataclasses.dataclass
@@ -29,22 +31,23 @@ class Check:
 
 
 class Plan:
-    """The order in which the crates that are left begin, each once those before it have begun, and the names of those that take all idle
-    processors."""
+    """The order in which the crates that are left begin, each once those before it have begun, and how many processors those take at most
+    that take more than one."""
 
     def __init__(self, crates: list[Crate], jobs: int, room: float) -> None:
         self.jobs, self.room = jobs, room
-        self.left, self.wide = crates, frozenset[str]()
-        self.tried = random.Random(0)
+        self.left, self.most = crates, dict[str, int]()
+        self.tried, self.tries = random.Random(0), FIRST_TRIES
 
     def fits(self, check: Check, at_work: list[Check]) -> bool:
-        """Whether there is memory for one more check until all that are at work have ended; for one alone there has to be."""
+        """Whether there is memory for one more check until all that are at work have ended; for one alone, by one processor, there has to
+        be."""
         checks = [*at_work, check]
         ends = [max(it.end, check.begin) for it in checks]
         taken = (sum(it.bytes_at(time) for it, end in zip(checks, ends) if end >= time) for time in ends)
-        return not at_work or max(taken) <= self.room
+        return not at_work and check.processors == 1 or max(taken) <= self.room
 
-    def next_check(self, order: list[Crate], wide: frozenset[str], at_work: list[Check], now: float, pace: float) -> Check | None:
+    def next_check(self, order: list[Crate], most: dict[str, int], at_work: list[Check], now: float, pace: float) -> Check | None:
         """The check that begins now, if any: of the first crate, where all below it is proved and a processor and memory are free. The
         pace is the seconds here for one of those that were measured."""
         idle = self.jobs - sum(it.processors for it in at_work)
@@ -53,17 +56,17 @@ class Plan:
         waited_for = {it.name for it in order[1:]} | {it.crate.name for it in at_work}
         if not waited_for.isdisjoint(order[0].below):
             return None
-        for processors in range(idle if order[0].name in wide else 1, 0, -1):
+        for processors in range(min(idle, most.get(order[0].name, 1)), 0, -1):
             check = Check(order[0], now, order[0].seconds(processors) * pace, processors)
             if self.fits(check, at_work):
                 return check
         return None
 
-    def end_of(self, order: list[Crate], wide: frozenset[str], at_work: list[Check], now: float, pace: float) -> float:
+    def end_of(self, order: list[Crate], most: dict[str, int], at_work: list[Check], now: float, pace: float) -> float:
         """When all is proved, by the model."""
         left, at_work = list(order), list(at_work)
         while left or at_work:
-            while check := self.next_check(left, wide, at_work, now, pace):
+            while check := self.next_check(left, most, at_work, now, pace):
                 at_work.append(check)
                 del left[0]
             first = min(at_work, key=lambda it: it.end)
@@ -81,26 +84,31 @@ class Plan:
         return order
 
     def improve(self, at_work: list[Check], now: float, pace: float) -> None:
-        """Tries other orders, and other crates that take all idle processors, from one to the next that is done no later; kept is the
-        first that is done soonest."""
-        kept = best = self.end_of(self.left, self.wide, at_work, now, pace), self.left, self.wide
-        for number in range(TRIES if self.left else 0):
-            _, self.left, self.wide = kept
-            order, wide = (self.moved(), self.wide) if number % 2 else (self.left, self.wide ^ {self.tried.choice(self.left).name})
-            end = self.end_of(order, wide, at_work, now, pace)
+        """Tries other orders, and other numbers of processors, from one plan to the next that is done no later; kept is the first that is
+        done soonest."""
+        kept = best = self.end_of(self.left, self.most, at_work, now, pace), self.left, self.most
+        for number in range(self.tries if self.left else 0):
+            _, self.left, self.most = kept
+            order, most = self.left, self.most
+            if number % 2:
+                order = self.moved()
+            else:
+                most = most | {self.tried.choice(self.left).name: self.tried.randint(1, self.jobs)}
+            end = self.end_of(order, most, at_work, now, pace)
             if end <= kept[0]:
-                kept = end, order, wide
+                kept = end, order, most
                 best = kept if end < best[0] else best
-        _, self.left, self.wide = best
+        _, self.left, self.most = best
+        self.tries = TRIES
 
     def begin(self, at_work: list[Check], now: float, pace: float) -> list[Check]:
         """The checks that begin now."""
         self.improve(at_work, now, pace)
         begun: list[Check] = []
-        while check := self.next_check(self.left, self.wide, [*at_work, *begun], now, pace):
+        while check := self.next_check(self.left, self.most, [*at_work, *begun], now, pace):
             begun.append(check)
             del self.left[0]
         return begun
 
     def seconds_left(self, at_work: list[Check], now: float, pace: float) -> float:
-        return self.end_of(self.left, self.wide, at_work, now, pace) - now
+        return self.end_of(self.left, self.most, at_work, now, pace) - now

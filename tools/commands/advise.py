@@ -1,4 +1,4 @@
-"""Says more of a `setup` that has failed: `tools/command advise PROGRAM STATUS [WORD]..`, in the source directory.
+"""Says more of a `setup` that has failed: `tools/command advise PROGRAM STATUS [ARGUMENT]..`, in the source directory.
 
 It prints two lines at most: what the fault is about, which file it is, or what the arguments should be; and which command says more.
 """
@@ -8,16 +8,16 @@ import os
 import sys
 
 from tools.ending import CALLED, one_line, run_script
-from tools.last_setup import build_folder_of, cut, machine_path
-from tools.limit import within_limit
-from tools.of_meson import FLAGS, LEFT_OUT, NO_EFFECT, NO_EFFECT_FLAGS, OPTIONS, named_in
+from tools.meson_arguments import FLAGS, LEFT_OUT, NO_EFFECT, NO_EFFECT_FLAGS, OPTIONS, named_in
+from tools.setup_arguments import build_folder_of, cut, machine_path
+from tools.time_limit import within_limit
 
 DONE, FAULT, DEVICE, BAD_WORDS = 0, 1, 2, 4
 # The longest line that is printed.
 LONGEST = 240
 
 
-def tell(text: str) -> None:
+def report(text: str) -> None:
     """Prints a line on the standard error, cut if it is too long."""
     line = one_line(text)
     print(f"{CALLED}: {line if len(line) <= LONGEST else line[:LONGEST - 2] + '..'}", file=sys.stderr)
@@ -32,8 +32,8 @@ def of_fault(program: str, words: list[str]) -> None:
     """Prints what the fault is about, and which command says more."""
     from tools.explaining.brief import brief
     for line in within_limit(lambda: brief(program, words), "it takes too long to say here what the fault is about"):
-        tell(line)
-    tell(f"more: {CALLED} explain {quoted(words)}")
+        report(line)
+    report(f"more: {CALLED} explain {quoted(words)}")
 
 
 def in_place_of(path: str) -> str:
@@ -69,13 +69,13 @@ def of_device(program: str, words: list[str]) -> None:
     path = machine_path(words)
     why = why_unread(path) if path is not None else ""
     if why:
-        tell(f"{path}: the machine file: {why}")
+        report(f"{path}: the machine file: {why}")
         return
     from tools.explaining.devices import failed
     from tools.explaining.run import Asked
     why = failed(Asked(program, os.getcwd(), words, None)) or ""
     if why:
-        tell(why)
+        report(why)
 
 
 def tip_of(words: list[str]) -> str:
@@ -117,7 +117,7 @@ def main() -> int:
     elif status == BAD_WORDS:
         tip = tip_of(words)
         if tip:
-            tell(tip)
+            report(tip)
     return DONE
 
 

@@ -12,17 +12,17 @@ from __future__ import annotations
 
 import posixpath
 
+from tools.command_line import Parser, check_folder, meant
 from tools.document import Document, read_document
 from tools.ending import Stop, run_script
-from tools.last_setup import configure_again
 from tools.ninja import build, call, find_ninja, with_links
+from tools.setup_arguments import configure_again
 from tools.variables import words_in
-from tools.words import Parser, check_folder, meant
 
 TYPE_CHECKING = False
 if TYPE_CHECKING:
+    from tools.command_line import Given
     from tools.document import Target
-    from tools.words import Given
 
 SCRIPT, FAILED, BAD_WORDS = "meson compile", 1, 4
 

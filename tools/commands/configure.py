@@ -19,16 +19,16 @@ from __future__ import annotations
 
 import os
 
+from tools.command_line import Parser
 from tools.ending import CALLED, Stop, run_script, say
-from tools.kept_machine import PLACE, KeptMachine
-from tools.last_setup import MESON, build_folder_of, has_words, is_pipe, machine_path, read_setup, settings_of
+from tools.meson_arguments import FLAGS, NO_EFFECT, NO_EFFECT_FLAGS, OPTIONS
 from tools.ninja import call
-from tools.of_meson import FLAGS, NO_EFFECT, NO_EFFECT_FLAGS, OPTIONS
-from tools.words import Parser
+from tools.saved_machine_file import PLACE, SavedMachineFile
+from tools.setup_arguments import MESON, build_folder_of, has_words, is_pipe, machine_path, read_setup, settings_of
 
 TYPE_CHECKING = False
 if TYPE_CHECKING:
-    from tools.words import Given
+    from tools.command_line import Given
 
 FAILED, BAD_WORDS = 1, 4
 # The document of a configured folder.
@@ -119,7 +119,7 @@ def configure(given: Given) -> int:
         sources, before, folder = os.getcwd(), [], given.folder
     is_new = not os.path.lexists(os.path.join(sources, folder))
     settings = merged([f"-D{it}" for it in still_known(sources, settings_of(before))], given.words)
-    kept = KeptMachine(PROGRAM, sources, folder, settings)
+    kept = SavedMachineFile(PROGRAM, sources, folder, settings)
     path = os.path.relpath(given.native_file, sources) if given.native_file else machine_path(before)
     if not path or not given.native_file and is_pipe(os.path.join(sources, path)):
         path = kept.path

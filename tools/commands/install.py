@@ -23,18 +23,18 @@ import posixpath
 from collections.abc import Callable, Iterator
 
 from tools import elf
+from tools.command_line import Parser
 from tools.document import Document, read_document
 from tools.ending import Stop, one_line, run_script, show
 from tools.files import new_log, open_file, read_bytes
-from tools.last_setup import check_is_new, configure_again, has_words
 from tools.ninja import build, with_links
 from tools.root import Outside, Root, write_file, write_link, write_pieces
+from tools.setup_arguments import check_is_new, configure_again, has_words
 from tools.variables import words_of
-from tools.words import Parser
 
 TYPE_CHECKING = False
 if TYPE_CHECKING:
-    from tools.words import Given
+    from tools.command_line import Given
 
 BAD_WORDS = 2
 PIECE = 1 << 20  # bytes of a file that are copied at once

@@ -10,10 +10,10 @@ from __future__ import annotations
 
 import json
 
+from tools.command_line import Parser
 from tools.document import PARTS, read_content
 from tools.ending import run_script, write
-from tools.last_setup import check_is_new, configure_again, has_words
-from tools.words import Parser
+from tools.setup_arguments import check_is_new, configure_again, has_words
 
 FAILED, BAD_WORDS = 1, 4
 

@@ -1,4 +1,4 @@
-"""Says what a `setup` that succeeded has left open: `tools/command open-questions PROGRAM [WORD]..`, in the source directory.
+"""Says what a `setup` that succeeded has left open: `tools/command open-questions PROGRAM [ARGUMENT]..`, in the source directory.
 
 It lists questions to which the machine file has no answer, so that they count as "no"; include folders that don't exist; names in
 `default_options` that are no options; and keywords of tests that have no effect. Each has its file and its line.
@@ -14,8 +14,8 @@ import sys
 from tools.asking import processes
 from tools.ending import CALLED, Stop, as_called, one_line, run_script
 from tools.files import read_text
-from tools.last_setup import build_folder_of, machine_path
-from tools.limit import within_limit
+from tools.setup_arguments import build_folder_of, machine_path
+from tools.time_limit import within_limit
 
 TYPE_CHECKING = False
 if TYPE_CHECKING:
@@ -62,29 +62,29 @@ def misspelt(machine: str, found: dict[str, str]) -> dict[str, str]:
     return {name: f"line {named[it[0]]} of the machine file answers {it[0]!r}" for name, it in near.items() if it and it[0] != name}
 
 
-def tell(text: str) -> None:
+def report(text: str) -> None:
     """Prints a line on the standard error."""
     print(as_called(one_line(text)), file=sys.stderr)
 
 
 def listed(title: str, lines: list[str], rest: str = "") -> None:
     """Prints a title and at most five lines below it, and the number of the others with how to see them."""
-    tell(f"{CALLED}: {title}")
+    report(f"{CALLED}: {title}")
     for line in lines[:SHOWN]:
-        tell(f"  {line}")
+        report(f"  {line}")
     if len(lines) > SHOWN:
-        tell(f"  and {len(lines) - SHOWN} more{rest}")
+        report(f"  and {len(lines) - SHOWN} more{rest}")
 
 
-def tell_open(found: dict[str, str], machine: str, path: str | None, folder: str) -> None:
+def report_open(found: dict[str, str], machine: str, path: str | None, folder: str) -> None:
     meant = misspelt(machine, found)
     lines = [f"{place}: {name}" + (f" ({meant[name]})" if name in meant else "") for name, place in found.items()]
     count = f"{len(found)} question{'s have' if len(found) > 1 else ' has'} no answer, and count{'' if len(found) > 1 else 's'} as \"no\":"
     listed(count, lines, f": `{CALLED} questions` lists all")
     if path is None:
-        tell(f"  to answer: `{CALLED} machine-file > native.ini`, then `{CALLED} setup --native-file native.ini {folder}`")
+        report(f"  to answer: `{CALLED} machine-file > native.ini`, then `{CALLED} setup --native-file native.ini {folder}`")
     else:
-        tell(f"  to answer: `{CALLED} machine-file --check {path}` says what this machine answers")
+        report(f"  to answer: `{CALLED} machine-file --check {path}` says what this machine answers")
 
 
 def main() -> int:
@@ -93,9 +93,9 @@ def main() -> int:
     machine = read_text(path) if path is not None else ""
     found = open_questions(program, words, machine)
     if found:
-        tell_open(found, machine, path, folder)
+        report_open(found, machine, path, folder)
     try:
-        from tools.noted import notes
+        from tools.lint import notes
         remarks = within_limit(lambda: notes(folder), "it takes too long to look for what has no effect")
     except (OSError, Stop):
         remarks = []

@@ -15,15 +15,13 @@ from tools.asking import processes
 from tools.document import read_document
 from tools.ending import Stop, run_script, say
 from tools.explaining.run import LONGEST
-from tools.files import read_text
-from tools.last_setup import Setup, is_pipe, machine_path, read_setup, settings_of
-from tools.links import linked_copy
+from tools.files import DEFINITION_FILES, read_text
+from tools.linked_copy import linked_copy
 from tools.root import Outside, Root, write_file
+from tools.setup_arguments import Setup, is_pipe, machine_path, read_setup, settings_of
 
 PLACE = "meson-private/executables"
 TEMPLATE, OUTPUT = "<", ">"
-# Files that say what is done, and are no templates.
-DEFINITIONS = ("meson.build", "meson.options", "meson_options.txt")
 TEXT = "a text in place of an executable template\n"
 UNKNOWN = "it is not known which outputs come from executable templates, so none is made executable"
 
@@ -31,7 +29,7 @@ UNKNOWN = "it is not known which outputs come from executable templates, so none
 def templates_of(folder: str, sources: str) -> list[str]:
     """The files that the last setup has looked at and that are executable."""
     places = ((it, os.path.join(sources, it)) for it in read_document(folder).made_from["present"])
-    return [it for it, place in places if os.path.basename(it) not in DEFINITIONS and "\n" not in it
+    return [it for it, place in places if os.path.basename(it) not in DEFINITION_FILES and "\n" not in it
             and os.path.isfile(place) and os.access(place, os.X_OK)]
 
 

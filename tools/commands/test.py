@@ -25,21 +25,21 @@ import sys
 import threading
 import time
 
+from tools.command_line import Parser, check_folder, meant
 from tools.document import Document, read_document
 from tools.ending import Stop, one_line, run_script, show, write
 from tools.files import LOGS, log_path, new_log, unnamed_file
-from tools.last_setup import check_is_new, configure_again, has_words
 from tools.ninja import build, call, is_on_path
-from tools.side_by_side import side_by_side
+from tools.parallel import side_by_side
+from tools.setup_arguments import check_is_new, configure_again, has_words
 from tools.variables import words_in
-from tools.words import Parser, check_folder, meant
 
 TYPE_CHECKING = False
 if TYPE_CHECKING:
     from typing import BinaryIO
 
+    from tools.command_line import Given
     from tools.document import Test
-    from tools.words import Given
 
 SCRIPT, AT_FAULT, NOT_BUILT = "meson test", 126, 125
 BENCHMARK = "benchmark"  # the suite whose tests run only if they, or a suite of theirs, are named

@@ -1,22 +1,22 @@
-"""E9: a call with its arguments, by what the program tells of them, or else by what the call does with them."""
+"""E9: a call with its arguments, by what the program reports of them, or else by what the call does with them."""
 from __future__ import annotations
 
 import re
 
-from porting import left, tree
 from tools.explaining.context import Context
 from tools.explaining.detail import Detail, detail, listed, near, quoted
-from tools.explaining.instead import in_its_place
+from tools.explaining.fault_report import GOT, NONE, UNSETTABLE
+from tools.explaining.replacements import in_its_place
 from tools.explaining.rows import FUNCTIONS, KINDS, METHODS, PRINTED, TEXTS, Kind
 from tools.explaining.rules import broken_rule, hint_of, place_of_text, value_of_key
-from tools.explaining.told import GOT, NONE, UNSETTABLE
 from tools.explaining.values import OBJECT, OWN, Value
+from tools.porting import tree, unsupported
 
 # What is taken and is no kind of values, where what was given says more.
 OTHERS = ("'c'", "one file")
-# What is told of more than one argument, and of words of commands.
-UNPRINTED, FOR_NOTHING = "one can't be printed", " stands for nothing"
-# Methods that open the lists that they get, each with what may stand there.
+# What is reported of more than one argument, and of arguments of commands.
+UNPRINTED, FOR_NOTHING = "one can't be printed", " without a value"
+# Methods that open the lists that they get, each with what the lists may have.
 OPENED = {"format": PRINTED, "join": TEXTS}
 
 
@@ -32,7 +32,7 @@ def refused(context: Context) -> Detail:
 
 
 def call_of(context: Context) -> tree.Call | None:
-    """The call that is refused: the one that what is told may be of, where that is one alone, or else the node at fault."""
+    """Returns the call that is refused: the only one that the report may be about, or else the node at fault."""
     told, calls = context.told, context.place.calls()
     fitting = [it for it in calls if told.may_be_of(it)] if told.whole else []
     if len(fitting) == 1:
@@ -49,7 +49,7 @@ def own_name(statement: tree.Statement) -> str | None:
 
 
 def of_told(context: Context, call: tree.Call) -> Detail:
-    """What the program tells, at its place in the call, with what the text and the values say of it."""
+    """Says what the program reports, at its place in the call, with what the text and the values say of it."""
     told = context.told
     node = told.value_in(call) if told.may_be_of(call) else None
     if told.so == NONE and told.keyword is not None:
@@ -110,7 +110,7 @@ def values_of(context: Context, call: tree.Call) -> dict[str, Value]:
 
 
 def got(context: Context, value: Value | None) -> str:
-    """What was given where another kind is taken: the value itself, where it is known, or what is told of it."""
+    """Says what was given where another kind is taken: the value itself, if it is known, or what is reported of it."""
     told = context.told
     kind = KINDS.get(told.kind or "")
     found = (misfit_of(kind, value) if kind else value.shown()) if value is not None and value.kind != OBJECT else ""
@@ -120,7 +120,7 @@ def got(context: Context, value: Value | None) -> str:
 def unknown_keyword(context: Context, call: tree.Call, name: str) -> Detail:
     known = (FUNCTIONS if call.receiver is None else METHODS).get(call.name, ())
     takes = f"{call.name} takes {listed(known)}" if known else f"{call.name} takes no keywords"
-    instead = in_its_place("Keywords", name, left.KEYWORDS.get(call.name, {}).get(name, ""))
+    instead = in_its_place("Keywords", name, unsupported.KEYWORDS.get(call.name, {}).get(name, ""))
     return detail(f"{call.name}: {context.told.shown}{near(name, known)}", instead or takes, at=context.told.words_of(call)[0].start)
 
 
@@ -131,7 +131,7 @@ def place_of_count(call: tree.Call, so: str) -> int:
 
 
 def of_call(context: Context, call: tree.Call) -> Detail:
-    """A call of which the program tells nothing: rules of the call; else what each argument is."""
+    """A call of which the program reports nothing: rules of the call; else what each argument is."""
     values = {name: context.value(item) for name, _, item in items_of(call)}
     rule = broken_rule(context, call, values_of(context, call))
     if rule is not None:

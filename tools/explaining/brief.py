@@ -4,12 +4,12 @@ from __future__ import annotations
 import json
 import os
 
-from porting.lexer import line_at
 from tools.ending import CALLED, Stop, as_called
 from tools.explaining.command import TOLD, detail_of, machine_of, text_of
+from tools.explaining.fault_report import report_of
 from tools.explaining.run import WORDS, Asked, Fault, about, in_place
-from tools.explaining.told import told_of
-from tools.of_meson import OTHER_FOLDERS
+from tools.meson_arguments import OTHER_FOLDERS
+from tools.porting.lexer import line_at
 
 E13, E14, E15, E18, E23 = 13, 14, 15, 18, 23
 # How options begin that the real Meson has, and that a packager may give to all projects.
@@ -33,7 +33,7 @@ def of_fault(asked: Asked, fault: Fault) -> str:
     if special:
         return special
     try:
-        lines = detail_of(asked, fault, told_of(told), text_of(asked, fault)).lines
+        lines = detail_of(asked, fault, report_of(told), text_of(asked, fault)).lines
     except (Stop, OSError, ValueError, RecursionError):
         lines = (told,) if told else ()
     return as_called("; ".join(it.rstrip(".") for it in lines[:2]))
@@ -70,7 +70,7 @@ def before_error(fault: Fault) -> str:
 
 
 def with_rule(asked: Asked, fault: Fault, told: str) -> str:
-    """What is left out, and the rule of `meson port` that writes what stands for it."""
+    """Says what is left out, and which rule of `meson port` replaces it."""
     rule = rule_for(asked, fault)
     if rule is None:
         return ""
@@ -81,8 +81,8 @@ def with_rule(asked: Asked, fault: Fault, told: str) -> str:
 
 def rule_for(asked: Asked, fault: Fault) -> tuple[str, bool] | None:
     """The first rule that changes the line of the fault, and whether it is sure."""
-    from porting.project import Project, Unreadable
-    from porting.table import RULES
+    from tools.porting.project import Project, Unreadable
+    from tools.porting.rule_table import RULES
     try:
         text, project = text_of(asked, fault) or "", Project(asked.root)
         for rule in RULES:

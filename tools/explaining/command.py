@@ -5,25 +5,25 @@ import os
 
 from tools.asking.processes import NoAnswer
 from tools.ending import Stop, as_called, help_as_called, one_line, say, show
-from tools.explaining import arguments, devices, grammar, machine, names, operators, others, settings
+from tools.explaining import arguments, devices, duplicates, grammar, limits, machine, names, operators, order, settings
 from tools.explaining.context import Context, read, set_in
 from tools.explaining.detail import Detail, detail, shown
+from tools.explaining.fault_report import FaultReport, report_of
 from tools.explaining.place import place_of
 from tools.explaining.probe import Probe
 from tools.explaining.run import MACHINE, MOST_BYTES, WORDS, Asked, Fault, Outcome, about, in_place, room_of
-from tools.explaining.told import Told, told_of
-from tools.files import DEFINITION, read_bytes
-from tools.last_setup import machine_path
+from tools.files import DEFINITION, OPTION_FILES, read_bytes
+from tools.setup_arguments import machine_path
 
 DONE, NOT_READ, BAD_WORDS = 0, 2, 4
 ON_STATEMENTS = {
     5: names.undefined, 6: operators.refused, 7: operators.refused, 8: names.unknown, 9: arguments.refused, 10: operators.refused,
-    11: others.duplicate, 12: others.folder, 13: others.project_call, 14: names.missing_file, 15: settings.of_statement,
-    17: names.not_found, 18: others.own_words, 20: others.frozen, 21: others.not_held, 22: others.limit, 23: names.left_out,
-    24: others.too_late,
+    11: duplicates.duplicate, 12: order.folder, 13: order.project_call, 14: names.missing_file, 15: settings.of_statement,
+    17: names.not_found, 18: order.own_words, 20: order.frozen, 21: limits.not_held, 22: limits.limit, 23: names.left_out,
+    24: order.too_late,
 }
 ON_TEXTS = {2: grammar.token_detail, 3: grammar.grammar_detail, 4: grammar.nesting_detail}
-# The faults of which the program tells more than their line says.
+# The faults of which the program reports more than their line says.
 TOLD = (9, 11, 15, 16, 21, 22, 23, 24)
 # How long a file is that is looked at, and what is said of one that isn't.
 MOST_CHARACTERS = 1 << 20
@@ -81,7 +81,7 @@ def explained(asked: Asked, fault: Fault) -> list[str]:
     """The fault line, the line of the source with its mark, and the detail."""
     text = text_of(asked, fault)
     try:
-        found = detail_of(asked, fault, told_of(about(asked, fault) if fault.number in TOLD else ""), text)
+        found = detail_of(asked, fault, report_of(about(asked, fault) if fault.number in TOLD else ""), text)
     except NoAnswer:
         found = detail("it takes too long to ask the program for the values")
     source = shown(text, fault.line, found.at) if text is not None else []
@@ -89,7 +89,7 @@ def explained(asked: Asked, fault: Fault) -> list[str]:
 
 
 def text_of(asked: Asked, fault: Fault) -> str | None:
-    """The text in which the fault's line stands."""
+    """Returns the text that has the fault's line."""
     if fault.file == WORDS:
         return "\n".join("-D" + it for it in asked.settings())
     try:
@@ -102,7 +102,7 @@ def text_of(asked: Asked, fault: Fault) -> str | None:
     return data.decode(errors="backslashreplace")
 
 
-def detail_of(asked: Asked, fault: Fault, told: Told, text: str | None) -> Detail:
+def detail_of(asked: Asked, fault: Fault, told: FaultReport, text: str | None) -> Detail:
     if fault.number == 1:
         return grammar.bytes_detail(bytes_of(asked, fault))
     if fault.file == WORDS:
@@ -117,14 +117,14 @@ def detail_of(asked: Asked, fault: Fault, told: Told, text: str | None) -> Detai
         return detail(UNSEEN.get(fault.number, f"the file has more than {MOST_CHARACTERS:,} characters, and isn't looked at"))
     if fault.number in ON_TEXTS:
         return ON_TEXTS[fault.number](text, fault.line)
-    if fault.file in settings.FILES:
+    if fault.file in OPTION_FILES:
         return settings.of_option_file(asked, fault, told, text)
     if fault.number == 19:
-        return others.template(grammar.line_text(text, fault.line))
+        return limits.template(grammar.line_text(text, fault.line))
     return on_statement(asked, fault, told, text)
 
 
-def of_machine(asked: Asked, fault: Fault, told: Told) -> Detail:
+def of_machine(asked: Asked, fault: Fault, told: FaultReport) -> Detail:
     return machine.machine_detail(asked.machine or b"", fault.line, told) if fault.number == 16 else detail(TOO_LONG)
 
 
@@ -134,7 +134,7 @@ def bytes_of(asked: Asked, fault: Fault) -> bytes:
     return read_bytes(os.path.join(asked.root, fault.file), DEFINITION)
 
 
-def on_statement(asked: Asked, fault: Fault, told: Told, text: str) -> Detail:
+def on_statement(asked: Asked, fault: Fault, told: FaultReport, text: str) -> Detail:
     """A fault of a statement: its values are asked of the program."""
     place = place_of(fault.file, text, fault.line) if read(os.path.join(asked.root, fault.file)) is not None else None
     if place is None:

@@ -6,24 +6,24 @@ import os
 import re
 from collections.abc import Iterator
 
-from porting import tree
-from porting.lexer import SyntaxFault
-from porting.parser import parse
 from tools import records as dataclasses
+from tools.explaining.fault_report import FaultReport
 from tools.explaining.place import Place
 from tools.explaining.probe import Probe
 from tools.explaining.run import Asked, Fault
-from tools.explaining.told import Told
 from tools.explaining.values import DICTIONARY, OWN, Value
 from tools.files import DEFINITION, read_text
+from tools.porting import tree
+from tools.porting.lexer import SyntaxFault
+from tools.porting.parser import parse
 
 
 @dataclasses.dataclass
 class Context:
-    """A fault of a definition file, what the program tells that it is about, where it stands, and who answers what is there."""
+    """A fault of a definition file, what the program reports of it, where it is, and a probe that finds the values there."""
     asked: Asked
     fault: Fault
-    told: Told
+    told: FaultReport
     place: Place
     probe: Probe
 

@@ -1,11 +1,11 @@
-"""What is told of a fault, and how it is shown."""
+"""What is said of a fault, and how it is shown."""
 from __future__ import annotations
 
 import difflib
 from collections.abc import Iterable
 
-from porting.lexer import line_at
 from tools import records as dataclasses
+from tools.porting.lexer import line_at
 
 # How much of a text is shown, and of a line.
 LONGEST, WIDEST = 40, 400
@@ -49,7 +49,7 @@ def shown(text: str, line: int, at: int | None) -> list[str]:
     numbers = [line] if at is None else sorted({line, line_at(text, at)})
     width = len(str(numbers[-1]))
     start = text.rfind("\n", 0, at) + 1 if at is not None else 0
-    # Of a long line what stands round the place.
+    # Of a long line the part round the place.
     begin = max(0, at - start - WIDEST // 2) if at is not None and len(lines[line_at(text, at) - 1]) > WIDEST else 0
     found = [f"  {number:{width}} | {printable(lines[number - 1][begin:begin + WIDEST])}" for number in numbers if number <= len(lines)]
     if at is not None and found:

@@ -6,12 +6,12 @@ import fcntl
 import os
 import stat
 
-from porting import tree
 from tools.explaining.context import statements_below
 from tools.explaining.run import Asked
+from tools.files import DEFINITION_FILES
+from tools.porting import tree
 
 FOLDER = os.O_RDONLY | os.O_DIRECTORY | os.O_CLOEXEC | os.O_NOFOLLOW
-DEFINITIONS = ("meson.build", "meson.options", "meson_options.txt")
 OUTPUTS = ("build.ninja", "meson-info/introspect.json")
 
 
@@ -30,7 +30,7 @@ def unread(asked: Asked) -> str | None:
     """A definition file, or a file that one names by its whole path, that can't be read."""
     texts = texts_named(asked)
     folders = {"", *(os.path.join(folder, text) for folder, text in texts)}
-    paths = [*(os.path.join(folder, it) for folder in sorted(folders) for it in DEFINITIONS), *(os.path.join(*it) for it in texts)]
+    paths = [*(os.path.join(folder, it) for folder in sorted(folders) for it in DEFINITION_FILES), *(os.path.join(*it) for it in texts)]
     for path in dict.fromkeys(os.path.normpath(it) for it in paths if "\0" not in it):
         why = reason(os.path.join(asked.root, path)) if ".." not in path.split("/") else None
         if why:
@@ -40,7 +40,7 @@ def unread(asked: Asked) -> str | None:
 
 def unread_by_name(asked: Asked) -> str | None:
     """A file that has a name of a definition file, or of a part of a path that a text of these may be, and that can't be read."""
-    wanted = {*DEFINITIONS, *(part for _, text in texts_named(asked) for part in text.split("/"))}
+    wanted = {*DEFINITION_FILES, *(part for _, text in texts_named(asked) for part in text.split("/"))}
     for folder, folders, names in os.walk(asked.root):
         folders[:] = [it for it in sorted(folders)
                       if not it.startswith(".") and os.path.relpath(os.path.join(folder, it), asked.root) != asked.build]

@@ -4,11 +4,11 @@ from __future__ import annotations
 import re
 from collections.abc import Iterator
 
-from porting import tree
-from porting.lexer import TOKEN, SyntaxFault, Token, line_at, tokens_of
-from porting.parser import Parser
 from tools.explaining.detail import Detail, detail, named, quoted
 from tools.explaining.place import with_loops
+from tools.porting import tree
+from tools.porting.lexer import TOKEN, SyntaxFault, Token, line_at, tokens_of
+from tools.porting.parser import Parser
 
 WORD = re.compile(r"[A-Za-z_0-9]+|'''|f?'[^'\n]*'?|\S")
 CLOSING = {"(": ")", "[": "]", "{": "}"}
@@ -29,7 +29,7 @@ BEGINNINGS = {
     **dict.fromkeys(("elsif", "elseif"), "write 'elif' for a further condition"),
     **dict.fromkeys(("let", "var", "const", "set"), "a variable is set by 'NAME = value'"),
 }
-# What is often meant by what stands behind a part of a statement: the word before, the word itself.
+# What is often meant by what follows a part of a statement: the word before, the word itself.
 FOLLOWING = {
     ("else", "if"): "write 'elif' for a further condition", ("end", "if"): "the end of a block is one word, 'endif'",
     **{(sign, "="): f"write 'NAME = NAME {sign} value': only '+=' exists" for sign in "-*/"},
@@ -127,7 +127,7 @@ def unread_at(text: str) -> int | None:
 
 
 def grammar_detail(text: str, line: int) -> Detail:
-    """E3: the token at fault, what could stand there, and what is open."""
+    """E3: the token at fault, what could be there, and what is open."""
     try:
         parser = Parser(text)
     except SyntaxFault:

@@ -1,4 +1,4 @@
-"""E16: what the program tells of a line of a machine file, and what that line could be."""
+"""E16: what the program reports of a line of a machine file, and what that line could be."""
 from __future__ import annotations
 
 import re
@@ -6,7 +6,7 @@ from collections.abc import Callable
 
 from tools.asking.checks import METHODS
 from tools.explaining.detail import Detail, detail, listed, near, quoted
-from tools.explaining.told import NONE, TWICE, Told
+from tools.explaining.fault_report import NONE, TWICE, FaultReport
 
 SECTIONS = ("binaries", "built-in options", "project options", "host_machine", "compiler", "dependency NAME", "checks", "properties")
 KEYS = {"host_machine": ("system", "cpu_family", "cpu", "endian"), "compiler": ("id", "version"),
@@ -15,7 +15,7 @@ LINES = "a line is a section '[name]', 'key = value', or a comment '#'"
 
 
 def section_at(lines: list[str], number: int) -> str | None:
-    """The section that a line stands in."""
+    """Returns the section that a line is in."""
     for line in lines[:number - 1][::-1]:
         if line.strip().startswith("["):
             return line.strip()[1:].partition("]")[0]
@@ -28,8 +28,8 @@ def cut(section: str | None, line: str) -> tuple[str, str]:
     return key.strip(), value.strip()
 
 
-def machine_detail(machine: bytes, number: int, told: Told) -> Detail:
-    """What is told of a line, with what it could be."""
+def machine_detail(machine: bytes, number: int, told: FaultReport) -> Detail:
+    """Says what is reported of a line, with what it could be."""
     lines = machine.decode(errors="replace").split("\n")
     line = lines[number - 1].strip() if number <= len(lines) else ""
     if told.key is not None:
@@ -39,7 +39,7 @@ def machine_detail(machine: bytes, number: int, told: Told) -> Detail:
     return detail(f"{told.shown}: {quoted(line)}", LINES)
 
 
-def of_key(lines: list[str], number: int, told: Told) -> Detail:
+def of_key(lines: list[str], number: int, told: FaultReport) -> Detail:
     section, key = told.section or "", told.key or ""
     if told.so == TWICE:
         before = line_before(lines, number, lambda it: "=" in it and cut(section, it)[0] == key)
@@ -82,7 +82,7 @@ def line_before(lines: list[str], number: int, fits: Callable[[str], bool]) -> i
     return 0
 
 
-def of_section(lines: list[str], number: int, told: Told) -> Detail:
+def of_section(lines: list[str], number: int, told: FaultReport) -> Detail:
     name = told.section or ""
     if told.so == TWICE:
         before = next((above for above, it in enumerate(lines[:number - 1], 1) if it.strip() == f"[{name}]"), 0)

@@ -4,13 +4,13 @@ from __future__ import annotations
 import difflib
 import os
 
-from porting import left, tree
 from tools.explaining.context import Context
 from tools.explaining.detail import Detail, detail, listed, near, quoted
-from tools.explaining.instead import in_its_place
+from tools.explaining.replacements import in_its_place
 from tools.explaining.rows import FUNCTIONS, METHODS, METHODS_OF, methods_of
 from tools.explaining.settings import declared
 from tools.explaining.values import flat
+from tools.porting import tree, unsupported
 
 
 def named_call(context: Context, name: str) -> tree.Call | None:
@@ -65,7 +65,7 @@ def unknown(context: Context) -> Detail:
         others = [kind for kind, text in METHODS_OF.items() if name in text.split()]
         told = f"it is a method of: {', '.join(others)}" if others else in_its_place("Methods", name)
         return detail(f"{of_what} {quoted(name)}{near(name, known or METHODS)}{takes}", told, at=call.name_start)
-    told = in_its_place("Functions", name, left.FUNCTIONS.get(name, ""))
+    told = in_its_place("Functions", name, unsupported.FUNCTIONS.get(name, ""))
     return detail(f"there is no function {quoted(name)}{near(name, FUNCTIONS)}", told, at=call.start if call else None)
 
 
@@ -137,12 +137,12 @@ def left_out(context: Context) -> Detail:
     name = told.name
     call = next((it for it in calls[::-1] if it.name == name), None)
     if call is not None and call.receiver is not None:
-        instead = in_its_place("Methods", name, next((it[name] for it in left.METHODS.values() if name in it), ""))
+        instead = in_its_place("Methods", name, next((it[name] for it in unsupported.METHODS.values() if name in it), ""))
         return detail(f"the method {quoted(name)} is left out", instead, at=call.name_start)
     first = call.arguments[0] if call is not None and call.arguments else None
     module = first.value if name == "import" and isinstance(first, tree.Text) else None
     instead = in_its_place("Functions", f"import('{module}')" if module else name) or in_its_place(
-        "Functions", "import('fs')" if name == "import" else name, left.FUNCTIONS.get(name, ""))
+        "Functions", "import('fs')" if name == "import" else name, unsupported.FUNCTIONS.get(name, ""))
     what = f", and so is the module {quoted(module)}" if module else ""
     return detail(f"the function {quoted(name)} is left out{what}", instead, at=call.start if call else None)
 
@@ -154,7 +154,7 @@ def left_keyword(context: Context, name: str) -> Detail:
     call = culprit if isinstance(culprit, tree.Call) and culprit in calls else calls[-1] if calls else None
     if call is None:
         return detail(context.told.shown, in_its_place("Keywords", name))
-    instead = in_its_place("Keywords", name, left.KEYWORDS.get(call.name, {}).get(name, ""))
+    instead = in_its_place("Keywords", name, unsupported.KEYWORDS.get(call.name, {}).get(name, ""))
     return detail(f"{call.name}: {context.told.shown}", instead, at=context.told.words_of(call)[0].start)
 
 
@@ -168,7 +168,7 @@ def of_project(context: Context, call: tree.Call | None) -> Detail:
     for argument in call.arguments[1:] if call else []:
         for node in tree.inside(argument):
             if isinstance(node, tree.Text) and node.value == told.language:
-                why = f"project: the language {quoted(node.value)} is left out: C alone is built"
+                why = f"project: the language {quoted(node.value)} is left out: only C is built"
                 return detail(why, in_its_place("Functions", "add_languages"), at=node.start)
     at = call.start if call else None
     return detail("project: a language other than C is left out", in_its_place("Functions", "add_languages"), at=at)

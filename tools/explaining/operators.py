@@ -3,10 +3,10 @@ from __future__ import annotations
 
 import re
 
-from porting import tree
 from tools.explaining.context import Context
 from tools.explaining.detail import Detail, detail, near, quoted
 from tools.explaining.values import TEXT, Value, flat
+from tools.porting import tree
 
 GIVE_NOTHING = ("message", "warning", "error", "assert", "set_variable", "unset_variable", "subdir", "subdir_done", "test",
                 "add_project_arguments", "add_project_link_arguments", "install_headers", "install_data", "install_man", "project", "set",
@@ -73,7 +73,7 @@ def advice(context: Context, node: tree.Binary) -> str:
 
 
 def names_in(node: tree.Text) -> str:
-    """What stands in an f-string."""
+    """Says what is in an f-string."""
     return ", ".join(re.findall(r"@([A-Za-z_]\w*)@", node.value))
 
 

@@ -3,10 +3,10 @@ from __future__ import annotations
 
 from collections.abc import Iterator
 
-from porting import tree
-from porting.lexer import Lines, SyntaxFault, line_at
-from porting.parser import parse
 from tools import records as dataclasses
+from tools.porting import tree
+from tools.porting.lexer import Lines, SyntaxFault, line_at
+from tools.porting.parser import parse
 
 
 @dataclasses.dataclass(frozen=True)
@@ -37,7 +37,7 @@ class Place:
 
 
 def with_loops(body: list[tree.Statement], is_in_loop: bool) -> Iterator[tuple[tree.Statement, bool]]:
-    """The statements, each with whether it stands in a loop."""
+    """Yields the statements, each with whether it is in a loop."""
     for statement in body:
         yield statement, is_in_loop
         for inner in tree.bodies_of(statement):
@@ -51,7 +51,7 @@ def head_end(statement: tree.Statement) -> int:
 
 
 def place_of(file: str, text: str, line: int) -> Place | None:
-    """Where the line stands; none where the file can't be read as one, or no statement has this line."""
+    """Returns the place of a line; none if the file can't be parsed, or no statement has this line."""
     try:
         body = parse(text)
     except (SyntaxFault, RecursionError):

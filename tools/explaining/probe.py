@@ -12,10 +12,10 @@ import re
 import time
 from collections.abc import Iterator
 
-from porting import tree
 from tools.explaining.place import Place
 from tools.explaining.run import Fault, Outcome, Room
 from tools.explaining.values import DICTIONARY, LIST, OBJECT, OWN, Value, value_in
+from tools.porting import tree
 
 MARK, COUNT = "the explanation is asked here", "explain_rounds_of_the_fault"
 # Of which kind an object is that has a method.
@@ -34,7 +34,7 @@ MAKES = {
 }
 # How often the program is asked of one fault, at most, and up to how many seconds after the beginning.
 MOST, MOST_SECONDS = 400, 120
-LINES_BEFORE = 2  # that stand before the statement when it is asked
+LINES_BEFORE = 2  # that are before the statement when it is asked
 
 
 class Probe:
@@ -45,15 +45,15 @@ class Probe:
         first = place.body[0]
         is_root = place.file == "meson.build"
         self.begin = place.text.find("\n", first.end) + 1 if is_root else 0
-        # In the first statement, `project`, no calls may stand.
+        # The first statement, `project`, may have no calls.
         self.rounds = 0 if is_root and place.statement is first else 1
         if place.is_in_loop:
-            # A question is told once, so that each round asks another one.
+            # A question is reported once, so each round asks another one.
             self.rounds = self.outcome([], f"meson.get_compiler('c').sizeof('{MARK} @0@'.format({COUNT}))\n").asked.count(MARK)
 
     @property
     def can_ask(self) -> bool:
-        """Whether calls may stand in the statement, and are still asked."""
+        """Whether the statement may have calls, and there is time to ask."""
         return self.rounds > 0 and self.asked < MOST and time.monotonic() - self.room.asked.begun < MOST_SECONDS
 
     def outcome(self, edits: list[tuple[int, int, str]], before: str = "") -> Outcome:
@@ -79,7 +79,7 @@ class Probe:
         return self.printed(fault)
 
     def printed(self, fault: Fault) -> str:
-        """What stands behind the mark, with the folder of the sources where the run had that of the links."""
+        """Returns what follows the mark, with the folder of the sources where the run had that of the links."""
         return fault.text[len(MARK):].strip().replace(self.room.folder, self.room.asked.root)
 
     def completes(self, node: tree.Node) -> bool:

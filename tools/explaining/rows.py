@@ -8,15 +8,15 @@ from tools.explaining.values import DICTIONARY, INTEGER, LIST, OBJECT, TEXT, TRU
 
 @dataclasses.dataclass(frozen=True)
 class Kind:
-    """What may stand in one place; of a list each item, where lists are opened."""
+    """What a function takes in one place; of a list each item, if lists are opened."""
     words: str
     types: tuple[str, ...]
     opens: bool = False
-    # The names of objects that may stand there; none where each may.
+    # The names of the objects that it takes; none if it takes any.
     objects: tuple[str, ...] = ()
 
     def misfit(self, value: Value) -> Value | None:
-        """The value, or the item, that may not stand there."""
+        """Returns the value, or the item, that it doesn't take."""
         for it in flat(value) if self.opens else [value]:
             is_object = it.kind not in (TEXT, INTEGER, TRUTH, LIST, DICTIONARY)
             if it.kind == "disabler" or it.kind in self.types or (it.kind == LIST and LIST in self.types):
@@ -30,7 +30,7 @@ TEXT_, TEXTS = Kind("a text", (TEXT,)), Kind("texts", (TEXT,), True)
 NUMBER = Kind("an integer", (INTEGER,))
 PRINTED = Kind("texts, integers, truth values, and lists and dictionaries of these", (TEXT, INTEGER, TRUTH, DICTIONARY), True)
 TARGETS, LISTED = ("executable", "library", "target", "custom target"), ("list of files",)
-# The kinds that the program tells, each by its words.
+# The kinds that the program reports, each by its words.
 KINDS = {it.words: it for it in (
     TEXT_, TEXTS, NUMBER, Kind("a truth value", (TRUTH,)), Kind("a text or an integer", (TEXT, INTEGER)),
     Kind("a text, an integer or a truth value", (TEXT, INTEGER, TRUTH)), Kind("a dictionary", (DICTIONARY,)),

@@ -1,23 +1,23 @@
-"""What calls refuse of values that are of the right kinds: why a text is none that is told of, and rules of which nothing is told."""
+"""What calls refuse of values that are of the right kinds: why a reported text doesn't fit, and rules that the program doesn't report."""
 from __future__ import annotations
 
 import os
 import re
 
-from porting import tree
 from tools.explaining.context import Context
 from tools.explaining.detail import Detail, detail, quoted
-from tools.explaining.told import UNSETTABLE
+from tools.explaining.fault_report import UNSETTABLE
 from tools.explaining.values import DICTIONARY, OWN, TEXT, Value, flat
+from tools.porting import tree
 
-# Of what is told of a text what would be one.
+# What a text has to be, by what is reported of it.
 WHYS = {
     "is no name of a target": "it isn't empty, '.' or '..', has no '/' and begins with no '-'",
     "is no name of a file": "it isn't empty, '.' or '..', and has no '/'",
     "is no source of C": "it ends in neither '.c' nor '.h'",
     "has no source of C": "one of its sources ends in '.c'",
     "is no version of a library": "it is one to three numbers with dots",
-    "is no name of a variable": "it has letters, digits and '_', begins with no digit, and is no word of the language",
+    "is no name of a variable": "it has letters, digits and '_', begins with no digit, and is no reserved word",
     "is no name of a value": "it has letters, digits, '_' and '-'",
     "is no name of a man page": "the last digit of its name says the section, as in 'name.1'",
     "is no language that has a compiler": "that is 'c' alone",
@@ -45,7 +45,7 @@ def why_no_path(context: Context, text: str) -> str:
 
 
 def place_of_text(context: Context, call: tree.Call, text: str) -> int:
-    """Where the text stands that is told of, or the argument that has it; else the call."""
+    """Returns the place of the reported text, or of the argument that has it; else that of the call."""
     items = [it.value if isinstance(it, tree.Keyword) else it for it in call.items]
     nodes = [it for item in items for it in tree.inside(item) if isinstance(it, tree.Text)]
     forms = str, lambda it: os.path.normpath(os.path.join(context.folder, it)), os.path.basename
@@ -76,7 +76,7 @@ def pairs(value: Value) -> list[tuple[str, Value]]:
 
 
 def broken_rule(context: Context, call: tree.Call, values: dict[str, Value]) -> Detail | None:
-    """The rule of a function or a method that its values break, where the program tells nothing."""
+    """Returns the rule of a function or a method that its values break, if the program reports nothing."""
     if call.receiver is not None:
         return of_method(context, call, values)
     for rule in (of_placeholders, of_environment, of_programs):
@@ -110,7 +110,8 @@ def of_placeholders(call: tree.Call, values: dict[str, Value]) -> Why:
             if number and int(number) >= counts[word]:
                 return "command", f"'@{word}{number}@' in {quoted(text)}: there are {counts[word]} (counted from 0)"
             if not number and (counts[word] == 0 or counts[word] > 1 and text != f"@{word}@"):
-                why = f"there are {counts[word]}, and one is needed inside of a word" if counts[word] else f"the call has no {word.lower()}"
+                needed = "and one is needed inside of an argument"
+                why = f"there are {counts[word]}, {needed}" if counts[word] else f"the call has no {word.lower()}"
                 return "command", f"'@{word}@' in {quoted(text)}: {why}"
         if "@DEPFILE@" in text and "depfile" not in values:
             return "command", "'@DEPFILE@' needs the keyword 'depfile'"

@@ -10,8 +10,8 @@ from collections.abc import Iterator
 
 from tools import records as dataclasses
 from tools.asking.processes import MOST_TOLD, NoAnswer, run
-from tools.last_setup import build_folder_of, settings_of
-from tools.links import linked_copy
+from tools.linked_copy import linked_copy
+from tools.setup_arguments import build_folder_of, settings_of
 
 FAULT = re.compile(r"(.+?):(\d+): ERROR: E(\d+) ?(.*)", re.S)
 MACHINE, WORDS = "<machine file>", "<command line>"
@@ -33,7 +33,7 @@ class Fault:
 
     @property
     def name(self) -> str:
-        """What stands behind the words of the fault, where something does."""
+        """What follows the words of the fault, if anything does."""
         return self.text.partition(": ")[2]
 
 
@@ -88,7 +88,7 @@ def questions(asked: Asked, folder: str, scratch: str, task: str = "questions") 
     """What the program says of a folder, which it writes nothing in: the fault that `setup` would end in, and what was asked before; of
     the task `fault` what that is about in place of what was asked. A NoAnswer where it can't be run, or says too much.
 
-    The bytes of the machine file stand in a file of their own, since they may have come through a pipe.
+    The bytes of the machine file are in a file of their own, since they may have come through a pipe.
     """
     words = asked.words
     if asked.machine is not None:

@@ -1,26 +1,26 @@
-"""E15, and E23 of options: what the program tells of them, at each place that gives an option a value or declares it."""
+"""E15, and E23 of options: what the program reports of them, at each place that gives an option a value or declares it."""
 from __future__ import annotations
 
 import os
 import re
 
-from porting import tree
-from porting.lexer import SyntaxFault
-from porting.options import declarations
-from porting.parser import parse
 from tools.explaining.context import Context, read
 from tools.explaining.detail import Detail, detail, listed, near, quoted
-from tools.explaining.instead import in_its_place
+from tools.explaining.fault_report import LEFT, MISSING, NONE, TWICE, FaultReport
 from tools.explaining.machine import section_at
+from tools.explaining.replacements import in_its_place
 from tools.explaining.run import Asked, Fault
-from tools.explaining.told import LEFT, MISSING, NONE, TWICE, Told
+from tools.files import OPTION_FILES
+from tools.porting import tree
+from tools.porting.lexer import SyntaxFault
+from tools.porting.options import declarations
+from tools.porting.parser import parse
 
 BUILT_IN = ("prefix", "bindir", "libdir", "includedir", "datadir", "mandir", "sysconfdir", "buildtype", "debug", "optimization",
             "warning_level", "werror", "c_std", "default_library", "c_args", "c_link_args", "auto_features")
 TYPES = ("string", "boolean", "combo", "integer", "array", "feature")
 WORDS = ("type", "value", "description", "choices", "min", "max", "yield")
-FILES = ("meson.options", "meson_options.txt")
-# Of what is told of the name of a declaration what would be one.
+# What the name of a declaration has to be, by what is reported of it.
 WHYS = {
     "is no name of an option": "it has letters, digits, '_' and '-'",
     "is the name of a built-in option": "give yours another one",
@@ -32,7 +32,7 @@ ABSENT = "there is no option "
 
 def declared(root: str) -> dict[str, tree.Call]:
     """The options that the project declares."""
-    for name in FILES:
+    for name in OPTION_FILES:
         text = read(os.path.join(root, name))
         if text is None:
             continue
@@ -43,8 +43,8 @@ def declared(root: str) -> dict[str, tree.Call]:
     return {}
 
 
-def of_value(asked: Asked, told: Told, before: str = "", at: int | None = None) -> Detail:
-    """What is told of an option or its value, behind the place that gives it; of a name that no option has the nearest one."""
+def of_value(asked: Asked, told: FaultReport, before: str = "", at: int | None = None) -> Detail:
+    """Says what is reported of an option or its value, after the place that gives it; for a name that no option has, the nearest one."""
     if told.option is not None and told.so == NONE:
         return absent(asked, told.option, before + told.shown, at)
     instead = in_its_place("Functions", "default_library=both") if told.so.endswith(LEFT) else ""
@@ -60,7 +60,7 @@ def absent(asked: Asked, name: str, text: str, at: int | None) -> Detail:
     return detail(text + (near(name, [*BUILT_IN, *options]) if not instead else ""), instead, known, at=at)
 
 
-def of_machine(asked: Asked, fault: Fault, told: Told) -> Detail:
+def of_machine(asked: Asked, fault: Fault, told: FaultReport) -> Detail:
     """A line of the machine file."""
     lines = (asked.machine or b"").decode(errors="replace").split("\n")
     section = section_at(lines, fault.line)
@@ -71,7 +71,7 @@ def of_machine(asked: Asked, fault: Fault, told: Told) -> Detail:
     return of_value(asked, told, f"[{section}], ")
 
 
-def of_option_file(asked: Asked, fault: Fault, told: Told, text: str) -> Detail:
+def of_option_file(asked: Asked, fault: Fault, told: FaultReport, text: str) -> Detail:
     """A statement of the option file."""
     try:
         body = parse(text)
@@ -86,8 +86,8 @@ def of_option_file(asked: Asked, fault: Fault, told: Told, text: str) -> Detail:
     return of_option(told, call)
 
 
-def of_option(told: Told, call: tree.Call) -> Detail:
-    """What is told of a call of `option`, which itself gives a default."""
+def of_option(told: FaultReport, call: tree.Call) -> Detail:
+    """Says what is reported of a call of `option`, which itself gives a default."""
     name = call.arguments[0].value if call.arguments and isinstance(call.arguments[0], tree.Text) else ""
     named = f"option {quoted(name)}: " if name and told.option is None and told.text is None else ""
     words = told.words_of(call)
@@ -102,8 +102,8 @@ def of_option(told: Told, call: tree.Call) -> Detail:
     return detail(named + told.shown, why, at=call.start if is_of_call else call.arguments[0].start)
 
 
-def hints_of(told: Told, value: str) -> tuple[str, ...]:
-    """Behind what is told of a keyword of `option` the nearest word; then lines of what there is."""
+def hints_of(told: FaultReport, value: str) -> tuple[str, ...]:
+    """Returns the nearest word, which follows what is reported of a keyword of `option`; then lines of what there is."""
     if told.so == NONE:
         return near(told.keyword or "", WORDS), f"option takes {listed(WORDS)}"
     if told.so == LEFT:
@@ -131,8 +131,8 @@ def of_statement(context: Context) -> Detail:
     return absent(context.asked, name, f"get_option: {ABSENT}{quoted(name)}", at)
 
 
-def place_of(given: tree.Node, told: Told) -> int:
-    """Where a value is given to the option that is told of: the last that has its name, and what is told it got."""
+def place_of(given: tree.Node, told: FaultReport) -> int:
+    """Returns where the reported option gets a value: the last place that has its name, and the value that it got."""
     if isinstance(given, tree.Dictionary):
         texts = [(plain_text(key), key) for key, _ in given.pairs]
     else:

@@ -74,5 +74,5 @@ def value_at(printed: str, at: int) -> tuple[Value, int]:
 
 
 def value_in(printed: str) -> Value:
-    """The value that stands alone in a printed list."""
+    """Returns the value that is alone in a printed list."""
     return value_at(printed, 1)[0]

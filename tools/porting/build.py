@@ -19,9 +19,9 @@ from tools.asking.programs import programs_of
 from tools.document import read_document
 from tools.ending import Stop
 from tools.files import read_text
-from tools.links import linked_copy
+from tools.linked_copy import linked_copy
 from tools.ninja import find_ninja, paths_in, plain
-from tools.side_by_side import side_by_side
+from tools.parallel import side_by_side
 
 BUILD, ALL = "build-of-the-trial", "all"
 LONGEST = 1800  # seconds of a build
@@ -56,7 +56,7 @@ def edges_of(text: str) -> list[Edge]:
 
 
 class Trial:
-    """A build of the copy in `folder` of a project that stands in `root`."""
+    """A build of the copy in `folder` of a project that is in `root`."""
 
     def __init__(self, root: str, folder: str, scratch: str) -> None:
         self.folder, self.begun, self.failed = os.path.join(folder, BUILD), time.monotonic(), ""
@@ -131,7 +131,7 @@ class Trial:
 
 
 def parts_round(words: list[str], own: list[str]) -> list[list[str]]:
-    """What stands before the user's own words, and behind them: no word of the one is the value of a word of the other."""
+    """Returns the arguments before the user's own, and those after them: none of the one is the value of one of the other."""
     at = next((it for it in range(len(words) - len(own) + 1) if words[it:it + len(own)] == own), 0)
     return [words[:at], words[at + len(own) if words[at:at + len(own)] == own else at:]]
 
@@ -193,7 +193,7 @@ def failure_of_ninja(build: str) -> str:
 
 
 def lack_of_tests(build: str) -> str:
-    """What a test is told of by its variables and is not there after a build, though a target makes it; empty where there is none."""
+    """Returns what the variables of a test name and is not there after a build, though a target makes it; empty if there is none."""
     document = read_document(build)
     outputs = [os.path.join(os.path.realpath(build), it) for target in document.targets for it in target["filename"]]
     for test in document.tests:

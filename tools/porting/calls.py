@@ -4,13 +4,13 @@ from __future__ import annotations
 import os
 from collections.abc import Iterator
 
-from porting import tree
-from porting.edits import Change, indent_at, without_item
-from porting.lexer import escaped
-from porting.project import Project, Site
-from porting.rule import (REAL_ALONE, assigned_name, before_statement, can_hoist, free_name, guarded,
-                          is_whole_statement, renamed, replaced, text_of)
-from porting.values import ROOT, UNKNOWN, Item, Many, Table, Thing, flat, kind_of
+from tools.porting import tree
+from tools.porting.edits import Change, indent_at, without_item
+from tools.porting.lexer import escaped
+from tools.porting.project import Project, Site
+from tools.porting.rule import (REAL_ALONE, assigned_name, before_statement, can_hoist, free_name, guarded,
+                                is_whole_statement, renamed, replaced, text_of)
+from tools.porting.values import ROOT, UNKNOWN, Item, Many, Table, Thing, flat, kind_of
 
 OBJECTS_FOUND = ("dependency", "library", "internal", "program")
 RENAMED = {"add_global_arguments": "add_project_arguments", "add_global_link_arguments": "add_project_link_arguments",

@@ -7,21 +7,21 @@ import os
 import re
 import sys
 
-from porting.build import first_failure
-from porting.edits import Change
-from porting.journal import Journal, locked
-from porting.left import Left, left_in
-from porting.project import Project, Unreadable
-from porting.real import real_meson, refusal
-from porting.rule import Rule
-from porting.table import BY_NAME, RULES
-from porting.trial import first_fault, machine_file, program_of
+from tools.command_line import Parser
 from tools.ending import Stop, one_line, show
-from tools.words import Parser
+from tools.porting.build import first_failure
+from tools.porting.edits import Change
+from tools.porting.journal import Journal, locked
+from tools.porting.project import Project, Unreadable
+from tools.porting.real_meson import real_meson, refusal
+from tools.porting.rule import Rule
+from tools.porting.rule_table import BY_NAME, RULES
+from tools.porting.trial import first_fault, machine_file, program_of
+from tools.porting.unsupported import Unsupported, unsupported_in
 
 TYPE_CHECKING = False
 if TYPE_CHECKING:
-    from tools.words import Given
+    from tools.command_line import Given
 
 SCRIPT, BAD_WORDS = "meson port", 2
 # How often a rule is tried again over what it has changed.
@@ -35,9 +35,9 @@ def arguments(doc: str | None, given: list[str] | None) -> Given:
                         help="print the changes as a patch, write nothing, and print the rest on standard error")
     parser.add_argument("--run", action="store_true",
                         help="run the commands that the project runs while configuring, and write down what they print")
-    parser.add_argument("--only", metavar="RULE", action="append", default=[], help="apply this rule alone; may be given several times")
+    parser.add_argument("--only", metavar="RULE", action="append", default=[], help="apply only this rule; may be given several times")
     parser.add_argument("--also", metavar="RULE", action="append", default=[],
-                        help="also apply this rule, which has to be asked for; `--also help` lists such rules")
+                        help="also apply this rule, which runs only on request; `--also help` lists such rules")
     parser.add_argument("--all", action="store_true", help="apply every rule after which the same files are built and installed")
     parser.add_argument("--list-rules", action="store_true", help="list the rules, and change nothing")
     parser.add_argument("--program", metavar="PATH", help="the program that tries the result (default: the one of this command)")
@@ -58,7 +58,7 @@ def arguments(doc: str | None, given: list[str] | None) -> Given:
     return words
 
 
-def tell(text: str) -> None:
+def report(text: str) -> None:
     """Shows a line, in which a name of the project can't be more than a name."""
     show(one_line(text))
 
@@ -66,7 +66,7 @@ def tell(text: str) -> None:
 def list_rules(rules: list[Rule]) -> None:
     width = max(len(it.name) for it in rules)
     for rule in rules:
-        tell(f"{rule.name:{width}}  {'' if rule.is_sure else 'asked for: '}{rule.does}")
+        report(f"{rule.name:{width}}  {'' if rule.is_sure else 'on request: '}{rule.does}")
 
 
 def chosen(words: Given) -> list[Rule]:
@@ -115,10 +115,10 @@ def show_patch(project: Project) -> None:
 def show_changes(project: Project) -> None:
     results = project.results()
     for it in sorted(project.done, key=lambda it: (it.path, it.line)):
-        tell(f"{it.path}:{it.line}: {it.rule}: {it.what}")
+        report(f"{it.path}:{it.line}: {it.rule}: {it.what}")
     for path, (before, _) in results.items():
         if before is None:
-            tell(f"{path}: new")
+            report(f"{path}: new")
 
 
 def line_of_diff(line: str) -> str:
@@ -127,14 +127,14 @@ def line_of_diff(line: str) -> str:
     return "\t".join(map(one_line, body.split("\t"))) + line[len(body):]
 
 
-def show_left(project: Project) -> list[Left]:
-    left = left_in(project)
+def show_left(project: Project) -> list[Unsupported]:
+    left = unsupported_in(project)
     for path, line, text in sorted({(it.path, it.line, it.what) for it in project.notes}):
-        tell(f"note: {path}:{line}: {text}")
+        report(f"note: {path}:{line}: {text}")
     for path, why in sorted(project.outside.items()):
-        tell(f"left: {path}: {why}")
+        report(f"left: {path}: {why}")
     for it in sorted(left, key=lambda it: (it.path, it.line)):
-        tell(f"left: {it.path}:{it.line}: {it.text}{'' if it.is_sure else ' (in a branch that an option or the machine decides)'}")
+        report(f"left: {it.path}:{it.line}: {it.text}{'' if it.is_sure else ' (in a branch that an option or the machine decides)'}")
     return left
 
 
@@ -149,7 +149,7 @@ def write(project: Project) -> None:
 def try_out(project: Project, words: Given) -> int:
     """What the program and the real Meson say of the result; the status."""
     if words.no_trial:
-        tell("the program was not asked")
+        report("the program was not asked")
         return 0
     return max(ask_program(project, words), ask_real(project, words))
 
@@ -158,17 +158,17 @@ def ask_program(project: Project, words: Given) -> int:
     """What the program says of the result, and what comes of a build; the status."""
     program = program_of(words.program)
     if program is None:
-        tell("the program was not asked: it isn't built (--program names another)")
+        report("the program was not asked: it isn't built (--program names another)")
         return 0
     unwritten = {path: text for path, (_, text) in project.results().items()} if words.dry_run else {}
     options = [f"-D{it}" for it in words.options]
-    fault = first_fault(program, project.root, unwritten, options, lambda text: tell(f"note: {text}"))
-    tell("meson setup takes the result" if fault is None else f"meson setup stops at: {fault}")
+    fault = first_fault(program, project.root, unwritten, options, lambda text: report(f"note: {text}"))
+    report("meson setup takes the result" if fault is None else f"meson setup stops at: {fault}")
     if fault is not None or words.no_build:
         return 0 if fault is None else 1
     machine = machine_file(program, project.root, options)
     text, is_good = first_failure(program, project.root, unwritten, options, machine, words.run)
-    tell(text)
+    report(text)
     return 0 if is_good else 1
 
 
@@ -179,15 +179,15 @@ def ask_real(project: Project, words: Given) -> int:
     if meson is None:
         return 0
     if not words.run:
-        tell("the real Meson was not asked: it runs commands of the project: --run allows that")
+        report("the real Meson was not asked: it runs commands of the project: --run allows that")
         return 0
     options = [f"-D{it}" for it in words.options]
     why = refusal(meson, project.root, {path: text for path, (_, text) in results.items()}, options)
     if why is None:
-        tell("the real Meson takes the result")
+        report("the real Meson takes the result")
         return 0
     old = refusal(meson, project.root, {path: text or "" for path, (text, _) in results.items()}, options)
-    tell(f"the real Meson refuses the result: {why}" if old is None else f"the real Meson refuses the sources as they were: {old}")
+    report(f"the real Meson refuses the result: {why}" if old is None else f"the real Meson refuses the sources as they were: {old}")
     return 1 if old is None else 0
 
 
@@ -207,7 +207,7 @@ def carried_out(words: Given) -> int:
     recovered = Journal(words.source).recover()
     if recovered:
         with contextlib.redirect_stdout(said_to):
-            tell(recovered)
+            report(recovered)
     try:
         project = Project(words.source)
         project.is_asked_to_run = words.run
@@ -217,16 +217,16 @@ def carried_out(words: Given) -> int:
     if words.dry_run:
         show_patch(project)
     with contextlib.redirect_stdout(said_to):
-        return tell_and_write(project, words)
+        return report_and_write(project, words)
 
 
-def tell_and_write(project: Project, words: Given) -> int:
+def report_and_write(project: Project, words: Given) -> int:
     """Says what was changed and what is left, writes it, and asks the program about the result; the status."""
     for line in project.said:
-        tell(line)
+        report(line)
     show_changes(project)
     if not project.done:
-        tell("nothing to change")
+        report("nothing to change")
     show_left(project)
     if not words.dry_run:
         write(project)

@@ -11,17 +11,16 @@ from collections.abc import Iterator
 
 from tools import files
 from tools.asking import processes
+from tools.porting import tree
+from tools.porting.checks_in_loops import known_parts
+from tools.porting.edits import Change
+from tools.porting.lexer import escaped
+from tools.porting.options import declared, option_name, with_option
+from tools.porting.project import Project, Site
+from tools.porting.rule import assigned_name, identifier, replaced, text_of, texts_at, uses_of
+from tools.porting.scripts import interpreter_of
+from tools.porting.values import ROOT, Item, Thing, choices_of, flat, kind_of
 from tools.variables import pkg_config
-
-from porting import tree
-from porting.edits import Change
-from porting.lexer import escaped
-from porting.options import declared, option_name, with_option
-from porting.project import Project, Site
-from porting.rounds import known_parts
-from porting.rule import assigned_name, identifier, replaced, text_of, texts_at, uses_of
-from porting.scripts import interpreter_of
-from porting.values import ROOT, Item, Thing, choices_of, flat, kind_of
 
 # How long a command may run, in seconds.
 LONGEST = 60
@@ -29,7 +28,7 @@ LONGEST = 60
 LARGEST = 1 << 20
 # In a loop of more rounds than these no command is run.
 MOST_ROUNDS = 64
-MARK = "/value-of-the-project"  # stands, with a number, for a value that a project gives to a variable of a .pc file
+MARK = "/value-of-the-project"  # with a number: a value that a project gives to a variable of a .pc file
 QUESTIONS = {"exists": os.path.exists, "is_file": os.path.isfile, "is_dir": os.path.isdir, "is_symlink": os.path.islink}
 NOT_ASKED = "needs to be run once: --run does that, and writes down what it prints"
 
@@ -308,7 +307,7 @@ def text_answer(name: str, path: str, suffix: str = "") -> str:
 
 
 def variables(project: Project) -> Iterator[Change]:
-    """A variable of a dependency's .pc file becomes an option with the value of now."""
+    """A variable of a dependency's .pc file becomes an option with the present value."""
     for site in project.methods("get_variable", "get_pkgconfig_variable"):
         receiver = project.known.value(site.call.receiver) if site.call.receiver else None
         if kind_of(receiver) != "dependency":

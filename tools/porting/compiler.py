@@ -3,14 +3,14 @@ from __future__ import annotations
 
 from collections.abc import Iterator
 
-from porting import tree
-from porting.edits import Change, without_item
-from porting.lexer import escaped
-from porting.project import Project, Site
-from porting.rule import (assigned_name, before_statement, can_hoist, comparison_of, free_name, identifier, in_place_of_statement,
-                          of_compiler, renamed, replaced, text_of, texts_at)
-from porting.sources import Names
-from porting.values import kind_of
+from tools.porting import tree
+from tools.porting.edits import Change, without_item
+from tools.porting.lexer import escaped
+from tools.porting.project import Project, Site
+from tools.porting.rule import (assigned_name, before_statement, can_hoist, comparison_of, free_name, identifier, in_place_of_statement,
+                                of_compiler, renamed, replaced, text_of, texts_at)
+from tools.porting.sources import Names
+from tools.porting.values import kind_of
 
 # Attributes whose declaration is more than `int check_attribute(void) __attribute__((NAME));`.
 ATTRIBUTES = {
@@ -48,7 +48,7 @@ def attributes(project: Project) -> Iterator[Change]:
             project.doubt(site, "has_function_attribute: its name is not one plain text")
             continue
         if attribute in OF_WINDOWS:
-            yield site.change(f"has_function_attribute: {attribute} is there on Windows alone",
+            yield site.change(f"has_function_attribute: {attribute} exists only on Windows",
                               replaced(site, site.call, "(host_machine.system() in ['windows', 'cygwin'])"))
             continue
         name = names.free("has_attribute_" + identifier(attribute))
@@ -61,7 +61,7 @@ def attributes(project: Project) -> Iterator[Change]:
 
 
 def defines(project: Project) -> Iterator[Change]:
-    """`has_define` is a source that compiles where the name is defined, `get_define` beside '' one where it stands for something."""
+    """`has_define` is a source that compiles if the name is defined, `get_define` compared with '' one if it expands to something."""
     names = Names(project)
     for site in of_compiler(project, "has_define", "get_define"):
         macro = text_of(project, site.call.arguments[0]) if site.call.arguments else None
@@ -91,7 +91,7 @@ def is_beside_nothing(outer: tree.Binary | None) -> bool:
 
 
 def defined(name: str, macro: str, outer: tree.Binary | None) -> str:
-    """A source that has a type of this name where a macro is defined, or where it stands for something."""
+    """Returns a source that has a type of this name if a macro is defined, or if it expands to something."""
     first = f"\n#ifndef {macro}\n#error it is not defined\n#endif\n"
     if outer is None:
         return escaped(f"{first}typedef int {name};\n")

@@ -3,12 +3,12 @@ from __future__ import annotations
 
 from collections.abc import Iterator
 
-from porting import tree
-from porting.edits import Change
-from porting.lexer import escaped
-from porting.project import Project, Site
-from porting.rule import added_behind, comparison_of, replaced
-from porting.values import Item, Many, Thing, flat, kind_of, texts_of
+from tools.porting import tree
+from tools.porting.edits import Change
+from tools.porting.lexer import escaped
+from tools.porting.project import Project, Site
+from tools.porting.rule import added_behind, comparison_of, replaced
+from tools.porting.values import Item, Many, Thing, flat, kind_of, texts_of
 
 
 def partial_dependency(project: Project) -> Iterator[Change]:
@@ -31,10 +31,10 @@ def names_of_types(project: Project) -> Iterator[Change]:
         outer = comparison_of(site)
         is_asked = isinstance(outer, tree.Binary) and isinstance(outer.right, tree.Text) and outer.right.value == name != "internal"
         if outer is not None and is_asked and outer.operator in ("==", "!="):
-            yield site.change(f"type_name: is {name}, where it is found",
+            yield site.change(f"type_name: is {name}, if it is found",
                               replaced(site, outer, found if outer.operator == "==" else f"(not {found})"))
             continue
-        yield site.change(f"type_name: is {name}, where it is found",
+        yield site.change(f"type_name: is {name}, if it is found",
                           replaced(site, site.call, f"({found} ? {escaped(name)} : 'not-found')" if name != "internal" else escaped(name)))
 
 

@@ -2,8 +2,8 @@
 from __future__ import annotations
 
 
-from porting import tree
 from tools import records as dataclasses
+from tools.porting import tree
 
 BLANKS = " \t\r"
 
@@ -86,7 +86,7 @@ def with_item(text: str, call: tree.Call, added: str) -> Edit:
 
 
 def whole_lines(text: str, statement: tree.Statement) -> tuple[int, int] | None:
-    """The lines of a statement, where nothing else but a comment stands in them."""
+    """Returns the lines of a statement, if they have nothing else but a comment."""
     begun = line_start(text, statement.start)
     ended = line_end(text, statement.end)
     alone = text[begun:statement.start].strip() == "" and is_blank_or_comment(text[statement.end:ended])

@@ -8,11 +8,11 @@ from __future__ import annotations
 import os
 from collections.abc import Callable
 
-from porting import tree
-from porting.operators import binary, indexed, truth_of
-from porting.text_methods import method_of_value, version_compare
-from porting.values import (ROOT, UNKNOWN, Either, Item, Many, Table, Thing, Unknown, bounded, choices_of, cost_of, either, flat, is_same,
-                            kind_of, size_of, texts_of, without_root)
+from tools.porting import tree
+from tools.porting.operators import binary, indexed, truth_of
+from tools.porting.text_methods import method_of_value, version_compare
+from tools.porting.values import (ROOT, UNKNOWN, Either, Item, Many, Table, Thing, Unknown, bounded, choices_of, cost_of, either, flat,
+                                  is_same, kind_of, size_of, texts_of, without_root)
 
 PREDEFINED = ("meson", "host_machine", "build_machine", "target_machine")
 # Beyond this many steps of one pass all is taken as reached, and nothing as known.
@@ -51,7 +51,7 @@ GIVES = {
 # Answers that are the same on every machine that this is for.
 ANSWERS = {("meson", "is_subproject"): False, ("meson", "is_cross_build"): False, ("meson", "backend"): "ninja",
            ("machine", "system"): "linux", ("machine", "kernel"): "linux", ("machine", "subsystem"): "linux"}
-# The version of Meson that is told here. Its text is not known: the real Meson has another one.
+# The version of Meson that this program reports. Its text is not known: the real Meson has another one.
 VERSION = "1.3.0"
 SOURCE_FOLDERS = ("current_source_dir", "project_source_root", "source_root", "global_source_root")
 COMPILERS = Either(("gcc", "clang"))
@@ -215,7 +215,7 @@ class Evaluation:
         self.take_names(*(ends or [before]))
 
     def run_maybe(self, body: list[tree.Statement], is_doubtful: bool) -> bool:
-        """Whether what stands behind the branch may come after it."""
+        """Whether what follows the branch may run after it."""
         try:
             self.run(body)
         except Left as left:

@@ -1,16 +1,16 @@
-"""Methods that turn a feature option on or off, as statements before the one that they stand in."""
+"""Methods that turn a feature option on or off, as statements before the one that has them."""
 from __future__ import annotations
 
 import re
 from collections.abc import Iterator
 
-from porting import tree
-from porting.edits import Change
-from porting.lexer import escaped
-from porting.options import declared, option_name, with_option
-from porting.project import Project, Site
-from porting.rule import assigned_name, before_statement, can_hoist, free_name, identifier, in_place_of_statement
-from porting.values import kind_of
+from tools.porting import tree
+from tools.porting.edits import Change
+from tools.porting.lexer import escaped
+from tools.porting.options import declared, option_name, with_option
+from tools.porting.project import Project, Site
+from tools.porting.rule import assigned_name, before_statement, can_hoist, free_name, identifier, in_place_of_statement
+from tools.porting.values import kind_of
 
 # Of each method: whether it acts where its condition holds, what the option must not be then, which it acts on, and what that becomes.
 METHODS = {"require": (False, "enabled", "", "disabled"), "disable_if": (True, "enabled", "", "disabled"),

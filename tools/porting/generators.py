@@ -5,12 +5,13 @@ import os
 import re
 from collections.abc import Iterator
 
-from porting import tree
-from porting.edits import Change
-from porting.lexer import escaped
-from porting.project import Project, Site
-from porting.rule import (assigned_name, before_statement, can_hoist, free_name, identifier, in_place_of_statement, replaced, texts_at)
-from porting.values import Many, Thing, choices_of, flat, kind_of
+from tools.porting import tree
+from tools.porting.edits import Change
+from tools.porting.lexer import escaped
+from tools.porting.project import Project, Site
+from tools.porting.rule import (assigned_name, before_statement, can_hoist, free_name, identifier, in_place_of_statement, replaced,
+                                texts_at)
+from tools.porting.values import Many, Thing, choices_of, flat, kind_of
 
 
 def generators(project: Project) -> Iterator[Change]:
@@ -56,7 +57,7 @@ def of_several(project: Project, receiver: tree.Node | None, makers: tuple[Thing
 
 
 def processed(project: Project, site: Site, maker: Thing, command: str = "") -> Change | None:
-    """A `process` as a loop over its inputs; the words of its command stand in a variable, or in the targets."""
+    """A `process` as a loop over its inputs; the arguments of its command are in a variable, or in the targets."""
     if maker.call is None or not maker.call.arguments or set(site.call.keywords) - {"extra_args"}:
         return None
     made = maker.call.keywords

@@ -4,13 +4,13 @@ from __future__ import annotations
 import os
 from collections.abc import Iterator
 
-from porting import tree
-from porting.commands import module_sites
-from porting.edits import Change
-from porting.lexer import escaped
-from porting.project import Project, Site
-from porting.rule import before_statement, can_hoist, free_name, identifier, replaced, text_of, texts_at
-from porting.values import Thing, flat, kind_of
+from tools.porting import tree
+from tools.porting.commands import module_sites
+from tools.porting.edits import Change
+from tools.porting.lexer import escaped
+from tools.porting.project import Project, Site
+from tools.porting.rule import before_statement, can_hoist, free_name, identifier, replaced, text_of, texts_at
+from tools.porting.values import Thing, flat, kind_of
 
 # The sections of a template of glib-mkenums, by the words that give their texts.
 SECTIONS = {"fhead": "file-header", "fprod": "file-production", "eprod": "enumeration-production", "vhead": "value-header",
@@ -85,7 +85,7 @@ def text(project: Project, site: Site, keyword: str) -> str:
 
 
 def source_of(site: Site, keyword: str) -> str:
-    """The expression of a keyword, which can stand as an item or beside an operator."""
+    """Returns the expression of a keyword, as it can be an item or an operand."""
     node = site.call.keywords[keyword].value
     shown = site.file.source(node)
     return f"({shown})" if isinstance(node, (tree.Ternary, tree.Binary, tree.Unary)) else shown
@@ -114,7 +114,7 @@ def target(name: str, source: str, output: str, command: list[str], rest: list[s
 
 
 def with_targets(project: Project, site: Site, header: str, source: str, files: dict[str, str] | None = None) -> Change:
-    """A call that gives a source and a header, which has a name before it; `@header@` stands for this name in the text of the source."""
+    """Writes a call that gives a source and a header, which has a name before it; `@header@` means this name in the text of the source."""
     if not can_hoist(site):
         raise NotFollowed("its statement has no place before it")
     name = free_name(project, identifier(text_of(project, site.call.arguments[0]) or "") + "_header")

@@ -4,11 +4,11 @@ from __future__ import annotations
 import os
 from collections.abc import Iterator
 
-from porting.edits import Change
-from porting.lexer import escaped
-from porting.project import Project, Site
-from porting.rule import TARGETS, added_behind
-from porting.values import Item, Many, Thing, flat
+from tools.porting.edits import Change
+from tools.porting.lexer import escaped
+from tools.porting.project import Project, Site
+from tools.porting.rule import TARGETS, added_behind
+from tools.porting.values import Item, Many, Thing, flat
 
 
 def made_headers(project: Project) -> Iterator[Change]:

@@ -6,14 +6,13 @@ import re
 from collections.abc import Iterator
 
 from tools.asking.text import is_written
-
-from porting import tree
-from porting.edits import Change
-from porting.journal import place_of
-from porting.lexer import escaped
-from porting.project import Project, Site
-from porting.rule import REAL_ALONE, guarded, in_place_of_statement, is_whole_statement, replaced, text_of, texts_at
-from porting.values import Thing, flat, kind_of
+from tools.porting import tree
+from tools.porting.edits import Change
+from tools.porting.journal import place_of
+from tools.porting.lexer import escaped
+from tools.porting.project import Project, Site
+from tools.porting.rule import REAL_ALONE, guarded, in_place_of_statement, is_whole_statement, replaced, text_of, texts_at
+from tools.porting.values import Thing, flat, kind_of
 
 PLACES = re.compile("@(?:BASE|PLAIN)NAME@")  # in an output's name
 STEPS = ("add_install_script", "add_postconf_script", "add_dist_script", "add_devenv", "install_dependency_manifest")
@@ -26,7 +25,7 @@ def steps(project: Project) -> Iterator[Change]:
         receiver = site.call.receiver
         if is_whole_statement(site) and (receiver is None or kind_of(project.known.value(receiver)) == "meson"):
             is_dist = site.call.name in ("add_dist_script", "add_devenv", "add_test_setup")
-            note = [] if is_dist else [f"{site.call.name} is done by the real Meson alone: it is a step of the package"]
+            note = [] if is_dist else [f"{site.call.name} is done only by the real Meson: it is a step of the package"]
             yield guarded(site, REAL_ALONE, f"{site.call.name} is left to the real Meson", note)
 
 
@@ -42,7 +41,7 @@ def vcs_tag(project: Project) -> Iterator[Change]:
         text = (f"configure_file({site.file.source(words['input'])}, {site.file.source(words['output'])}, "
                 f"configuration: {{{escaped(marker[1:-1])}: {fallback}}}{others})")
         change = site.change("vcs_tag becomes a configure_file with its fallback", replaced(site, site.call, text))
-        change.notes = ["the version is the fallback of vcs_tag, and no longer asked of the history"]
+        change.notes = ["the version is the fallback of vcs_tag, and no longer taken from the history"]
         yield change
 
 
@@ -76,7 +75,7 @@ def install_subdir(project: Project) -> Iterator[Change]:
         if lines is not None and is_whole_statement(site):
             change = site.change("install_subdir becomes install_data with the files by name",
                                  in_place_of_statement(site.file, site.statement, lines))
-            change.notes = ["the files of a folder that is installed are named: a new one has to be added"]
+            change.notes = ["the files of an installed folder are named one by one: add each new file"]
             yield change
 
 

@@ -20,13 +20,12 @@ from collections.abc import Iterator
 
 from tools import records as dataclasses
 from tools.ending import Stop
-from tools.files import read_bytes, read_text
+from tools.files import DEFINITION_FILES, read_bytes, read_text
 
 FOLDER, JOURNAL, UNFINISHED, NEW_FOLDER = ".meson-port", "journal.json", "journal.new", "folder"
 WAITING = re.compile(r"[0-9]{1,9}")  # the name of a text that waits in the folder
 MOST_JOURNAL = 1 << 24
-# The names of the files that `port` changes or makes, and of those that it only makes.
-DEFINITIONS = re.compile(r"meson\.build|meson\.options|meson_options\.txt")
+# The names of files that `port` only makes, besides definition files.
 TEMPLATES = re.compile(r".+\.(pc\.in|template)")
 
 
@@ -50,7 +49,7 @@ def place_of(root: str, path: str) -> str | None:
 def may_change(place: str, is_new: bool) -> bool:
     """Returns whether a file has a name that `port` changes, or that it makes if the file is new."""
     name = os.path.basename(place)
-    return DEFINITIONS.fullmatch(name) is not None or is_new and TEMPLATES.fullmatch(name) is not None
+    return name in DEFINITION_FILES or is_new and TEMPLATES.fullmatch(name) is not None
 
 
 def sync_folder(path: str) -> None:

@@ -3,14 +3,14 @@ from __future__ import annotations
 
 from collections.abc import Iterator
 
-from porting import tree
-from porting.edits import Change, indent_at, without_item
-from porting.lexer import escaped
-from porting.parser import parse
-from porting.project import Project, Site
-from porting.rule import (LIBRARIES, REAL, REAL_ALONE, TARGETS, added_to_list, compiler_text, drop_keyword, guarded, in_place_of_statement,
-                          is_whole_statement, assigned_name, languages_of_real, replaced, text_of, texts_at)
-from porting.values import Either, Item, Many, Table, flat, kind_of, texts_of
+from tools.porting import tree
+from tools.porting.edits import Change, indent_at, without_item
+from tools.porting.lexer import escaped
+from tools.porting.parser import parse
+from tools.porting.project import Project, Site
+from tools.porting.rule import (LIBRARIES, REAL, REAL_ALONE, TARGETS, added_to_list, compiler_text, drop_keyword, guarded,
+                                in_place_of_statement, is_whole_statement, assigned_name, languages_of_real, replaced, text_of, texts_at)
+from tools.porting.values import Either, Item, Many, Table, flat, kind_of, texts_of
 
 OF_TARGETS = {"native", "link_depends", "link_language", "vs_module_defs", "darwin_versions", "extra_files", "pic", "pie", "install_tag",
               "implicit_include_directories", "win_subsystem", "gui_app", "cpp_args", "cpp_pch", "objc_args", "objcpp_args",
@@ -252,7 +252,7 @@ def test_protocol(project: Project) -> Iterator[Change]:
     """What a test prints is not read here; a program that fails by its status too loses nothing."""
     for site in project.functions("test"):
         if text_of(project, getattr(site.call.keywords.get("protocol"), "value", None)) in ("tap", "gtest", "rust"):
-            yield drop_keyword(site, "protocol", "test: `protocol:` is dropped; the exit status alone decides")
+            yield drop_keyword(site, "protocol", "test: `protocol:` is dropped; only the exit status decides")
 
 
 def default_options(project: Project) -> Iterator[Change]:
@@ -294,7 +294,7 @@ def language_of_arguments(project: Project) -> Iterator[Change]:
             continue
         if "c" in texts and set(texts) != {"c"}:
             text = f"{REAL} ? {site.file.source(word.value)} : 'c'" if is_in_real else "'c'"
-            yield site.change(f"{site.call.name}: for C alone", replaced(site, word.value, text))
+            yield site.change(f"{site.call.name}: only for C", replaced(site, word.value, text))
         elif "c" not in texts and is_whole_statement(site):
             what = f"{site.call.name}: of another language than C, is "
             yield (guarded(site, REAL_ALONE, what + "left to the real Meson") if is_in_real else

@@ -57,7 +57,7 @@ class Lines:
 
 
 def unescaped(text: str) -> str:
-    """What stands for what between quotes of the plain kind."""
+    """What each escape between quotes of the plain kind means."""
     def character(match: re.Match[str]) -> str:
         plain, octal, *codes = match.groups()
         if plain:

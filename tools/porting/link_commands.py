@@ -4,15 +4,14 @@ from __future__ import annotations
 from collections.abc import Iterator
 
 from tools.asking.allowed import is_package
-
-from porting import tree
-from porting.edits import Change
-from porting.lexer import escaped
-from porting.needs import WITHOUT_FILE, Needs, is_nothing
-from porting.objects import KEPT, library_lines
-from porting.project import Project, Site
-from porting.rule import TARGETS, before_statement, can_hoist, free_name, identifier, replaced, text_of
-from porting.values import Item, Many, Thing, flat, texts_of
+from tools.porting import tree
+from tools.porting.edits import Change
+from tools.porting.lexer import escaped
+from tools.porting.library_needs import WITHOUT_FILE, Needs, is_nothing
+from tools.porting.objects import KEPT, library_lines
+from tools.porting.project import Project, Site
+from tools.porting.rule import TARGETS, before_statement, can_hoist, free_name, identifier, replaced, text_of
+from tools.porting.values import Item, Many, Thing, flat, texts_of
 
 OF_NAME = ("name_prefix", "name_suffix")
 OF_LINK = {*OF_NAME, *KEPT, "link_args", "install", "install_dir", "build_by_default"}
@@ -123,7 +122,7 @@ class Linking(Needs):
             self.add(it)
 
     def add_declared(self, dependency: Thing) -> None:
-        """What a dependency stands for that the project declares."""
+        """Returns what a dependency that the project declares is made of."""
         link_args = texts_of(dependency.keywords.get("link_args", Many([])))
         if link_args is None or "link_whole" in dependency.keywords:
             raise NotFollowed("a dependency that the project declares can't be followed")

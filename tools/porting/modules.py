@@ -3,13 +3,13 @@ from __future__ import annotations
 
 from collections.abc import Iterator
 
-from porting import tree
-from porting.edits import Change
-from porting.lexer import escaped
-from porting.project import Project, Site
-from porting.rule import (REAL, REAL_ALONE, assigned_name, guarded, in_place_of_statement, is_whole_statement, languages_of_real, replaced,
-                          text_of, uses_of)
-from porting.values import Thing, flat
+from tools.porting import tree
+from tools.porting.edits import Change
+from tools.porting.lexer import escaped
+from tools.porting.project import Project, Site
+from tools.porting.rule import (REAL, REAL_ALONE, assigned_name, guarded, in_place_of_statement, is_whole_statement, languages_of_real,
+                                replaced, text_of, uses_of)
+from tools.porting.values import Thing, flat
 
 # How the names of sources end, by their language.
 SOURCES = {"cpp": (".cpp", ".cc", ".cxx", ".c++", ".cp"), "objc": (".m",), "objcpp": (".mm",), "rust": (".rs",), "vala": (".vala",),
@@ -58,7 +58,7 @@ def unused_imports(project: Project) -> Iterator[Change]:
         if uses and is_usual(project, name or "", uses):
             continue
         if uses:
-            yield guarded(site, REAL_ALONE, f"{what} is left to the real Meson: what uses it is never reached here, or by an option alone")
+            yield guarded(site, REAL_ALONE, f"{what} is left to the real Meson: what uses it is never reached here, or only by an option")
         else:
             yield site.change(f"{what} of no use is dropped", in_place_of_statement(site.file, site.statement, []))
 
@@ -71,7 +71,7 @@ def is_never_sure(project: Project, name: str, statement: tree.Statement) -> boo
 
 
 def is_usual(project: Project, name: str, statements: list[tree.Statement]) -> bool:
-    """Whether a module's name is used where each option has its default: what is left out is told there then, and not hidden."""
+    """Whether a module's name is used where each option has its default: what is left out is then reported there, and not hidden."""
     usual = project.usual()
     return any(it in usual.reached and it not in usual.called_maybe for statement in statements
                for expression in tree.expressions_of(statement) for it in tree.inside(expression)
@@ -79,7 +79,7 @@ def is_usual(project: Project, name: str, statements: list[tree.Statement]) -> b
 
 
 def languages(project: Project) -> Iterator[Change]:
-    """A question for another language than C has the answer no here; what stands behind it is left to the real Meson."""
+    """A question for another language than C has the answer no here; what depends on it is left to the real Meson."""
     for site in project.functions("add_languages"):
         texts = [text_of(project, it) for it in site.call.arguments]
         is_asked = not is_whole_statement(site)
@@ -89,7 +89,7 @@ def languages(project: Project) -> Iterator[Change]:
             edit = replaced(site, site.call, "true") if is_asked else in_place_of_statement(site.file, site.statement, [])
             yield site.change("add_languages: C is there", edit)
         elif is_asked:
-            yield site.change(f"add_languages: {', '.join(map(str, texts))} is asked for in the real Meson alone",
+            yield site.change(f"add_languages: {', '.join(map(str, texts))} is asked for only in the real Meson",
                               replaced(site, site.call, f"({REAL} and {site.file.source(site.call)})"))
         elif is_optional(project, site):
             yield guarded(site, REAL_ALONE, f"add_languages: {', '.join(map(str, texts))} is left to the real Meson")
@@ -122,7 +122,7 @@ def other_compilers(project: Project) -> Iterator[Change]:
         language = text_of(project, site.call.arguments[0]) if site.call.arguments else None
         if language in added:
             source = site.file.source(site.call.arguments[0])
-            yield site.change(f"get_compiler: that of {language} is asked in the real Meson alone, here that of C",
+            yield site.change(f"get_compiler: that of {language} is asked for only in the real Meson; here it is that of C",
                               replaced(site, site.call.arguments[0], f"{REAL} ? {source} : 'c'"))
 
 

@@ -1,13 +1,13 @@
-"""Objects of another target: a static library of the same sources, which both stand for."""
+"""Objects of another target: a static library of the same sources, which replaces both."""
 from __future__ import annotations
 
 from collections.abc import Iterator
 
-from porting import tree
-from porting.edits import Change, indent_at, without_item
-from porting.project import Project, Site
-from porting.rule import TARGETS, added_to_list, assigned_name, can_hoist, free_name
-from porting.values import Item, Thing, flat
+from tools.porting import tree
+from tools.porting.edits import Change, indent_at, without_item
+from tools.porting.project import Project, Site
+from tools.porting.rule import TARGETS, added_to_list, assigned_name, can_hoist, free_name
+from tools.porting.values import Item, Thing, flat
 
 # What a library of the same objects keeps of a target.
 KEPT = ("sources", "include_directories", "c_args", "dependencies", "link_with")
@@ -38,7 +38,7 @@ def owner_of(project: Project, call: tree.Call) -> Site | None:
 
 
 def library_of(project: Project, owner: Site) -> Site | None:
-    """The library of a target's objects, where it stands already."""
+    """Returns the library of a target's objects, if there is one already."""
     libraries = (it for it in project.functions("static_library") if it.file is owner.file and it.call is not owner.call)
     return next((it for it in libraries if assigned_name(it) == library_name(owner)), None)
 

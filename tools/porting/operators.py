@@ -1,8 +1,8 @@
 """What operators and indexes give of values that may be unknown."""
 from __future__ import annotations
 
-from porting.values import (MOST_ITEMS, UNKNOWN, Either, Item, Many, Table, Thing, Unknown, bounded, choices_of, either, is_same,
-                            kind_of)
+from tools.porting.values import (MOST_ITEMS, UNKNOWN, Either, Item, Many, Table, Thing, Unknown, bounded, choices_of, either, is_same,
+                                  kind_of)
 
 OPERATORS = {
     "==": lambda a, b: a == b, "!=": lambda a, b: a != b, "<": lambda a, b: a < b, "<=": lambda a, b: a <= b,

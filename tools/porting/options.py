@@ -3,13 +3,14 @@ from __future__ import annotations
 
 from collections.abc import Iterator
 
-from porting import tree
-from porting.edits import Change, Edit
-from porting.lexer import escaped
-from porting.project import Project, Site
-from porting.rule import REAL, drop_keyword, replaced, text_of
+from tools.files import OPTION_FILES
+from tools.porting import tree
+from tools.porting.edits import Change, Edit
+from tools.porting.lexer import escaped
+from tools.porting.project import Project, Site
+from tools.porting.rule import REAL, drop_keyword, replaced, text_of
 
-# Folders: the option of the project that stands for one, and its value.
+# Folders: the option of the project that replaces each, and its value.
 FOLDERS = {"libexecdir": ("libexec_dir", "libexec"), "localedir": ("locale_dir", "share/locale"), "sbindir": ("sbin_dir", "sbin"),
            "infodir": ("info_dir", "share/info"), "localstatedir": ("localstate_dir", "/var/local"),
            "sharedstatedir": ("sharedstate_dir", "/var/local/lib"), "licensedir": ("license_dir", "")}
@@ -22,9 +23,9 @@ VALUES = {"b_ndebug": "'false'", "b_lto": "false", "b_lto_mode": "'default'", "b
 
 
 def option_file(project: Project) -> tuple[str, str]:
-    """The path and the text of the option file, which may not be there yet."""
+    """Returns the path and the text of the option file. A new one has the name that every version of the real Meson reads."""
     file = project.option_file()
-    return (file.path, file.text) if file else ("meson_options.txt", "")
+    return (file.path, file.text) if file else (OPTION_FILES[-1], "")
 
 
 def declarations(body: list[tree.Statement]) -> dict[str, tree.Call]:

@@ -4,8 +4,8 @@ from __future__ import annotations
 import sys
 from collections.abc import Callable
 
-from porting import tree
-from porting.lexer import SyntaxFault, Token, line_at, tokens_of, value_of_number, value_of_text
+from tools.porting import tree
+from tools.porting.lexer import SyntaxFault, Token, line_at, tokens_of, value_of_number, value_of_text
 
 TYPE_CHECKING = False
 if TYPE_CHECKING:
@@ -13,9 +13,9 @@ if TYPE_CHECKING:
 
     T = TypeVar("T")
 COMPARISONS = {"==", "!=", "<", "<=", ">", ">="}
-# How deep brackets and blocks may stand in one another.
+# How deep brackets and blocks may be nested.
 DEEPEST = 64
-# How deep the nodes of an expression may stand in one another: `1 + 2 + 3` is three deep. What walks them takes some calls for each.
+# How deep the nodes of an expression may be nested: `1 + 2 + 3` is three deep. What walks them takes some calls for each.
 DEEPEST_NODE = 1000
 sys.setrecursionlimit(max(sys.getrecursionlimit(), 12 * DEEPEST_NODE))
 
@@ -128,7 +128,7 @@ class Parser:
         return self.take()
 
     def whole_expression(self) -> tree.Node:
-        """An expression that stands in no other."""
+        """Reads an expression that is in no other."""
         node = self.expression()
         if tree.depth_of(node) > DEEPEST_NODE:
             raise SyntaxFault(line_at(self.text, node.start), "expressions are nested too deeply")

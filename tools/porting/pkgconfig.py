@@ -4,16 +4,15 @@ from __future__ import annotations
 import itertools
 from collections.abc import Iterator
 
-from tools.files import DEFINITION, read_text
-
-from porting import tree
-from porting.edits import Change
-from porting.lexer import escaped
-from porting.needs import Need, Needs, NotSure, with_blanks
-from porting.project import Project, Site
-from porting.rule import free_name, identifier, in_place_of_statement, is_whole_statement, path_from
-from porting.values import Table, Thing, flat, kind_of, texts_of
 from tools import records as dataclasses
+from tools.files import DEFINITION, read_text
+from tools.porting import tree
+from tools.porting.edits import Change
+from tools.porting.lexer import escaped
+from tools.porting.library_needs import Need, Needs, NotSure, with_blanks
+from tools.porting.project import Project, Site
+from tools.porting.rule import free_name, identifier, in_place_of_statement, is_whole_statement, path_from
+from tools.porting.values import Table, Thing, flat, kind_of, texts_of
 
 TEMPLATE_NAME = "pkgconfig.pc.in"
 TEMPLATE = """prefix=@prefix@
@@ -204,7 +203,7 @@ class Writer(Needs):
             else:
                 named += self.needs_of_item(library, True, True)
         self.keep_names(libraries)
-        # What a static library needs stands before what the call names, as the real Meson has it.
+        # What a static library needs comes before what the call names, as in the real Meson.
         return self.lines(main, own, public + named, private)
 
     def own_flags(self, library: Thing, before: list[Part]) -> list[Part]:

@@ -1,4 +1,4 @@
-"""A project's definition files as they stand and as they become."""
+"""A project's definition files as they are and as they become."""
 from __future__ import annotations
 
 import functools
@@ -6,19 +6,18 @@ import os
 import subprocess
 from collections.abc import Iterable, Iterator
 
-from porting import evaluate, tree
-from porting.edits import Change, Edit, Taken, changed, do_clash
-from porting.lexer import Lines, SyntaxFault
-from porting.journal import place_of
-from porting.parser import parse
 from tools import records as dataclasses
-from tools.files import DEFINITION, read_text
+from tools.files import DEFINITION, DEFINITION_FILES, OPTION_FILES, read_text
+from tools.porting import evaluate, tree
+from tools.porting.edits import Change, Edit, Taken, changed, do_clash
+from tools.porting.journal import place_of
+from tools.porting.lexer import Lines, SyntaxFault
+from tools.porting.parser import parse
 
 # What all passes over the files may cost: steps of evaluation, and characters that are read as statements.
 BUDGET, STEP = 12_000_000, 6  # a step costs as much as six characters
 MARK = "\ufeff"  # that a text of Unicode may begin with
 OUTSIDE = "is outside of SOURCE-DIR, or a link leads there: it is not read"
-OPTION_FILES = ("meson.options", "meson_options.txt")
 
 
 class Unreadable(Exception):
@@ -36,7 +35,7 @@ class File:
 
     @functools.cached_property
     def calls(self) -> list[tuple[tree.Statement, tree.Call]]:
-        """All calls, each with the statement that it stands in."""
+        """Yields all calls, each with the statement that it is in."""
         return [(statement, node) for statement in tree.statements_in(self.body) for expression in tree.expressions_of(statement)
                 for node in tree.inside(expression) if isinstance(node, tree.Call)]
 
@@ -63,7 +62,7 @@ class File:
 
 @dataclasses.dataclass(frozen=True)
 class Site:
-    """A call that may be carried out, with the statement that it stands in."""
+    """A call that may be carried out, with the statement that it is in."""
     file: File
     statement: tree.Statement
     call: tree.Call
@@ -114,7 +113,7 @@ class Project:
             full = os.path.join(self.root, path)
             if place_of(self.root, path) is None and os.path.lexists(full):
                 self.outside[path] = OUTSIDE
-                if path in ("meson.build", *OPTION_FILES):
+                if path in DEFINITION_FILES:
                     raise Unreadable(f"{path}: {OUTSIDE}")
             if path in self.outside or not os.path.exists(full):
                 return None

@@ -4,11 +4,11 @@ from __future__ import annotations
 import os
 from collections.abc import Callable, Iterable, Iterator
 
-from porting import tree
-from porting.edits import Change, indent_at, indented, line_start, whole_lines, with_item, without_item
-from porting.project import File, Project, Site
-from porting.values import kind_of, texts_of
 from tools import records as dataclasses
+from tools.porting import tree
+from tools.porting.edits import Change, indent_at, indented, line_start, whole_lines, with_item, without_item
+from tools.porting.project import File, Project, Site
+from tools.porting.values import kind_of, texts_of
 
 TARGETS = ("executable", "static_library", "shared_library", "library", "both_libraries", "shared_module", "build_target")
 # What only the real Meson does. `meson` is a variable of this program and none of the real one.
@@ -71,7 +71,7 @@ def added_behind(site: Site, keyword: str, items: str) -> tuple[int, int, str]:
 
 
 def can_hoist(site: Site) -> bool:
-    """Whether statements may be put before that of a call: its condition may stand behind `elif`."""
+    """Whether statements may be put before that of a call, whose condition may be that of an `elif`."""
     statement = site.statement
     if isinstance(statement, tree.If):
         first = statement.branches[0].condition
@@ -184,7 +184,7 @@ def comparison_of(site: Site) -> tree.Binary | None:
 
 
 def guarded(site: Site, condition: str, what: str, notes: list[str] | None = None) -> Change:
-    """A statement behind a condition; what stands in brackets over several lines is moved with it."""
+    """Puts a statement into an `if`; brackets over several lines are moved with it."""
     text, statement = site.file.text, site.statement
     lines = text[statement.start:statement.end].split("\n")
     body = ["  " + lines[0], *("  " + line.removeprefix(indent_at(text, statement.start)) if line.strip() else "" for line in lines[1:])]

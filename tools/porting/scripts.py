@@ -6,13 +6,12 @@ import re
 from collections.abc import Iterator
 
 from tools.files import DEFINITION, open_file, read_text
-
-from porting import tree
-from porting.edits import Change
-from porting.lexer import escaped
-from porting.project import Project, Site
-from porting.rule import TARGETS, add_argument, renamed, replaced, text_of
-from porting.values import ROOT, Many, Thing, choices_of, flat, kind_of
+from tools.porting import tree
+from tools.porting.edits import Change
+from tools.porting.lexer import escaped
+from tools.porting.project import Project, Site
+from tools.porting.rule import TARGETS, add_argument, renamed, replaced, text_of
+from tools.porting.values import ROOT, Many, Thing, choices_of, flat, kind_of
 
 INTERPRETERS = {"python": "python3", "python3": "python3", "sh": "sh", "bash": "bash", "perl": "perl", "awk": "awk", "ruby": "ruby"}
 LONGEST_LINE = 200  # of which an interpreter is read
@@ -201,7 +200,7 @@ def commanded_files(project: Project) -> Iterator[Change]:
         if "install_dir" in site.call.keywords and "install" not in site.call.keywords:
             edits.append(add_argument(site, "install: true"))
         change = site.change("configure_file: `command:` becomes a custom_target", *edits)
-        change.notes = [f"{name} is made while building: what includes it has to name it among its sources"]
+        change.notes = [f"{name} is made while building: each target that includes it has to name it among its sources"]
         yield change
 
 

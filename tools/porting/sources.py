@@ -5,16 +5,15 @@ import os
 import re
 from collections.abc import Iterator
 
-from tools.files import DEFINITION, read_bytes
-
-from porting import tree
-from porting.edits import Change, without_item
-from porting.lexer import escaped
-from porting.project import Project, Site
-from porting.rounds import ending_of
-from porting.rule import added_behind, identifier, of_compiler, path_from, renamed, replaced, text_of
-from porting.values import Thing, choices_of, flat
 from tools import records as dataclasses
+from tools.files import DEFINITION, read_bytes
+from tools.porting import tree
+from tools.porting.checks_in_loops import ending_of
+from tools.porting.edits import Change, without_item
+from tools.porting.lexer import escaped
+from tools.porting.project import Project, Site
+from tools.porting.rule import added_behind, identifier, of_compiler, path_from, renamed, replaced, text_of
+from tools.porting.values import Thing, choices_of, flat
 
 # Keywords that a check keeps.
 KEPT = {"args", "dependencies", "include_directories", "required"}
@@ -79,7 +78,7 @@ def sources(project: Project) -> Iterator[Change]:
             project.doubt(site, f"{site.call.name}: {why}")
             continue
         if is_link and not is_linked_whole(site, code):
-            project.doubt(site, "links: its source has no `main`, and its words no '-shared'")
+            project.doubt(site, "links: its source has no `main`, and its arguments no '-shared'")
             continue
         plain = names.free(wanted_name(project, site))
         name = Named(plain, f"{escaped(plain + '_')} + {ending}" if ending else escaped(plain))
@@ -91,7 +90,7 @@ def sources(project: Project) -> Iterator[Change]:
             edits.append((start, end, ""))
         change = site.change(f"{site.call.name} becomes {method} {plain}, with the source before it", *edits, *warnings(site))
         if ending:
-            change.notes = ["the name of the check is made in a loop: look whether the machine file has them all"]
+            change.notes = ["the name of the check is made in a loop: check that the machine file has all of them"]
         yield change
 
 

@@ -1,18 +1,17 @@
-"""Names of templates that stand for truth values: for `@NAME@` the real Meson writes `True`, and this program `true`."""
+"""Names of templates that have truth values: for `@NAME@` the real Meson writes `True`, and this program `true`."""
 from __future__ import annotations
 
 import re
 from collections.abc import Iterator
 
-from tools.files import DEFINITION, read_text
-
-from porting import tree
-from porting.edits import Change
-from porting.project import Project, Site
-from porting.rule import replaced
-from porting.scripts import source_paths
-from porting.values import Thing, choices_of, flat, kind_of
 from tools import records as dataclasses
+from tools.files import DEFINITION, read_text
+from tools.porting import tree
+from tools.porting.edits import Change
+from tools.porting.project import Project, Site
+from tools.porting.rule import replaced
+from tools.porting.scripts import source_paths
+from tools.porting.values import Thing, choices_of, flat, kind_of
 
 REPLACED = re.compile(r"@([-A-Za-z0-9_]+)@")
 DEFINED = re.compile(r"^\s*#mesondefine[ \t]+([-A-Za-z0-9_]+)", re.MULTILINE)
@@ -20,7 +19,7 @@ DEFINED = re.compile(r"^\s*#mesondefine[ \t]+([-A-Za-z0-9_]+)", re.MULTILINE)
 
 @dataclasses.dataclass(eq=False)
 class Entry:
-    """A truth value of a configuration: the call in which it stands, its names, one in each round of a loop, and what templates do with
+    """A truth value of a configuration: the call that it is in, its names, one in each round of a loop, and what templates do with
     the names of that configuration."""
     owner: Site
     names: set[str]
@@ -91,7 +90,7 @@ def texts_of_templates(project: Project, site: Site, node: tree.Node) -> list[st
 
 
 def entries(project: Project, site: Site, node: tree.Node) -> Iterator[tuple[Site, set[str], tree.Node]]:
-    """The truth values of a configuration that surely are such: the call in which each stands, its names, and the value."""
+    """Yields the values of a configuration that surely are truth values: the call that each is in, its names, and the value."""
     found: list[tuple[Site, tree.Node, tree.Node]] = [(site, key, value) for key, value in pairs_of(node)]
     calls = [it.value.call for it in flat(project.known.value(node)) if isinstance(it.value, Thing) and it.value.kind == "configuration"]
     for owner in project.functions("configuration_data"):

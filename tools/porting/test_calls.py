@@ -3,12 +3,12 @@ from __future__ import annotations
 
 from collections.abc import Iterator
 
-from porting import tree
-from porting.edits import Change, without_item
-from porting.lexer import escaped
-from porting.project import Project, Site
-from porting.rule import add_argument, added_to_list, assigned_name, is_whole_statement, renamed, replaced
-from porting.values import Many, Thing, flat, kind_of
+from tools.porting import tree
+from tools.porting.edits import Change, without_item
+from tools.porting.lexer import escaped
+from tools.porting.project import Project, Site
+from tools.porting.rule import add_argument, added_to_list, assigned_name, is_whole_statement, renamed, replaced
+from tools.porting.values import Many, Thing, flat, kind_of
 
 
 def benchmark(project: Project) -> Iterator[Change]:

@@ -4,8 +4,8 @@ from __future__ import annotations
 import re
 from collections.abc import Callable
 
-from porting.operators import is_in
-from porting.values import MOST_CHARACTERS, MOST_ITEMS, UNKNOWN, Item, Many, Table, Unknown, bounded, either, kind_of, texts_of
+from tools.porting.operators import is_in
+from tools.porting.values import MOST_CHARACTERS, MOST_ITEMS, UNKNOWN, Item, Many, Table, Unknown, bounded, either, kind_of, texts_of
 
 KINDS = {
     "format": "text", "join": "text", "replace": "text", "strip": "text", "substring": "text", "to_lower": "text", "to_upper": "text",

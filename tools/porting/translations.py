@@ -6,12 +6,11 @@ import re
 from collections.abc import Iterator
 
 from tools.files import read_text
-
-from porting.commands import module_sites
-from porting.edits import Change
-from porting.lexer import escaped
-from porting.project import Project, Site
-from porting.rule import in_place_of_statement, is_whole_statement, replaced, text_of, texts_at
+from tools.porting.commands import module_sites
+from tools.porting.edits import Change
+from tools.porting.lexer import escaped
+from tools.porting.project import Project, Site
+from tools.porting.rule import in_place_of_statement, is_whole_statement, replaced, text_of, texts_at
 
 LANGUAGE = re.compile(r"[A-Za-z0-9][A-Za-z0-9_@.+-]*")
 MOST_BYTES = 1 << 20  # of a list of languages

@@ -124,7 +124,7 @@ class Jump(Statement):
 
 @dataclasses.dataclass(eq=False)
 class Branch(Node):
-    """A condition, none for `else`, and what stands below it."""
+    """A condition, none for `else`, and the statements below it."""
     condition: Node | None
     body: list[Statement]
 
@@ -173,7 +173,7 @@ def parts_of(node: Node) -> list[Node]:
 
 
 def inside(node: Node) -> Iterator[Node]:
-    """A node and all that stand in it, receivers first."""
+    """Yields a node and all nodes in it, receivers first."""
     waiting = [(node, False)]
     while waiting:
         it, has_parts_behind = waiting.pop()
@@ -185,7 +185,7 @@ def inside(node: Node) -> Iterator[Node]:
 
 
 def depth_of(node: Node) -> int:
-    """How many nodes stand in one another at most."""
+    """How deep nodes are nested at most."""
     deepest, waiting = 0, [(node, 1)]
     while waiting:
         it, depth = waiting.pop()

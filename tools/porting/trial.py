@@ -10,7 +10,7 @@ from tools.asking.processes import MOST_TOLD, NoAnswer, run
 from tools.ending import one_line
 from tools.explaining.command import explained
 from tools.explaining.run import LONGEST, Asked, in_place
-from tools.links import linked_copy
+from tools.linked_copy import linked_copy
 
 CHECKOUT = os.path.dirname(os.path.dirname(os.path.dirname(os.path.realpath(__file__))))
 # A checkout has the list of its crates; what is installed has the program itself.

@@ -1,14 +1,14 @@
 """What is known of a value while no machine, no option and no file of the sources has been asked.
 
-Texts, integers and truth values are Python's. All else stands below; `Unknown` is a value of which at most the kind is known.
+Texts, integers and truth values are Python's. All else is below; `Unknown` is a value of which at most the kind is known.
 """
 from __future__ import annotations
 
 import functools
 from collections.abc import Iterable
 
-from porting import tree
 from tools import records as dataclasses
+from tools.porting import tree
 
 # More possible values than these are one unknown value.
 MOST_CHOICES = 24
@@ -46,7 +46,7 @@ class Many:
 
     @functools.cached_property
     def size(self) -> tuple[int, int]:
-        """How many items it has at every depth, and how deep these stand in one another."""
+        """How many items it has at every depth, and how deep these are nested."""
         inner = [size_of(it.value) for it in self.items if isinstance(it.value, (Many, Either))]
         return len(self.items) + sum(it[0] for it in inner), 1 + max((it[1] for it in inner), default=0)
 
@@ -85,7 +85,7 @@ ROOT = "\0root"
 
 
 def size_of(value: object) -> tuple[int, int]:
-    """How many items a value has at every depth of lists, in all that it may be, and how deep they stand in one another."""
+    """How many items a value has at every depth of lists, in all that it may be, and how deep they are nested."""
     if isinstance(value, Many):
         return value.size
     sizes = [size_of(it) for it in value.choices] if isinstance(value, Either) else []

@@ -16,6 +16,7 @@ abbrev mutual
   are_found (list ds) = all_found ds
   are_found _ = true
 
+  -- Holds if all dependencies in the items were found. Any other item counts as found.
   pub all_found : Items → Bool
   all_found no_items = true
   all_found (item d ds) = are_found d && all_found ds

@@ -7,8 +7,8 @@ use Rattle.values.specs.declared.object.Object.TheVariants as objects
 use Rattle.arguments.specs.Arguments.{ArgumentsData}
 use Rattle.values.specs.Flat.{flat, flat_all}
 use Rattle.arguments.specs.Row.{value_named}
-use Rattle.arguments.specs.declared.given.Requirement.{Requirement}
-use Rattle.arguments.specs.declared.given.Requirement.TheVariants as requirements
+use Rattle.arguments.specs.declared.readers.Requirement.{Requirement}
+use Rattle.arguments.specs.declared.readers.Requirement.TheVariants as requirements
 
 -- Returns the positional argument at an index.
 abbrev pub argument : ℕ → ArgumentsData → Option Data
@@ -82,6 +82,6 @@ requirement_in (boolean b) = Some (of_boolean b)
 requirement_in (object (objects.Feature feature)) = Some (of_feature feature)
 requirement_in _ = None
 
--- Returns what the keyword `required` says, and the default if it is absent.
+-- Returns the requirement that the keyword `required` gives, and the default if the keyword is absent.
 abbrev pub requirement : Requirement → ArgumentsData → Requirement
 requirement default a = unwrap_or (option_and_then requirement_in (keyword (codes "required") a)) default

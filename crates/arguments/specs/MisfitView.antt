@@ -1,11 +1,11 @@
 -- Defines the view of a misfit.
 use Rattle.values.specs.View.{data_of}
 use Rattle.arguments.specs.Misfits.{MisfitData, Twice, LeftOut, TooFew, TooMany, Place, Unknown, Keyword, Missing}
-use Rattle.arguments.specs.declared.misfit.Misfit.{Misfit}
-use Rattle.arguments.specs.declared.misfit.Misfit.TheVariants as misfits
+use Rattle.arguments.specs.declared.mismatch.Mismatch.{Mismatch}
+use Rattle.arguments.specs.declared.mismatch.Mismatch.TheVariants as misfits
 
--- Returns the plain data of a misfit.
-abbrev pub misfit_data : Misfit → MisfitData
+-- Returns the data of a misfit, with the names as bytes and the values as plain data.
+abbrev pub misfit_data : Mismatch → MisfitData
 misfit_data (misfits.Twice name) = Twice name.now
 misfit_data (misfits.LeftOut name) = LeftOut name.now
 misfit_data (misfits.TooFew needed given) = TooFew needed given

@@ -10,7 +10,7 @@ use Rattle.arguments.specs.Arguments.{ArgumentsData}
 use Rattle.arguments.specs.Refused.{RefusedData}
 use Rattle.arguments.specs.Row.{KeywordData, RowData, common_left_out, is_of, keyword_kind, kind_at, value_named}
 use Rattle.arguments.specs.Words.{kind_words, value_words}
-use Rattle.arguments.specs.declared.row.Kind.{Kind}
+use Rattle.arguments.specs.declared.row.ArgumentKind.{ArgumentKind}
 
 -- The reasons why a row does not accept arguments.
 pub data MisfitData : Type 0 where
@@ -23,11 +23,11 @@ pub data MisfitData : Type 0 where
   -- There are more positional arguments than this number, which the call takes.
   TooMany : ℕ → MisfitData
   -- The positional argument at an index has another type than this kind.
-  Place : ℕ → Kind → Data → MisfitData
+  Place : ℕ → ArgumentKind → Data → MisfitData
   -- The call does not take a keyword with this name.
   Unknown : List ℕ → MisfitData
   -- The value of a keyword has another type than this kind.
-  Keyword : List ℕ → Kind → Data → MisfitData
+  Keyword : List ℕ → ArgumentKind → Data → MisfitData
   -- A required keyword is missing.
   Missing : List ℕ → MisfitData
 
@@ -57,35 +57,35 @@ abbrev pub too_few : ℕ → ℕ → Option MisfitData
 too_few needed given = if nat_le needed given then None else Some (TooFew needed given)
 
 -- Checks the positional argument at an index by the kind that the row has for it, if there is one.
-abbrev pub at_place : ℕ → Option Kind → Data → Option MisfitData
+abbrev pub at_place : ℕ → Option ArgumentKind → Data → Option MisfitData
 at_place i None d = Some (TooMany i)
 at_place i (Some kind) d = if is_of kind d then None else Some (Place i kind d)
 
 -- Returns the first misfit among the positional arguments from this index on.
-abbrev pub misplaced : RowData → ℕ → List Data → Option MisfitData
-misplaced row i [] = None
-misplaced row i (d ∷ ds) = or_else (at_place i (kind_at row i) d) (misplaced row (i + 1) ds)
+abbrev pub positional_misfit : RowData → ℕ → List Data → Option MisfitData
+positional_misfit row i [] = None
+positional_misfit row i (d ∷ ds) = or_else (at_place i (kind_at row i) d) (positional_misfit row (i + 1) ds)
 
 -- Checks the value of a keyword by the kind that the row has for it, if there is one.
-abbrev pub of_keyword : List ℕ → Option Kind → Data → Option MisfitData
+abbrev pub of_keyword : List ℕ → Option ArgumentKind → Data → Option MisfitData
 of_keyword name None d = Some (Unknown name)
 of_keyword name (Some kind) d = if is_of kind d then None else Some (Keyword name kind d)
 
 -- Returns the first misfit among the keyword arguments.
-abbrev pub misnamed : List KeywordData → List (List ℕ × Data) → Option MisfitData
-misnamed ks [] = None
-misnamed ks (n ∷ ns) = or_else (of_keyword n.0 (keyword_kind n.0 ks) n.1) (misnamed ks ns)
+abbrev pub keyword_misfit : List KeywordData → List (List ℕ × Data) → Option MisfitData
+keyword_misfit ks [] = None
+keyword_misfit ks (n ∷ ns) = or_else (of_keyword n.0 (keyword_kind n.0 ks) n.1) (keyword_misfit ks ns)
 
 -- Returns the first required keyword that is missing.
-abbrev pub missing : List KeywordData → List (List ℕ × Data) → Option MisfitData
-missing [] ns = None
-missing (k ∷ ks) ns = if k.is_needed && is_none (value_named k.name ns) then Some (Missing k.name) else missing ks ns
+abbrev pub missing_keyword : List KeywordData → List (List ℕ × Data) → Option MisfitData
+missing_keyword [] ns = None
+missing_keyword (k ∷ ks) ns = if k.is_needed && is_none (value_named k.name ns) then Some (Missing k.name) else missing_keyword ks ns
 
 -- Returns the first misfit apart from repeated keywords. In this order: an unsupported keyword, too few arguments, a superfluous or wrong
 -- positional argument, an unknown or wrong keyword, and a missing keyword.
 abbrev pub unfit : RowData → ArgumentsData → Option MisfitData
 unfit row a = or_else (left_out row.left_out a.named) (or_else (too_few row.needed (length a.positional))
-    (or_else (misplaced row 0 a.positional) (or_else (misnamed row.keywords a.named) (missing row.keywords a.named))))
+    (or_else (positional_misfit row 0 a.positional) (or_else (keyword_misfit row.keywords a.named) (missing_keyword row.keywords a.named))))
 
 -- Returns the first misfit. A repeated keyword comes before all others.
 abbrev pub misfit : RowData → ArgumentsData → Option MisfitData
@@ -103,13 +103,13 @@ refusal_of _ = refusals.Arguments
 abbrev pub keyword_is : List ℕ → List ℕ → List ℕ
 keyword_is name words = codes "keyword '" ++ (name ++ (codes "': " ++ words))
 
--- Returns the message that one kind is taken, and another value was given.
-abbrev pub takes : Kind → Data → List ℕ
+-- Returns the message that an argument must be of one kind, and is of another.
+abbrev pub takes : ArgumentKind → Data → List ℕ
 takes kind d = codes "takes " ++ (kind_words kind ++ (codes ", and got " ++ value_words d))
 
 -- Returns the message about a misfit. Arguments are counted from 1.
 abbrev pub words_of : MisfitData → List ℕ
-words_of (Twice name) = keyword_is name (codes "stands twice")
+words_of (Twice name) = keyword_is name (codes "occurs twice")
 words_of (LeftOut name) = keyword_is name (codes "is left out")
 words_of (TooFew needed given) = codes "arguments: needs " ++ (decimal needed ++ (codes ", and got " ++ decimal given))
 words_of (TooMany most) = codes "arguments: takes " ++ (decimal most ++ codes ", and got more")
@@ -123,10 +123,10 @@ abbrev pub refused_as : MisfitData → RefusedData
 refused_as m = record { refusal = refusal_of m; detail = words_of m }
 
 -- Succeeds if there is no misfit, and otherwise refuses.
-abbrev pub judged : Option MisfitData → Result (Unit {0}) RefusedData
-judged None = Ok tt
-judged (Some m) = Err (refused_as m)
+abbrev pub no_misfit : Option MisfitData → Result (Unit {0}) RefusedData
+no_misfit None = Ok tt
+no_misfit (Some m) = Err (refused_as m)
 
 -- Checks arguments by a row.
-abbrev pub checked : RowData → ArgumentsData → Result (Unit {0}) RefusedData
-checked row a = judged (misfit row a)
+abbrev pub arguments_check : RowData → ArgumentsData → Result (Unit {0}) RefusedData
+arguments_check row a = no_misfit (misfit row a)

@@ -85,6 +85,7 @@ abbrev mutual
   are_pieces piece (list ds) = all_pieces piece ds
   are_pieces piece _ = false
 
+  -- Holds if each item is such a piece, or a list of such pieces of any depth.
   pub all_pieces : Piece → Items → Bool
   all_pieces piece no_items = true
   all_pieces piece (item d ds) = are_pieces piece d && all_pieces piece ds

@@ -3,42 +3,42 @@ use Rattle.std.specs.Prelude.{ℕ, Bool, true, false, ◌||◌, List, [], ◌∷
 use Rattle.std.specs.Prelude.{Option, Some, None, is_some, bytes_eq, codes, if◌then◌else◌}
 use Rattle.values.specs.Data.{Data, boolean_in, integer_in, text_in, entries_in, object}
 use Rattle.values.specs.declared.object.Object.{Object}
-use Rattle.arguments.specs.declared.row.Kind.{Kind}
-use Rattle.arguments.specs.declared.row.Kind.TheVariants as kinds
+use Rattle.arguments.specs.declared.row.ArgumentKind.{ArgumentKind}
+use Rattle.arguments.specs.declared.row.ArgumentKind.TheVariants as kinds
 use Rattle.values.specs.Flat.{is_texts}
 use Rattle.arguments.specs.Pieces.{are_pieces, is_command, is_configuration, is_feature, is_file}
 
--- A keyword that a call takes: its name, what its value must be, and whether it is required.
+-- A keyword that a call takes: its name, the kind of its value, and whether it is required.
 pub record KeywordData : Type 0 where
   pub name : List ℕ
-  pub kind : Kind
+  pub kind : ArgumentKind
   pub is_needed : Bool
 
 -- The kinds of the positional arguments and how many of them are needed, the kind of further ones, and the keywords. Then the keywords that
--- are not supported, besides those that no call supports.
+-- are not supported, in addition to those that no call supports.
 pub record RowData : Type 0 where
-  pub positional : List Kind
+  pub positional : List ArgumentKind
   pub needed : ℕ
-  pub others : Option Kind
+  pub others : Option ArgumentKind
   pub keywords : List KeywordData
   pub left_out : List (List ℕ)
 
 -- ---- constructors
 
 -- Returns an optional keyword.
-abbrev pub optional : List ℕ → Kind → KeywordData
+abbrev pub optional : List ℕ → ArgumentKind → KeywordData
 optional name kind = record { name = name; kind = kind; is_needed = false }
 
 -- Returns a required keyword.
-abbrev pub needed : List ℕ → Kind → KeywordData
-needed name kind = record { name = name; kind = kind; is_needed = true }
+abbrev pub required_keyword : List ℕ → ArgumentKind → KeywordData
+required_keyword name kind = record { name = name; kind = kind; is_needed = true }
 
 -- Returns a row with these positional arguments, of which the first `needed` are needed, and these keywords.
-abbrev pub row : List Kind → ℕ → List KeywordData → RowData
+abbrev pub row : List ArgumentKind → ℕ → List KeywordData → RowData
 row positional needed keywords = record { positional = positional; needed = needed; others = None; keywords = keywords; left_out = [] }
 
 -- Returns a row that also takes any number of further arguments after the positional ones.
-abbrev pub with_others : Kind → RowData → RowData
+abbrev pub with_others : ArgumentKind → RowData → RowData
 with_others kind r =
     record { positional = r.positional; needed = r.needed; others = Some kind; keywords = r.keywords; left_out = r.left_out }
 
@@ -59,7 +59,7 @@ is_object test (object o) = test o
 is_object test _ = false
 
 -- Holds if a value is of a kind.
-abbrev pub is_of : Kind → Data → Bool
+abbrev pub is_of : ArgumentKind → Data → Bool
 is_of kinds.Any d = true
 is_of kinds.Boolean d = is_some (boolean_in d)
 is_of kinds.Integer d = is_some (integer_in d)
@@ -77,16 +77,16 @@ is_of kinds.Command d = is_object is_command d
 is_of (kinds.Flat piece) d = are_pieces piece d
 
 -- Returns the kind of the positional argument at an index: the row names it, or it is one of the further ones.
-abbrev pub kind_or : Option Kind → Option Kind → Option Kind
+abbrev pub kind_or : Option ArgumentKind → Option ArgumentKind → Option ArgumentKind
 kind_or (Some kind) others = Some kind
 kind_or None others = others
 
 -- Returns the kind of the positional argument at an index of a row.
-abbrev pub kind_at : RowData → ℕ → Option Kind
+abbrev pub kind_at : RowData → ℕ → Option ArgumentKind
 kind_at row i = kind_or (slice_get row.positional i) row.others
 
 -- Returns the kind of a keyword, and none if there is no such keyword.
-abbrev pub keyword_kind : List ℕ → List KeywordData → Option Kind
+abbrev pub keyword_kind : List ℕ → List KeywordData → Option ArgumentKind
 keyword_kind name [] = None
 keyword_kind name (k ∷ ks) = if bytes_eq k.name name then Some k.kind else keyword_kind name ks
 

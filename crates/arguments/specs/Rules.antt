@@ -3,7 +3,7 @@ use Rattle.std.specs.Prelude.{ℕ, List, [], ◌++◌, codes}
 use Rattle.arguments.specs.declared.rule.Rule.{Rule}
 use Rattle.arguments.specs.declared.rule.Rule.TheVariants as rules
 
--- Returns what the text names, if the message says so, and what the message says about it.
+-- Returns the two texts that a rule's message has around the quoted text that breaks it: the kind of that text, or nothing, and the reason.
 abbrev pub told_of : Rule → List ℕ × List ℕ
 told_of rules.NamesFile = ([], codes "names no file of the project")
 told_of rules.NamesFolder = ([], codes "names no folder of the project")
@@ -29,7 +29,7 @@ told_of rules.TakesOneOutput = (codes "keyword ", codes "takes one output")
 told_of rules.IsNeeded = (codes "keyword ", codes "is missing, and is needed")
 told_of rules.TakesOneFile = (codes "keyword ", codes "takes one file")
 told_of rules.TakesTreeFile = (codes "keyword ", codes "takes a file of the project")
-told_of rules.HasMeaning = (codes "keyword ", codes "has a placeholder or a program that stands for nothing")
+told_of rules.HasMeaning = (codes "keyword ", codes "has a placeholder or a program without a value")
 told_of rules.TakesText = ([], codes "takes a text")
 told_of rules.RunsProgram = ([], codes "has a program that was not found")
 told_of rules.RunsNoLibrary = ([], codes "runs a library")
@@ -40,5 +40,5 @@ told_of rules.IsBelow = (codes "folder ", codes "is none below the present one")
 told_of rules.IsNew = (codes "folder ", codes "was entered before")
 
 -- Returns the message that a text, or the keyword with this name, breaks a rule.
-abbrev pub broken : Rule → List ℕ → List ℕ
-broken rule text = (told_of rule).0 ++ (codes "'" ++ (text ++ (codes "': " ++ (told_of rule).1)))
+abbrev pub breach_message : Rule → List ℕ → List ℕ
+breach_message rule text = (told_of rule).0 ++ (codes "'" ++ (text ++ (codes "': " ++ (told_of rule).1)))

@@ -4,7 +4,7 @@ use Rattle.std.specs.Option.{ok_or}
 use Rattle.arguments.specs.Refused.{RefusedData, breaks}
 use Rattle.arguments.specs.declared.rule.Rule.{Rule}
 
--- A result, or a refusal.
+-- A step of reading arguments has a result, or a refusal with its detail.
 abbrev pub Said : Type 0 → Type 0
 Said A = Result A RefusedData
 
@@ -14,16 +14,16 @@ abbrev pub ◌>>=◌ : {A B : Type 0} → Said A → (A → Said B) → Said B
 (Ok a) >>= next = next a
 (Err refused) >>= next = Err refused
 
--- Returns what was found, and otherwise the refusal that this text, or the keyword with this name, breaks the rule.
-abbrev pub found : {A : Type 0} → Option A → Rule → List ℕ → Said A
-found a rule text = ok_or a (breaks rule text)
+-- Returns the value that was found, and otherwise the refusal that this text, or the keyword with this name, breaks the rule.
+abbrev pub found_value : {A : Type 0} → Option A → Rule → List ℕ → Said A
+found_value a rule text = ok_or a (breaks rule text)
 
 -- Succeeds if a condition is true, and otherwise refuses: this text, or the keyword with this name, breaks the rule.
-abbrev pub kept : Bool → Rule → List ℕ → Said (Unit {0})
-kept true rule text = Ok tt
-kept false rule text = Err (breaks rule text)
+abbrev pub kept_rule : Bool → Rule → List ℕ → Said (Unit {0})
+kept_rule true rule text = Ok tt
+kept_rule false rule text = Err (breaks rule text)
 
 -- Succeeds if nothing breaks a rule, and otherwise refuses.
-abbrev pub unbroken : Option (Rule × List ℕ) → Said (Unit {0})
-unbroken None = Ok tt
-unbroken (Some broken) = Err (breaks broken.0 broken.1)
+abbrev pub no_breach : Option (Rule × List ℕ) → Said (Unit {0})
+no_breach None = Ok tt
+no_breach (Some broken) = Err (breaks broken.0 broken.1)

@@ -3,12 +3,12 @@ use Rattle.std.specs.Prelude.{ℕ, List, [], ◌∷◌, ◌++◌, length, codes,
 use Rattle.values.specs.Data.{Data, boolean, integer, text, list, dictionary, object}
 use Rattle.values.specs.declared.object.Object.{Object}
 use Rattle.values.specs.declared.object.Object.TheVariants as objects
-use Rattle.arguments.specs.declared.row.Kind.{Kind}
-use Rattle.arguments.specs.declared.row.Kind.TheVariants as kinds
+use Rattle.arguments.specs.declared.row.ArgumentKind.{ArgumentKind}
+use Rattle.arguments.specs.declared.row.ArgumentKind.TheVariants as kinds
 use Rattle.arguments.specs.declared.row.Piece.{Piece}
 use Rattle.arguments.specs.declared.row.Piece.TheVariants as pieces
 
--- Describes what may be in a list.
+-- Describes the items of a list of such pieces.
 abbrev pub piece_words : Piece → List ℕ
 piece_words pieces.Path = codes "texts and files"
 piece_words pieces.Source = codes "texts, files and custom targets"
@@ -19,8 +19,8 @@ piece_words pieces.Target = codes "targets"
 piece_words pieces.Word = codes "texts, files and targets"
 piece_words pieces.CommandWord = codes "texts, files, programs and targets"
 
--- Describes what an argument must be.
-abbrev pub kind_words : Kind → List ℕ
+-- Describes the values of a kind of argument.
+abbrev pub kind_words : ArgumentKind → List ℕ
 kind_words kinds.Any = codes "any value"
 kind_words kinds.Boolean = codes "a truth value"
 kind_words kinds.Integer = codes "an integer"

@@ -6,14 +6,14 @@ ghost use Rattle.arguments.specs.Arguments.{arguments_data, no_arguments, with_a
 use std::alloc::{AllocError, Global};
 use values::{Text, Value};
 
-/// A keyword argument.
+/// Holds a keyword argument.
 #[derive(Drop)]
 pub struct Named {
     pub name: Text,
     pub value: Value,
 }
 
-/// The arguments of a call: positional ones, and keyword arguments, each in order.
+/// Holds the arguments of a call: positional ones, and keyword arguments, each in order.
 pub struct Arguments {
     pub positional: Vec<Value>,
     pub named: Vec<Named>,

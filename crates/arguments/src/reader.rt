@@ -7,17 +7,17 @@ ghost use Rattle.arguments.specs.Refused.{answer_data};
 ghost use Rattle.values.specs.Prelude.{data_of};
 ghost use Rattle.arguments.specs.Arguments.{arguments_data, named_data};
 ghost use Rattle.arguments.specs.MisfitView.{misfit_data};
-ghost use Rattle.arguments.specs.Misfits.{at_place, checked, left_out, misfit, misnamed, misplaced, missing};
+ghost use Rattle.arguments.specs.Misfits.{at_place, arguments_check, left_out, misfit, keyword_misfit, positional_misfit, missing_keyword};
 ghost use Rattle.arguments.specs.Misfits.{of_keyword, too_few, twice, unfit};
 ghost use Rattle.arguments.specs.Row.{common_left_out, is_of, keyword_kind, kind_at};
 ghost use Rattle.arguments.specs.RowView.{keyword_data, row_data};
 
 use crate::arguments::{Arguments, Named};
-use crate::given::value_named;
-use crate::misfit::Misfit;
-use crate::pieces::{are_pieces, is_command, is_configuration, is_feature, is_file};
-use crate::refused::Refused;
-use crate::row::{Keyword, Kind, Row};
+use crate::list_pieces::{are_pieces, is_command, is_configuration, is_feature, is_file};
+use crate::mismatch::Mismatch;
+use crate::readers::value_named;
+use crate::refused::ArgumentError;
+use crate::row::{ArgumentKind, Keyword, Row};
 use std::alloc::{AllocError, Global};
 use support::tables::{SipSet, new_set};
 use support::text_lists::is_among;
@@ -25,7 +25,7 @@ use values::{Value, is_texts};
 
 // Returns whether a value is a text, an integer or a boolean.
 fn is_setting(value: &Value) -> bool
-    ensures { result ≡ is_of Kind.Setting (data_of value.now) }
+    ensures { result ≡ is_of ArgumentKind.Setting (data_of value.now) }
 {
     matches!(
         value,
@@ -33,32 +33,32 @@ fn is_setting(value: &Value) -> bool
     )
 }
 
-fn is_of(kind: Kind, value: &Value) -> bool
+fn is_of(kind: ArgumentKind, value: &Value) -> bool
     ensures { result ≡ is_of kind (data_of value.now) }
 {
     match kind {
-        Kind::Any => true,
-        Kind::Boolean => value.as_boolean().is_some(),
-        Kind::Integer => value.as_integer().is_some(),
-        Kind::Text => value.as_text().is_some(),
-        Kind::IntegerOrText => value.as_integer().is_some() || value.as_text().is_some(),
-        Kind::Setting => is_setting(value),
-        Kind::Requirement => value.as_boolean().is_some()
+        ArgumentKind::Any => true,
+        ArgumentKind::Boolean => value.as_boolean().is_some(),
+        ArgumentKind::Integer => value.as_integer().is_some(),
+        ArgumentKind::Text => value.as_text().is_some(),
+        ArgumentKind::IntegerOrText => value.as_integer().is_some() || value.as_text().is_some(),
+        ArgumentKind::Setting => is_setting(value),
+        ArgumentKind::Requirement => value.as_boolean().is_some()
             || value.as_object().is_some_and(is_feature),
-        Kind::Texts => is_texts(value),
-        Kind::Dictionary => value.as_dictionary().is_some(),
-        Kind::TextsOrDictionary => is_texts(value) || value.as_dictionary().is_some(),
-        Kind::ConfigurationData => value.as_object().is_some_and(is_configuration),
-        Kind::Configuration => value.as_object().is_some_and(is_configuration)
+        ArgumentKind::Texts => is_texts(value),
+        ArgumentKind::Dictionary => value.as_dictionary().is_some(),
+        ArgumentKind::TextsOrDictionary => is_texts(value) || value.as_dictionary().is_some(),
+        ArgumentKind::ConfigurationData => value.as_object().is_some_and(is_configuration),
+        ArgumentKind::Configuration => value.as_object().is_some_and(is_configuration)
             || value.as_dictionary().is_some(),
-        Kind::File => value.as_object().is_some_and(is_file),
-        Kind::Command => value.as_object().is_some_and(is_command),
-        Kind::Flat(piece) => are_pieces(piece, value),
+        ArgumentKind::File => value.as_object().is_some_and(is_file),
+        ArgumentKind::Command => value.as_object().is_some_and(is_command),
+        ArgumentKind::Flat(piece) => are_pieces(piece, value),
     }
 }
 
 // Returns the kind of the positional argument at an index, and `None` if the row takes none there.
-fn kind_at(row: &Row, place: usize) -> Option<Kind>
+fn kind_at(row: &Row, place: usize) -> Option<ArgumentKind>
     ensures { result ≡ kind_at (row_data row.now) place }
 {
     match row.positional.get(place) {
@@ -67,19 +67,19 @@ fn kind_at(row: &Row, place: usize) -> Option<Kind>
     }
 }
 
-fn at_place(place: usize, kind: Option<Kind>, value: &Value) -> Option<Misfit<'_>>
+fn at_place(place: usize, kind: Option<ArgumentKind>, value: &Value) -> Option<Mismatch<'_>>
     ensures { option_map misfit_data result ≡ at_place place kind (data_of value.now) }
 {
     match kind {
-        None => Some(Misfit::TooMany(place)),
+        None => Some(Mismatch::TooMany(place)),
         Some(kind) if is_of(kind, value) => None,
-        Some(kind) => Some(Misfit::Place(place, kind, value)),
+        Some(kind) => Some(Mismatch::Place(place, kind, value)),
     }
 }
 
 // Returns the first positional argument that does not fit the row.
-fn find_misplaced<'a>(row: &Row, values: &'a [Value]) -> Option<Misfit<'a>>
-    ensures { option_map misfit_data result ≡ misplaced (row_data row.now) 0 (map data_of values.now) }
+fn find_misplaced<'a>(row: &Row, values: &'a [Value]) -> Option<Mismatch<'a>>
+    ensures { option_map misfit_data result ≡ positional_misfit (row_data row.now) 0 (map data_of values.now) }
 {
     for (i, value) in values.iter().enumerate() {
         let misfit = at_place(i, kind_at(row, i), value);
@@ -90,7 +90,7 @@ fn find_misplaced<'a>(row: &Row, values: &'a [Value]) -> Option<Misfit<'a>>
     None
 }
 
-fn keyword_kind(name: &str, lists: &[&[Keyword]]) -> Option<Kind>
+fn keyword_kind(name: &str, lists: &[&[Keyword]]) -> Option<ArgumentKind>
     ensures { result ≡ keyword_kind name.now (flat_map (λ ks. map keyword_data ks.now) lists.now) }
 {
     for keywords in lists {
@@ -103,20 +103,24 @@ fn keyword_kind(name: &str, lists: &[&[Keyword]]) -> Option<Kind>
     None
 }
 
-fn of_keyword<'a>(name: &'a str, kind: Option<Kind>, value: &'a Value) -> Option<Misfit<'a>>
+fn of_keyword<'a>(
+    name: &'a str,
+    kind: Option<ArgumentKind>,
+    value: &'a Value,
+) -> Option<Mismatch<'a>>
     ensures { option_map misfit_data result ≡ of_keyword name.now kind (data_of value.now) }
 {
     match kind {
-        None => Some(Misfit::Unknown(name)),
+        None => Some(Mismatch::Unknown(name)),
         Some(kind) if is_of(kind, value) => None,
-        Some(kind) => Some(Misfit::Keyword(name, kind, value)),
+        Some(kind) => Some(Mismatch::Keyword(name, kind, value)),
     }
 }
 
 // Returns the first keyword that does not fit the row.
-fn find_misnamed<'a>(lists: &[&[Keyword]], named: &'a [Named]) -> Option<Misfit<'a>>
+fn find_misnamed<'a>(lists: &[&[Keyword]], named: &'a [Named]) -> Option<Mismatch<'a>>
     ensures { option_map misfit_data result
-        ≡ misnamed (flat_map (λ ks. map keyword_data ks.now) lists.now) (map named_data named.now) }
+        ≡ keyword_misfit (flat_map (λ ks. map keyword_data ks.now) lists.now) (map named_data named.now) }
 {
     for one in named {
         let name = one.name.as_str();
@@ -129,14 +133,14 @@ fn find_misnamed<'a>(lists: &[&[Keyword]], named: &'a [Named]) -> Option<Misfit<
 }
 
 // Returns the first required keyword that is missing.
-fn missing<'a>(lists: &[&[Keyword]], named: &[Named]) -> Option<Misfit<'a>>
+fn missing<'a>(lists: &[&[Keyword]], named: &[Named]) -> Option<Mismatch<'a>>
     ensures { option_map misfit_data result
-        ≡ missing (flat_map (λ ks. map keyword_data ks.now) lists.now) (map named_data named.now) }
+        ≡ missing_keyword (flat_map (λ ks. map keyword_data ks.now) lists.now) (map named_data named.now) }
 {
     for keywords in lists {
         for keyword in *keywords {
             if keyword.is_needed() && value_named(keyword.name(), named).is_none() {
-                return Some(Misfit::Missing(keyword.name()));
+                return Some(Mismatch::Missing(keyword.name()));
             }
         }
     }
@@ -174,32 +178,32 @@ fn is_named(name: &str, named: &[Named]) -> bool
 }
 
 // Returns the first keyword that occurs twice. Each is compared with those before it.
-fn twice_in_few<'a>(named: &'a [Named]) -> Option<Misfit<'a>>
+fn twice_in_few<'a>(named: &'a [Named]) -> Option<Mismatch<'a>>
     ensures { option_map misfit_data result ≡ twice (map named_data named.now) }
 {
     for (i, one) in named.iter().enumerate() {
         if is_named(one.name.as_str(), &named[..i]) {
-            return Some(Misfit::Twice(one.name.as_str()));
+            return Some(Mismatch::Twice(one.name.as_str()));
         }
     }
     None
 }
 
 // Returns the first keyword that occurs twice, by a set.
-fn twice_in_many<'a>(alloc: Global, named: &'a [Named]) -> Result<Option<Misfit<'a>>, AllocError>
+fn twice_in_many<'a>(alloc: Global, named: &'a [Named]) -> Result<Option<Mismatch<'a>>, AllocError>
     ensures { IfOk result (λ found. option_map misfit_data found ≡ twice (map named_data named.now)) }
 {
     let mut names = new_set(alloc);
     for one in named {
         if comes_again(alloc, &mut names, one.name.as_str())? {
-            return Ok(Some(Misfit::Twice(one.name.as_str())));
+            return Ok(Some(Mismatch::Twice(one.name.as_str())));
         }
     }
     Ok(None)
 }
 
 // Returns the first keyword that occurs twice.
-fn twice<'a>(alloc: Global, named: &'a [Named]) -> Result<Option<Misfit<'a>>, AllocError>
+fn twice<'a>(alloc: Global, named: &'a [Named]) -> Result<Option<Mismatch<'a>>, AllocError>
     ensures { IfOk result (λ found. option_map misfit_data found ≡ twice (map named_data named.now)) }
 {
     if named.len() <= FEW {
@@ -217,30 +221,30 @@ fn is_common_left_out(name: &str) -> bool
 }
 
 // Returns the first keyword that is not supported.
-fn find_left_out<'a>(names: &[&str], named: &'a [Named]) -> Option<Misfit<'a>>
+fn find_left_out<'a>(names: &[&str], named: &'a [Named]) -> Option<Mismatch<'a>>
     ensures { option_map misfit_data result ≡ left_out (map (λ n. n.now) names.now) (map named_data named.now) }
 {
     for one in named {
         let name = one.name.as_str();
         if is_common_left_out(name) || is_among(names, name) {
-            return Some(Misfit::LeftOut(name));
+            return Some(Mismatch::LeftOut(name));
         }
     }
     None
 }
 
-fn too_few<'a>(needed: usize, given: usize) -> Option<Misfit<'a>>
+fn too_few<'a>(needed: usize, given: usize) -> Option<Mismatch<'a>>
     ensures { option_map misfit_data result ≡ too_few needed given }
 {
     if needed <= given {
         None
     } else {
-        Some(Misfit::TooFew(needed, given))
+        Some(Mismatch::TooFew(needed, given))
     }
 }
 
 // Returns the first misfit apart from repeated keywords.
-fn unfit<'a>(row: &Row, arguments: &'a Arguments) -> Option<Misfit<'a>>
+fn unfit<'a>(row: &Row, arguments: &'a Arguments) -> Option<Mismatch<'a>>
     ensures { option_map misfit_data result ≡ unfit (row_data row.now) (arguments_data arguments.now) }
 {
     if let Some(misfit) = find_left_out(row.left_out, &arguments.named) {
@@ -262,7 +266,7 @@ fn misfit<'a>(
     alloc: Global,
     row: &Row,
     arguments: &'a Arguments,
-) -> Result<Option<Misfit<'a>>, AllocError>
+) -> Result<Option<Mismatch<'a>>, AllocError>
     ensures { IfOk result (λ found. option_map misfit_data found ≡ misfit (row_data row.now) (arguments_data arguments.now)) }
 {
     if let Some(misfit) = twice(alloc, &arguments.named)? {
@@ -279,8 +283,8 @@ pub fn check(
     alloc: Global,
     row: &Row,
     arguments: &Arguments,
-) -> Result<Result<(), Refused>, AllocError>
-    ensures { IfOk result (λ r. answer_data r ≡ checked (row_data row.now) (arguments_data arguments.now)) }
+) -> Result<Result<(), ArgumentError>, AllocError>
+    ensures { IfOk result (λ r. answer_data r ≡ arguments_check (row_data row.now) (arguments_data arguments.now)) }
 {
     match misfit(alloc, row, arguments)? {
         Some(misfit) => Ok(Err(misfit.refuse(alloc)?)),

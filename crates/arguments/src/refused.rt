@@ -2,11 +2,11 @@
 use support::faults::Refusal;
 use thiserror::Error;
 
-/// A refusal of arguments, with its detail.
+/// Holds a refusal of arguments, with its detail.
 #[derive(Debug, Drop, Error)]
 #[error("{refusal}{}{detail}", if .detail.is_empty() {""} else {": "})]
-pub struct Refused {
+pub struct ArgumentError {
     pub refusal: Refusal,
-    /// What is wrong, as a message.
+    /// The message, which says what is wrong.
     pub detail: String,
 }

@@ -3,9 +3,9 @@ ghost use Rattle.std.specs.Prelude.{◌≡◌, flat_map, map};
 ghost use Rattle.arguments.specs.Row.{leaving_out, row, with_others};
 ghost use Rattle.arguments.specs.RowView.{keyword_data, row_data};
 
-/// What an argument must be.
+/// Says what an argument must be.
 #[derive(Clone, Copy)]
-pub enum Kind {
+pub enum ArgumentKind {
     Any,
     Boolean,
     Integer,
@@ -31,7 +31,7 @@ pub enum Kind {
     Flat(Piece),
 }
 
-/// What may be in a list of any depth.
+/// Says what may be in a list of any depth.
 #[derive(Clone, Copy)]
 pub enum Piece {
     /// A text or a file.
@@ -52,13 +52,13 @@ pub enum Piece {
     CommandWord,
 }
 
-/// A keyword that a call takes: its name, and what its value must be.
+/// Describes a keyword that a call takes: its name, and what its value must be.
 #[derive(Clone, Copy)]
 pub enum Keyword {
     /// A keyword that is optional.
-    Optional(&'static str, Kind),
+    Optional(&'static str, ArgumentKind),
     /// A keyword that is required.
-    Needed(&'static str, Kind),
+    Needed(&'static str, ArgumentKind),
 }
 
 impl Keyword {
@@ -72,7 +72,7 @@ impl Keyword {
     }
 
     /// Returns what the value must be.
-    pub fn kind(self) -> Kind
+    pub fn kind(self) -> ArgumentKind
         ensures { result ≡ (keyword_data self).kind }
     {
         match self {
@@ -88,25 +88,25 @@ impl Keyword {
     }
 }
 
-/// The arguments that a call takes, as in an entry of the page "Reference manual".
+/// Describes the arguments that a call takes, as in an entry of the page "Reference manual".
 #[derive(Clone, Copy)]
 pub struct Row {
     /// The kinds of the positional arguments.
-    pub positional: &'static [Kind],
+    pub positional: &'static [ArgumentKind],
     /// How many of them are needed.
     pub needed: usize,
     /// The kind of further positional arguments, if there may be any.
-    pub others: Option<Kind>,
+    pub others: Option<ArgumentKind>,
     /// The keywords, in several lists.
     pub keywords: &'static [&'static [Keyword]],
-    /// The keywords that are not supported, besides those that no call supports.
+    /// The keywords that are not supported, in addition to those that no call supports.
     pub left_out: &'static [&'static str],
 }
 
 impl Row {
     /// Returns a row with these positional arguments, of which the first `needed` are needed, and the keywords of these lists.
     pub fn of(
-        positional: &'static [Kind],
+        positional: &'static [ArgumentKind],
         needed: usize,
         keywords: &'static [&'static [Keyword]],
     ) -> Row
@@ -122,7 +122,7 @@ impl Row {
     }
 
     /// Returns a row that also takes any number of further arguments after the positional ones.
-    pub fn with_others(self, kind: Kind) -> Row
+    pub fn with_others(self, kind: ArgumentKind) -> Row
         ensures { row_data result ≡ with_others kind (row_data self) }
     {
         Row {
@@ -131,7 +131,7 @@ impl Row {
         }
     }
 
-    /// Returns a row in which these keywords are not supported, besides those that no call supports.
+    /// Returns a row in which these keywords are not supported, in addition to those that no call supports.
     pub fn leaving_out(self, names: &'static [&'static str]) -> Row
         ensures { row_data result ≡ leaving_out (map (λ n. n.now) names.now) (row_data self) }
     {

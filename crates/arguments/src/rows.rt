@@ -3,17 +3,17 @@ ghost use Rattle.std.specs.Prelude.{◌≡◌};
 ghost use Rattle.arguments.specs.RowView.{row_data};
 ghost use Rattle.arguments.specs.Rows.{some_texts, values};
 
-use crate::row::{Kind, Row};
+use crate::row::{ArgumentKind, Row};
 
 /// Returns a row of any number of values of any type.
 pub fn any_values() -> Row
     ensures { row_data result ≡ Rattle.arguments.specs.Rows.any_values }
 {
-    Row::of(&[], 0, &[]).with_others(Kind::Any)
+    Row::of(&[], 0, &[]).with_others(ArgumentKind::Any)
 }
 
 /// Returns a row of values of these kinds, of which the first `needed` are needed.
-pub fn values(positional: &'static [Kind], needed: usize) -> Row
+pub fn values(positional: &'static [ArgumentKind], needed: usize) -> Row
     ensures { row_data result ≡ values positional.now needed }
 {
     Row::of(positional, needed, &[])
@@ -23,5 +23,5 @@ pub fn values(positional: &'static [Kind], needed: usize) -> Row
 pub fn some_texts() -> Row
     ensures { row_data result ≡ some_texts }
 {
-    Row::of(&[], 1, &[]).with_others(Kind::Text)
+    Row::of(&[], 1, &[]).with_others(ArgumentKind::Text)
 }

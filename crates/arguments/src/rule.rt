@@ -1,13 +1,13 @@
 //! Defines rules for arguments that no row expresses, and the messages about what breaks them.
 ghost use Rattle.std.specs.Prelude.{◌≡◌, IfOk, string_bytes};
 ghost use Rattle.arguments.specs.Refused.{breaks, refused_data};
-ghost use Rattle.arguments.specs.Rules.{broken, told_of};
+ghost use Rattle.arguments.specs.Rules.{breach_message, told_of};
 
-use crate::refused::Refused;
+use crate::refused::ArgumentError;
 use std::alloc::{AllocError, Global};
 use support::faults::Refusal;
 
-/// A rule that a text or the value of a keyword may break.
+/// Names a rule that a text or the value of a keyword may break.
 #[derive(Clone, Copy)]
 pub enum Rule {
     /// A text names a file in the source directory.
@@ -26,7 +26,7 @@ pub enum Rule {
     IsLibraryVersion,
     /// A name is valid for a man page.
     IsManPage,
-    /// Build files may assign the variable.
+    /// Definition files may assign the variable.
     IsSettable,
     /// A name is valid for a variable.
     IsVariableName,
@@ -128,7 +128,7 @@ impl Rule {
             Rule::IsNeeded => "is missing, and is needed",
             Rule::TakesOneFile => "takes one file",
             Rule::TakesTreeFile => "takes a file of the project",
-            Rule::HasMeaning => "has a placeholder or a program that stands for nothing",
+            Rule::HasMeaning => "has a placeholder or a program without a value",
             Rule::TakesText => "takes a text",
             Rule::RunsProgram => "has a program that was not found",
             Rule::RunsNoLibrary => "runs a library",
@@ -142,18 +142,18 @@ impl Rule {
 
     /// Returns the message that this text, or the keyword with this name, breaks the rule, as in `'../a.c': names no file of the project`.
     pub fn tell_breach(self, alloc: Global, text: &str) -> Result<String, AllocError>
-        ensures { IfOk result (λ words. string_bytes words ≡ broken self text.now) }
+        ensures { IfOk result (λ words. string_bytes words ≡ breach_message self text.now) }
     {
         let (thing, words) = (self.thing(), self.words());
         format!(in alloc; "{thing}'{text}': {words}")
     }
 
     /// Returns the refusal of arguments (E9) in which this text, or the keyword with this name, breaks the rule.
-    pub fn refuse(self, alloc: Global, text: &str) -> Result<Refused, AllocError>
+    pub fn refuse(self, alloc: Global, text: &str) -> Result<ArgumentError, AllocError>
         ensures { IfOk result (λ refused. refused_data refused ≡ breaks self text.now) }
     {
         let detail = self.tell_breach(alloc, text)?;
-        Ok(Refused {
+        Ok(ArgumentError {
             refusal: Refusal::Arguments,
             detail,
         })

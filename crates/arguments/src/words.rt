@@ -3,7 +3,7 @@ ghost use Rattle.std.specs.Prelude.{◌≡◌, IfOk, map, string_bytes};
 ghost use Rattle.arguments.specs.Words.{kind_words, object_words, pair_words, piece_words, value_words, values_words};
 ghost use Rattle.values.specs.Prelude.{data_of};
 
-use crate::row::{Kind, Piece};
+use crate::row::{ArgumentKind, Piece};
 use itoa::Buffer;
 use std::alloc::{AllocError, Global};
 use values::{Object, Value};
@@ -24,25 +24,25 @@ fn piece_words(piece: Piece) -> &'static str
 }
 
 /// Describes what an argument must be.
-pub fn kind_words(kind: Kind) -> &'static str
+pub fn kind_words(kind: ArgumentKind) -> &'static str
     ensures { result.now ≡ kind_words kind }
 {
     match kind {
-        Kind::Any => "any value",
-        Kind::Boolean => "a truth value",
-        Kind::Integer => "an integer",
-        Kind::Text => "a text",
-        Kind::IntegerOrText => "a text or an integer",
-        Kind::Setting => "a text, an integer or a truth value",
-        Kind::Requirement => "a truth value or a feature option",
-        Kind::Texts => "texts",
-        Kind::Dictionary => "a dictionary",
-        Kind::TextsOrDictionary => "texts, or a dictionary",
-        Kind::ConfigurationData => "configuration data",
-        Kind::Configuration => "configuration data or a dictionary",
-        Kind::File => "a file",
-        Kind::Command => "a program, a target or a file",
-        Kind::Flat(piece) => piece_words(piece),
+        ArgumentKind::Any => "any value",
+        ArgumentKind::Boolean => "a truth value",
+        ArgumentKind::Integer => "an integer",
+        ArgumentKind::Text => "a text",
+        ArgumentKind::IntegerOrText => "a text or an integer",
+        ArgumentKind::Setting => "a text, an integer or a truth value",
+        ArgumentKind::Requirement => "a truth value or a feature option",
+        ArgumentKind::Texts => "texts",
+        ArgumentKind::Dictionary => "a dictionary",
+        ArgumentKind::TextsOrDictionary => "texts, or a dictionary",
+        ArgumentKind::ConfigurationData => "configuration data",
+        ArgumentKind::Configuration => "configuration data or a dictionary",
+        ArgumentKind::File => "a file",
+        ArgumentKind::Command => "a program, a target or a file",
+        ArgumentKind::Flat(piece) => piece_words(piece),
     }
 }
 

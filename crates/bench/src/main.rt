@@ -1,12 +1,12 @@
-//! Measures calls of the libraries. `bench GROUP:MEASURE:OF ..` carries out each measure in turn. It prints a line on what came of it, and
-//! on the standard error the nanoseconds that its calls took.
+//! Measures calls of the libraries. `bench GROUP:MEASURE:OF ..` carries out each measure in turn. For each measure it prints a line with
+//! the result, and on the standard error the nanoseconds that the calls took.
 //!
 //! | Measure | What is measured |
 //! |---|---|
 //! | `syntax:statements:FILE` | this definition file is parsed |
 //! | `values:MEASURE:COUNT` | so many operations on values, of the kinds in `value_measures` |
 //! | `options:MEASURE:COUNT` | calls on so many options, of the kinds in `option_measures` |
-//! | `template:FILE:NAME=TEXT,..` | the template FILE, written as `FILE.out` with these texts for names; its log goes to standard output |
+//! | `template:FILE:NAME=TEXT,..` | the template FILE, written as `FILE.out` with these texts for names; the log goes to standard output |
 #![tactic(auto)]
 
 mod measured;

@@ -1,4 +1,4 @@
-//! Makes files and words of so many items.
+//! Makes option files and command lines with a given number of items.
 
 use std::alloc::{AllocError, Global};
 
@@ -32,7 +32,7 @@ pub fn sections(alloc: Global, count: usize) -> Result<String, AllocError> {
     Ok(text)
 }
 
-/// Returns so many words of a command line, each for an option of its own.
+/// Returns `count` arguments of a command line, each for an option of its own.
 pub fn words(alloc: Global, count: usize) -> Result<Vec<String>, AllocError> {
     let mut all = Vec::new(alloc);
     for i in 0..count {
@@ -63,7 +63,7 @@ pub fn array_of_choices(alloc: Global, count: usize) -> Result<String, AllocErro
     Ok(text)
 }
 
-/// Returns the word of a command line that gives this array all of its choices.
+/// Returns the argument that gives this array all of its choices.
 pub fn all_choices(alloc: Global, count: usize) -> Result<String, AllocError> {
     let mut text = String::from_str(alloc, "array=choice0")?;
     for i in 1..count {

@@ -45,7 +45,7 @@ fn read_settings(alloc: Global, settings: &str) -> Result<ConfigData, SetStop> {
     Ok(config)
 }
 
-/// Writes one template of the folder, with the texts of these settings for its names.
+/// Writes one template of the folder, and replaces its names by the texts of these settings.
 pub fn measure(rt: &HostRuntime, template: &str, settings: &str) -> Result<Measured, Stop> {
     let alloc = rt.alloc();
     let config = read_settings(alloc, settings)?;

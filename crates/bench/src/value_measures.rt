@@ -19,7 +19,7 @@ use std::time::Instant;
 use values::language_names::MethodName;
 use values::{List, Text, Value};
 
-/// Carries out the operations of this measure, and what they need, so many times.
+/// Carries out the operations of this measure, and what they need, `count` times.
 pub fn measure(rt: &HostRuntime, measure: &str, of: &str) -> Result<Measured, Stop> {
     let count = count_of(of)?;
     let start = Instant::now(rt)?;

@@ -7,16 +7,16 @@ use Rattle.build.specs.edge.Texts.{Path, holds}
 use Rattle.build.specs.edge.Data.{EdgeData}
 use Rattle.build.specs.edge.Holding.{are_writable}
 use Rattle.build.specs.Data.{SurroundingsData, SourceData, Tree, Built, Made, TargetData}
-use Rattle.build.specs.Libraries.{LinkedData, linked, linked_libraries, linked_of}
+use Rattle.build.specs.Libraries.{DeclaredTargetData, declared_target, linked_libraries, linked_of}
 use Rattle.build.specs.target_edges.Edges.{target_edges}
 use Rattle.build.specs.project.Laws.{outputs_of, times}
-use Rattle.build.specs.project.World.{WorldData, reserved, made_of, is_made_in}
+use Rattle.build.specs.project.World.{WorldData, reserved_paths, made_of, is_made_in}
 use Rattle.build.specs.project.Whole.{targets_in, IsWhole, IsNext}
 use Rattle.build.specs.project.Adding.{sources_of, is_made_source, is_present, target_fits, is_fit, edges_with, place_answer, target_answer}
 use Rattle.build.specs.project.Adding.{is_within}
-use Rattle.build.specs.project.Refused.{refused}
-use Rattle.build.specs.project.Unheld.{unheld}
-use Rattle.build.specs.declared.project.refusal.Refusal.TheVariants.{Arguments, Missing, Unholdable}
+use Rattle.build.specs.project.Refused.{refusal_for_text}
+use Rattle.build.specs.project.Unheld.{unheld_text}
+use Rattle.build.specs.declared.project.refusal.ProjectRefusal.TheVariants.{Arguments, Missing, Unholdable}
 use Rattle.build.proofs.PathLists.{times-append}
 use Rattle.build.proofs.EdgeOrder.{holds_append}
 use Rattle.build.proofs.Earlier.{back_next}
@@ -40,12 +40,12 @@ by_cases true false f = refl
 by_cases false true f = refl
 by_cases false false f = refl
 
-pub made_is : (s : SurroundingsData) (ls : List LinkedData) (outputs present kept : List Path) → IsWhole s ls outputs present kept → (p : Path) → is_made_in kept p ≡ holds p (made_of s (targets_in ls) outputs)
+pub made_is : (s : SurroundingsData) (ls : List DeclaredTargetData) (outputs present kept : List Path) → IsWhole s ls outputs present kept → (p : Path) → is_made_in kept p ≡ holds p (made_of s (targets_in ls) outputs)
 made_is s ls outputs present kept w p =
     let made = made_of s (targets_in ls) outputs in
-    ap (λ b. b && not (holds p reserved)) (w.paths p ∙ holds_append p reserved made)
-    ∙ by_cases (holds p reserved) (holds p made)
-    (λ a b. let h = held_or_not p reserved a in let k = held_or_not p made b in let t = times-append p reserved made in let o = w.once p in omega arith)
+    ap (λ b. b && not (holds p reserved_paths)) (w.paths p ∙ holds_append p reserved_paths made)
+    ∙ by_cases (holds p reserved_paths) (holds p made)
+    (λ a b. let h = held_or_not p reserved_paths a in let k = held_or_not p made b in let t = times-append p reserved_paths made in let o = w.once p in omega arith)
 
 list_all-same : {X : Type 0} (p q : X → Bool) → ((x : X) → p x ≡ q x) → (xs : List X) → list_all p xs ≡ list_all q xs
 list_all-same p q f [] = refl
@@ -61,29 +61,29 @@ sources-same p q f xs = list_all-same (is_made_source p) (is_made_source q) (sou
 
 -- ---- the first refusal
 
-pub answer_missing : (w : WorldData) (t : TargetData) → is_fit w t ≡ true → list_all (is_present w.present) (sources_of t) ≡ false → target_answer w t ≡ Err (refused Missing [])
+pub answer_missing : (w : WorldData) (t : TargetData) → is_fit w t ≡ true → list_all (is_present w.present) (sources_of t) ≡ false → target_answer w t ≡ Err (refusal_for_text Missing [])
 answer_missing w t a b =
     let placed = place_answer w (outputs_of (edges_with w t)) (is_within t) in
-    let held = if are_writable (edges_with w t) then placed else Err (refused Unholdable (unheld t)) in
-    ap (λ x. if x then (if list_all (is_present w.present) (sources_of t) then held else Err (refused Missing [])) else Err (refused Arguments [])) a
-    ∙ ap (λ x. if x then held else Err (refused Missing [])) b
+    let held = if are_writable (edges_with w t) then placed else Err (refusal_for_text Unholdable (unheld_text t)) in
+    ap (λ x. if x then (if list_all (is_present w.present) (sources_of t) then held else Err (refusal_for_text Missing [])) else Err (refusal_for_text Arguments [])) a
+    ∙ ap (λ x. if x then held else Err (refusal_for_text Missing [])) b
 
-pub answer_unholdable : (w : WorldData) (t : TargetData) → is_fit w t ≡ true → list_all (is_present w.present) (sources_of t) ≡ true → are_writable (edges_with w t) ≡ false → target_answer w t ≡ Err (refused Unholdable (unheld t))
+pub answer_unholdable : (w : WorldData) (t : TargetData) → is_fit w t ≡ true → list_all (is_present w.present) (sources_of t) ≡ true → are_writable (edges_with w t) ≡ false → target_answer w t ≡ Err (refusal_for_text Unholdable (unheld_text t))
 answer_unholdable w t a b d =
     let placed = place_answer w (outputs_of (edges_with w t)) (is_within t) in
-    let held = if are_writable (edges_with w t) then placed else Err (refused Unholdable (unheld t)) in
-    ap (λ x. if x then (if list_all (is_present w.present) (sources_of t) then held else Err (refused Missing [])) else Err (refused Arguments [])) a
-    ∙ ap (λ x. if x then held else Err (refused Missing [])) b
-    ∙ ap (λ x. if x then placed else Err (refused Unholdable (unheld t))) d
+    let held = if are_writable (edges_with w t) then placed else Err (refusal_for_text Unholdable (unheld_text t)) in
+    ap (λ x. if x then (if list_all (is_present w.present) (sources_of t) then held else Err (refusal_for_text Missing [])) else Err (refusal_for_text Arguments [])) a
+    ∙ ap (λ x. if x then held else Err (refusal_for_text Missing [])) b
+    ∙ ap (λ x. if x then placed else Err (refusal_for_text Unholdable (unheld_text t))) d
 
 pub answer_placed : (w : WorldData) (t : TargetData) → is_fit w t ≡ true → list_all (is_present w.present) (sources_of t) ≡ true → are_writable (edges_with w t) ≡ true
     → target_answer w t ≡ place_answer w (outputs_of (edges_with w t)) (is_within t)
 answer_placed w t a b d =
     let placed = place_answer w (outputs_of (edges_with w t)) (is_within t) in
-    let held = if are_writable (edges_with w t) then placed else Err (refused Unholdable (unheld t)) in
-    ap (λ x. if x then (if list_all (is_present w.present) (sources_of t) then held else Err (refused Missing [])) else Err (refused Arguments [])) a
-    ∙ ap (λ x. if x then held else Err (refused Missing [])) b
-    ∙ ap (λ x. if x then placed else Err (refused Unholdable (unheld t))) d
+    let held = if are_writable (edges_with w t) then placed else Err (refusal_for_text Unholdable (unheld_text t)) in
+    ap (λ x. if x then (if list_all (is_present w.present) (sources_of t) then held else Err (refusal_for_text Missing [])) else Err (refusal_for_text Arguments [])) a
+    ∙ ap (λ x. if x then held else Err (refusal_for_text Missing [])) b
+    ∙ ap (λ x. if x then placed else Err (refusal_for_text Unholdable (unheld_text t))) d
 
 -- ---- a target that fits
 
@@ -92,7 +92,7 @@ module _ (w : WorldData) (t : TargetData) (ns : List ℕ) (es : List EdgeData) (
   edges_are = e ∙ ap (λ n. target_edges w.surroundings (linked_of w.targets) n t) a ∙ edges_same w.surroundings (linked_of w.targets) t
 
   pub next_ready : (ps : List Path) → ps ≡ outputs_of es → are_writable es ≡ true → is_fit w t ≡ true → list_all (is_present w.present) (sources_of t) ≡ true
-      → IsNext w.surroundings w.targets w.outputs w.present (linked (linked_of w.targets) t) ps
+      → IsNext w.surroundings w.targets w.outputs w.present (declared_target (linked_of w.targets) t) ps
   next_ready ps p wr fit there =
       let s = w.surroundings in
       let h = and_parts (target_fits (linked_of w.targets) t)

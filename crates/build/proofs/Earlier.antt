@@ -7,7 +7,7 @@ use Rattle.std.proofs.lemmas.Bool.Decides.{nat_tests}
 use Rattle.build.specs.edge.Texts.{Path, holds}
 use Rattle.build.specs.Data.{SurroundingsData, SourceData, Tree, Built, Made, ListsData, TargetData, Build, Custom}
 use Rattle.build.specs.Sources.{has_foreign}
-use Rattle.build.specs.Libraries.{LinkedData, linked_of, build_of, is_library_in, is_library_at, library_numbers, links_in}
+use Rattle.build.specs.Libraries.{DeclaredTargetData, linked_of, build_of, is_library_in, is_library_at, library_numbers, links_in}
 use Rattle.build.specs.Libraries.{links_libraries}
 use Rattle.build.proofs.LinkedLists.{targets_after}
 use Rattle.build.specs.target_edges.Edges.{all_edges}
@@ -56,12 +56,12 @@ library_same : (t : TargetData) → is_library_in (build_of t) ≡ is_library_ta
 library_same (Build t) = refl
 library_same (Custom t) = refl
 
-library_is : (ls : List LinkedData) (n : ℕ) → is_library_at ls n ≡ true → is_library_if (slice_get (targets_in ls) n) ≡ true
+library_is : (ls : List DeclaredTargetData) (n : ℕ) → is_library_at ls n ≡ true → is_library_if (slice_get (targets_in ls) n) ≡ true
 library_is [] n e = absurd cc
 library_is (l ∷ ls) zero e = sym (library_same l.target) ∙ e
 library_is (l ∷ ls) (suc n) e = library_is ls n e
 
-library_below : (ls : List LinkedData) (n : ℕ) → is_library_at ls n ≡ true → n < length (targets_in ls)
+library_below : (ls : List DeclaredTargetData) (n : ℕ) → is_library_at ls n ≡ true → n < length (targets_in ls)
 library_below [] n e = absurd cc
 library_below (l ∷ ls) zero e = omega arith
 library_below (l ∷ ls) (suc n) e = omega (arith, library_below ls n e)

@@ -4,11 +4,11 @@ use Rattle.build.specs.edge.Texts.{Text}
 use Rattle.build.specs.Data.{TargetData, Build, Tree, BuildData}
 use Rattle.build.specs.Files.{file_name, so_name}
 use Rattle.build.specs.Libraries.{linked_of}
-use Rattle.build.specs.declared.target.Kind.{Kind}
-use Rattle.build.specs.declared.target.Kind.TheVariants.{Executable, StaticLibrary, SharedLibrary}
+use Rattle.build.specs.declared.target.TargetKind.{TargetKind}
+use Rattle.build.specs.declared.target.TargetKind.TheVariants.{Executable, StaticLibrary, SharedLibrary}
 
 -- a target of the root, of one source, that links these
-abbrev target : Kind → Text → List ℕ → BuildData
+abbrev target : TargetKind → Text → List ℕ → BuildData
 target kind name numbers = record {
   kind = kind;
   folder = [];

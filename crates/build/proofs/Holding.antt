@@ -5,7 +5,7 @@ use Rattle.std.specs.List.{list_all}
 use Rattle.std.proofs.lemmas.List.Folds.{list_all-append}
 use Rattle.build.specs.edge.Texts.{Path, Text}
 use Rattle.build.specs.edge.Paths.{object_path}
-use Rattle.build.specs.edge.Parts.{joined}
+use Rattle.build.specs.edge.Parts.{edge_of_parts}
 use Rattle.build.specs.edge.Holding.{is_path, value_byte_held, value_held, is_some_list, is_writable}
 use Rattle.build.proofs.Held.{path_as_value}
 use Rattle.build.specs.Inputs.{input_view}
@@ -36,7 +36,7 @@ shape false ps true false vo vs h k = refl
 shape false ps false f vo vs h k = refl
 
 compile_held : (front : List Text) (generated : List Path) (object source : Path)
-    → is_writable (joined (compile_shared front generated) (compile_own object source)) ≡ (shared_held front generated && (is_path object && is_path source))
+    → is_writable (edge_of_parts (compile_shared front generated) (compile_own object source)) ≡ (shared_held front generated && (is_path object && is_path source))
 compile_held front generated object source =
     let last = last_words object (object ++ codes ".d") source in
     let paths = (is_path object && true) && ((is_path source && true) && list_all is_path generated) in

@@ -11,7 +11,7 @@ use Rattle.build.specs.edge.Paths.{way_up, source_root}
 use Rattle.build.specs.edge.Holding.{is_path, value_held}
 use Rattle.build.specs.Data.{FlagsData, ListsData, SurroundingsData, BuildData}
 use Rattle.build.specs.Files.{is_library}
-use Rattle.build.specs.Sources.{brought, listed, generated}
+use Rattle.build.specs.Sources.{items_of_dependencies, list_with_dependencies, generated_paths}
 use Rattle.build.specs.target_edges.Parts.{front_words, shared_held, options_held, includes_held, arguments_held, words_held}
 use Rattle.build.specs.target_edges.Parts.{compiles_held}
 use Rattle.build.specs.target_edges.Words.{word_if, include_words, includes, value_words, warning_words}
@@ -89,11 +89,11 @@ folders_held depth fs = flat_all value_held (include_words depth) fs ∙ same_al
 
 includes_are : (depth : ℕ) (t : BuildData) → all_held (includes depth t) ≡ includes_held t
 includes_are depth t =
-    let fs = listed (λ l. l.include_folders) t in
+    let fs = list_with_dependencies (λ l. l.include_folders) t in
     first_kept_all value_held (include_words depth t.folder ++ flat_map (include_words depth) fs)
     ∙ list_all-append value_held (include_words depth t.folder) (flat_map (include_words depth) fs)
     ∙ ap (λ b. b && all_held (flat_map (include_words depth) fs)) (include_held depth t.folder)
-    ∙ ap (λ b. value_held t.folder && b) (folders_held depth fs ∙ list_all-append value_held t.own.include_folders (brought (λ l. l.include_folders) t))
+    ∙ ap (λ b. value_held t.folder && b) (folders_held depth fs ∙ list_all-append value_held t.own.include_folders (items_of_dependencies (λ l. l.include_folders) t))
 
 -- ---- options
 
@@ -141,10 +141,10 @@ options_are f =
 arguments_are : (s : SurroundingsData) (t : BuildData) → all_held (argument_words s t) ≡ arguments_held s t
 arguments_are s t =
     let more = s.facts.flags.c_args ++ t.own.compile_args in
-    list_all-append value_held s.arguments (brought (λ l. l.compile_args) t ++ more)
+    list_all-append value_held s.arguments (items_of_dependencies (λ l. l.compile_args) t ++ more)
     ∙ ap (λ b. all_held s.arguments && b)
-    (list_all-append value_held (brought (λ l. l.compile_args) t) more
-    ∙ ap (λ b. all_held (brought (λ l. l.compile_args) t) && b) (list_all-append value_held s.facts.flags.c_args t.own.compile_args))
+    (list_all-append value_held (items_of_dependencies (λ l. l.compile_args) t) more
+    ∙ ap (λ b. all_held (items_of_dependencies (λ l. l.compile_args) t) && b) (list_all-append value_held s.facts.flags.c_args t.own.compile_args))
 
 -- ---- all words
 
@@ -165,5 +165,5 @@ words_are s t =
     ∙ ap (λ b. b && all_held (pic ++ arguments)) (options_are s.facts.flags)
     ∙ ap (λ b. options_held s.facts.flags && b) (behind_true pic arguments (word_held (is_library t.kind) (codes "-fPIC") refl) ∙ arguments_are s t)))
 
-pub shared_are : (s : SurroundingsData) (t : BuildData) → shared_held (front_words (compile_words s t)) (generated t) ≡ compiles_held s t
-shared_are s t = ap (λ b. list_all is_path (generated t) && b) (words_are s t)
+pub shared_are : (s : SurroundingsData) (t : BuildData) → shared_held (front_words (compile_words s t)) (generated_paths t) ≡ compiles_held s t
+shared_are s t = ap (λ b. list_all is_path (generated_paths t) && b) (words_are s t)

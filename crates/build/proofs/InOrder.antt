@@ -3,16 +3,16 @@ use Rattle.std.proofs.Common.{◌≡◌, ◌+◌, List, [], ◌∷◌, ◌++◌,
 use Rattle.std.specs.Prelude.{slice_get, Some}
 use Rattle.std.proofs.Math.Seq.{take-append_seam}
 use Rattle.build.specs.Data.{SurroundingsData, TargetData}
-use Rattle.build.specs.Libraries.{LinkedData, linked, linked_after, linked_of}
+use Rattle.build.specs.Libraries.{DeclaredTargetData, declared_target, linked_after, linked_of}
 use Rattle.build.proofs.LinkedLists.{begun, get_seam}
 use Rattle.build.specs.target_edges.Edges.{edges_of, edges_after, all_edges}
 use Rattle.build.specs.project.Adding.{edges_if, edges_between}
 
-module _ (s : SurroundingsData) (all : List LinkedData) where
-  from : (earlier : List LinkedData) (ts : List TargetData) → all ≡ linked_after earlier ts → edges_between s all (length ts) (length earlier) ≡ edges_after s earlier ts
+module _ (s : SurroundingsData) (all : List DeclaredTargetData) where
+  from : (earlier : List DeclaredTargetData) (ts : List TargetData) → all ≡ linked_after earlier ts → edges_between s all (length ts) (length earlier) ≡ edges_after s earlier ts
   from earlier [] e = refl
   from earlier (t ∷ ts) e =
-      let l = linked earlier t in
+      let l = declared_target earlier t in
       let b = begun (earlier ++ l ∷ []) ts in
       let is : all ≡ earlier ++ l ∷ b.rest = e ∙ b.is ∙ append_assoc earlier (l ∷ []) b.rest in
       let front : take (length earlier) all ≡ earlier = ap (take (length earlier)) is ∙ take-append_seam earlier (l ∷ b.rest) in

@@ -7,10 +7,10 @@ use Rattle.std.proofs.lemmas.Bool.{not_from_false, not-true, or_parts}
 use Rattle.build.specs.edge.Texts.{Path, Text}
 use Rattle.build.specs.edge.Paths.{is_upward, object_path}
 use Rattle.build.specs.Data.{SurroundingsData, TargetData, Build, Custom}
-use Rattle.build.specs.Sources.{InputData, compiled, has_foreign}
+use Rattle.build.specs.Sources.{InputData, compiled_inputs, has_foreign}
 use Rattle.support.specs.paths.Paths.{path_in}
 use Rattle.build.specs.Files.{file_path, file_name, link_names, link_paths, object_paths, output_paths}
-use Rattle.build.specs.Libraries.{LinkedData, linked, links_libraries}
+use Rattle.build.specs.Libraries.{DeclaredTargetData, declared_target, links_libraries}
 use Rattle.build.specs.target_edges.Edges.{edges_of}
 use Rattle.build.specs.project.Laws.{outputs_of, all_inside}
 use Rattle.support.specs.paths.Names.{has_slash, is_file_name}
@@ -74,7 +74,7 @@ all_objects file (i ∷ is) h =
     (not_from_false (is_upward (object_path file i.name)) (object_inside file i.name h))
     (all_objects file is h)
 
-pub next_inside : (s : SurroundingsData) (earlier : List LinkedData) (t : TargetData) → target_fits earlier t ≡ true → all_inside (outputs_of (edges_of s earlier (linked earlier t))) ≡ true
+pub next_inside : (s : SurroundingsData) (earlier : List DeclaredTargetData) (t : TargetData) → target_fits earlier t ≡ true → all_inside (outputs_of (edges_of s earlier (declared_target earlier t))) ≡ true
 next_inside s earlier (Custom t) e =
     let h = split_and (is_folder t.folder) (list_all is_file_name t.outputs && optional_file_name t.depfile) e in
     let g = split_and (list_all is_file_name t.outputs) (optional_file_name t.depfile) h.1 in
@@ -85,8 +85,8 @@ next_inside s earlier (Build t) e =
     let b = split_and (is_target_name t.name) (is_file_name (file_name t) && list_all is_file_name (link_names t)) g.0 in
     let d = split_and (is_file_name (file_name t)) (list_all is_file_name (link_names t)) b.1 in
     let file = path_inside t.folder (file_name t) h.0 (no_slash (file_name t) d.0) in
-    ap all_inside (outputs-build s earlier (linked earlier (Build t)).libraries t)
+    ap all_inside (outputs-build s earlier (declared_target earlier (Build t)).libraries t)
     ∙ list_all-joined (λ p. not (is_upward p)) (object_paths s.facts.depth t) (file_path t ∷ link_paths t)
-    (all_objects (file_path t) (compiled s.facts.depth t) file)
+    (all_objects (file_path t) (compiled_inputs s.facts.depth t) file)
     (both (not (is_upward (file_path t))) (all_inside (link_paths t))
     (not_from_false (is_upward (file_path t)) file) (all_named t.folder (link_names t) h.0 d.1))

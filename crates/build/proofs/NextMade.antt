@@ -10,12 +10,12 @@ use Rattle.build.specs.edge.Texts.{Path, Text, holds}
 use Rattle.build.specs.edge.Paths.{source_path, object_path}
 use Rattle.build.specs.edge.Data.{EdgeData}
 use Rattle.build.specs.Data.{SurroundingsData, SourceData, Tree, Built, Made, BuildData, CustomData, TargetData, Build, Custom}
-use Rattle.build.specs.Sources.{InputData, all_sources, is_c, own_input, inputs_in, c_input, c_inputs_in, put_input, put_inputs, compiled}
-use Rattle.build.specs.Sources.{if_not_c, generated_in, generated, source_paths}
+use Rattle.build.specs.Sources.{InputData, all_sources, is_c, own_input, inputs_in, c_input, c_inputs_in, put_input, put_inputs, compiled_inputs}
+use Rattle.build.specs.Sources.{if_not_c, generated_in, generated_paths, source_paths}
 use Rattle.build.specs.Files.{is_static, file_path, file_name, link_paths, object_paths}
-use Rattle.build.specs.Libraries.{LinkedData, linked, linked_after, linked_of, build_in}
+use Rattle.build.specs.Libraries.{DeclaredTargetData, declared_target, linked_after, linked_of, build_in}
 use Rattle.build.specs.target_edges.Words.{compile_words, file_in, library_file, library_files, link_words}
-use Rattle.build.specs.target_edges.Edges.{compile_edge, compile_edges, archiving, linking, file_edge, naming, link_edges, custom_edge}
+use Rattle.build.specs.target_edges.Edges.{compile_edge, compile_edges, archive_edge, link_edge, file_edge, symlink_edge, link_edges, custom_edge}
 use Rattle.build.specs.target_edges.Edges.{build_edges, target_edges, edges_of, edges_after, all_edges}
 use Rattle.build.specs.project.Laws.{outputs_of, needs, all_held, all_made}
 use Rattle.build.specs.project.World.{known_of, made_of}
@@ -91,7 +91,7 @@ all_inputs_in q depth (Tree path) e = e
 all_inputs_in q depth (Built path) e = e
 all_inputs_in q depth (Made paths) e = list_all-map (λ (i : InputData). q i.path) own_input paths ∙ e
 
-pub all_compiled : (q : Path → Bool) (depth : ℕ) (t : BuildData) → list_all q (flat_map (source_paths depth) (all_sources t)) ≡ true → all_paths q (compiled depth t) ≡ true
+pub all_compiled : (q : Path → Bool) (depth : ℕ) (t : BuildData) → list_all q (flat_map (source_paths depth) (all_sources t)) ≡ true → all_paths q (compiled_inputs depth t) ≡ true
 all_compiled q depth t e = all_put_inputs q [] (flat_map (c_inputs_in depth) (all_sources t)) refl (over (all_sources t) e)
   where
     over : (xs : List SourceData) → list_all q (flat_map (source_paths depth) xs) ≡ true → all_paths q (flat_map (c_inputs_in depth) xs) ≡ true
@@ -114,7 +114,7 @@ all_generated_in q depth (Tree path) e = refl
 all_generated_in q depth (Built path) e = refl
 all_generated_in q depth (Made paths) e = list_all-flat_map q q if_not_c (all_if_not_c q) paths e
 
-pub all_generated : (q : Path → Bool) (depth : ℕ) (t : BuildData) → list_all q (flat_map (source_paths depth) (all_sources t)) ≡ true → list_all q (generated t) ≡ true
+pub all_generated : (q : Path → Bool) (depth : ℕ) (t : BuildData) → list_all q (flat_map (source_paths depth) (all_sources t)) ≡ true → list_all q (generated_paths t) ≡ true
 all_generated q depth t e = list_all-put_all_new q [] (flat_map generated_in (all_sources t)) refl (over (all_sources t) e)
   where
     over : (xs : List SourceData) → list_all q (flat_map (source_paths depth) xs) ≡ true → list_all q (flat_map generated_in xs) ≡ true
@@ -132,23 +132,23 @@ pub outputs-compile : (words : List Text) (gen : List Path) (file : Path) (is : 
 outputs-compile words gen file [] = refl
 outputs-compile words gen file (i ∷ is) = ap (λ l. object_path file i.name ∷ l) (outputs-compile words gen file is)
 
-pub outputs-links : (file : Path) (name : Text) (links : List Path) → outputs_of (map (naming file name) links) ≡ links
+pub outputs-links : (file : Path) (name : Text) (links : List Path) → outputs_of (map (symlink_edge file name) links) ≡ links
 outputs-links file name [] = refl
 outputs-links file name (l ∷ ls) = ap (λ ps. l ∷ ps) (outputs-links file name ls)
 
-pub output-file : (s : SurroundingsData) (earlier : List LinkedData) (ns : List ℕ) (t : BuildData) (file : Path) (objects : List Path) → (file_edge s earlier ns t file objects).outputs ≡ file ∷ []
+pub output-file : (s : SurroundingsData) (earlier : List DeclaredTargetData) (ns : List ℕ) (t : BuildData) (file : Path) (objects : List Path) → (file_edge s earlier ns t file objects).outputs ≡ file ∷ []
 output-file s earlier ns t file objects = by (is_static t.kind)
   where
-    by : (b : Bool) → (if b then archiving s.facts.archiver file objects else linking (link_words s earlier ns t file objects) file objects (library_files earlier ns)).outputs ≡ file ∷ []
+    by : (b : Bool) → (if b then archive_edge s.facts.archiver file objects else link_edge (link_words s earlier ns t file objects) file objects (library_files earlier ns)).outputs ≡ file ∷ []
     by true = refl
     by false = refl
 
-pub outputs-build : (s : SurroundingsData) (earlier : List LinkedData) (ns : List ℕ) (t : BuildData)
+pub outputs-build : (s : SurroundingsData) (earlier : List DeclaredTargetData) (ns : List ℕ) (t : BuildData)
     → outputs_of (build_edges s earlier ns t) ≡ object_paths s.facts.depth t ++ (file_path t ∷ link_paths t)
 outputs-build s earlier ns t =
     let fe = file_edge s earlier ns t (file_path t) (object_paths s.facts.depth t) in
     flat_map-append (λ (e : EdgeData). e.outputs) (compile_edges s t) (fe ∷ link_edges t)
-    ∙ ap (λ ps. ps ++ (fe.outputs ++ outputs_of (link_edges t))) (outputs-compile (compile_words s t) (generated t) (file_path t) (compiled s.facts.depth t))
+    ∙ ap (λ ps. ps ++ (fe.outputs ++ outputs_of (link_edges t))) (outputs-compile (compile_words s t) (generated_paths t) (file_path t) (compiled_inputs s.facts.depth t))
     ∙ ap (λ ps. object_paths s.facts.depth t ++ (ps ++ outputs_of (link_edges t))) (output-file s earlier ns t (file_path t) (object_paths s.facts.depth t))
     ∙ ap (λ ps. object_paths s.facts.depth t ++ (file_path t ∷ ps)) (outputs-links (file_path t) (file_name t) (link_paths t))
 
@@ -164,22 +164,22 @@ made_compile words gen file (i ∷ is) known e g =
     (list_all-weaker (λ (k : InputData). holds k.path known) (λ (k : InputData). holds k.path more) (λ k a. holds_left k.path known (object_path file i.name ∷ []) a) is h.1)
     (held_more known (object_path file i.name ∷ []) gen g))
 
-made_links : (file : Path) (name : Text) (links known : List Path) → holds file known ≡ true → all_made known (map (naming file name) links) ≡ true
+made_links : (file : Path) (name : Text) (links known : List Path) → holds file known ≡ true → all_made known (map (symlink_edge file name) links) ≡ true
 made_links file name [] known e = refl
 made_links file name (l ∷ ls) known e =
-    both (all_held known (file ∷ [])) (all_made (known ++ l ∷ []) (map (naming file name) ls))
+    both (all_held known (file ∷ [])) (all_made (known ++ l ∷ []) (map (symlink_edge file name) ls))
     (both (holds file known) true e refl)
     (made_links file name ls (known ++ l ∷ []) (holds_left file known (l ∷ []) e))
 
-made_file : (s : SurroundingsData) (earlier : List LinkedData) (ns : List ℕ) (t : BuildData) (file : Path) (objects known : List Path)
+made_file : (s : SurroundingsData) (earlier : List DeclaredTargetData) (ns : List ℕ) (t : BuildData) (file : Path) (objects known : List Path)
     → all_held known objects ≡ true → all_held known (library_files earlier ns) ≡ true → all_held known (needs (file_edge s earlier ns t file objects)) ≡ true
 made_file s earlier ns t file objects known a b = by (is_static t.kind)
   where
-    by : (c : Bool) → all_held known (needs (if c then archiving s.facts.archiver file objects else linking (link_words s earlier ns t file objects) file objects (library_files earlier ns))) ≡ true
+    by : (c : Bool) → all_held known (needs (if c then archive_edge s.facts.archiver file objects else link_edge (link_words s earlier ns t file objects) file objects (library_files earlier ns))) ≡ true
     by true = list_all-joined (λ p. holds p known) objects [] a refl
     by false = list_all-joined (λ p. holds p known) objects (library_files earlier ns ++ []) a (list_all-joined (λ p. holds p known) (library_files earlier ns) [] b refl)
 
-pub made_build : (s : SurroundingsData) (earlier : List LinkedData) (ns : List ℕ) (t : BuildData) (known : List Path)
+pub made_build : (s : SurroundingsData) (earlier : List DeclaredTargetData) (ns : List ℕ) (t : BuildData) (known : List Path)
     → all_held known (flat_map (source_paths s.facts.depth) (all_sources t)) ≡ true
     → ((n : ℕ) → all_held known (library_file earlier n) ≡ true)
     → all_made known (build_edges s earlier ns t) ≡ true
@@ -190,10 +190,10 @@ made_build s earlier ns t known srcs libs =
     let objects = object_paths depth t in
     let fe = file_edge s earlier ns t file objects in
     let with_objects = known ++ outputs_of compiles in
-    let is : outputs_of compiles ≡ objects = outputs-compile (compile_words s t) (generated t) file (compiled depth t) in
+    let is : outputs_of compiles ≡ objects = outputs-compile (compile_words s t) (generated_paths t) file (compiled_inputs depth t) in
     made_append known compiles (fe ∷ link_edges t)
     ∙ both (all_made known compiles) (all_made with_objects (fe ∷ link_edges t))
-    (made_compile (compile_words s t) (generated t) file (compiled depth t) known (all_compiled (λ p. holds p known) depth t srcs) (all_generated (λ p. holds p known) depth t srcs))
+    (made_compile (compile_words s t) (generated_paths t) file (compiled_inputs depth t) known (all_compiled (λ p. holds p known) depth t srcs) (all_generated (λ p. holds p known) depth t srcs))
     (both (all_held with_objects (needs fe)) (all_made (with_objects ++ fe.outputs) (link_edges t))
     (made_file s earlier ns t file objects with_objects
     (ap (λ ps. all_held (known ++ ps) objects) is ∙ held_self known objects)
@@ -213,19 +213,19 @@ made_custom depth t known e =
 -- ---- libraries
 
 -- the file of the target at a number is known
-abbrev FilesKnown : List Path → List LinkedData → Type 0
+abbrev FilesKnown : List Path → List DeclaredTargetData → Type 0
 FilesKnown known ls = (n : ℕ) → all_held known (library_file ls n) ≡ true
 
-files_push : (known more : List Path) (ls : List LinkedData) (l : LinkedData) → FilesKnown known ls → all_held (known ++ more) (file_in (build_in (Some l))) ≡ true → FilesKnown (known ++ more) (ls ++ l ∷ [])
+files_push : (known more : List Path) (ls : List DeclaredTargetData) (l : DeclaredTargetData) → FilesKnown known ls → all_held (known ++ more) (file_in (build_in (Some l))) ≡ true → FilesKnown (known ++ more) (ls ++ l ∷ [])
 files_push known more ls l e f n = over ls (λ m. held_more known more (library_file ls m) (e m)) n
   where
-    over : (xs : List LinkedData) → FilesKnown (known ++ more) xs → FilesKnown (known ++ more) (xs ++ l ∷ [])
+    over : (xs : List DeclaredTargetData) → FilesKnown (known ++ more) xs → FilesKnown (known ++ more) (xs ++ l ∷ [])
     over [] g zero = f
     over [] g (suc m) = refl
     over (x ∷ xs) g zero = g 0
     over (x ∷ xs) g (suc m) = over xs (λ k. g (suc k)) m
 
-own_file : (s : SurroundingsData) (earlier : List LinkedData) (l : LinkedData) (known : List Path) → all_held (known ++ outputs_of (edges_of s earlier l)) (file_in (build_in (Some l))) ≡ true
+own_file : (s : SurroundingsData) (earlier : List DeclaredTargetData) (l : DeclaredTargetData) (known : List Path) → all_held (known ++ outputs_of (edges_of s earlier l)) (file_in (build_in (Some l))) ≡ true
 own_file s earlier l known = by l.target
   where
     by : (t : TargetData) → all_held (known ++ outputs_of (target_edges s earlier l.libraries t)) (file_in (build_in (Some (record { target = t; libraries = l.libraries; paths = l.paths })))) ≡ true
@@ -238,11 +238,11 @@ own_file s earlier l known = by l.target
         (or_left (bytes_eq (file_path t) (file_path t)) (holds (file_path t) (link_paths t)) ((bytes_eq-Decides (file_path t) (file_path t)).1 refl))))
         refl
 
-files_after : (s : SurroundingsData) (earlier : List LinkedData) (ts : List TargetData) (known : List Path) → FilesKnown known earlier
+files_after : (s : SurroundingsData) (earlier : List DeclaredTargetData) (ts : List TargetData) (known : List Path) → FilesKnown known earlier
     → FilesKnown (known ++ outputs_of (edges_after s earlier ts)) (linked_after earlier ts)
 files_after s earlier [] known e n = ap (λ k. all_held k (library_file earlier n)) (append-nil known) ∙ e n
 files_after s earlier (t ∷ ts) known e n =
-    let l = linked earlier t in
+    let l = declared_target earlier t in
     let es = edges_of s earlier l in
     let rest = edges_after s (earlier ++ l ∷ []) ts in
     ap (λ ps. all_held ps (library_file (linked_after (earlier ++ l ∷ []) ts) n))
@@ -260,9 +260,9 @@ files_known s ts known = files_after s [] ts known (λ n. none n)
 
 pub next_made : (s : SurroundingsData) (ts : List TargetData) (outputs present : List Path) (t : TargetData)
     → list_all (is_made_source (λ p. holds p (made_of s ts outputs))) (sources_of t) ≡ true → list_all (is_present present) (sources_of t) ≡ true
-    → all_made (known_of s outputs present ++ outputs_of (all_edges s ts)) (edges_of s (linked_of ts) (linked (linked_of ts) t)) ≡ true
+    → all_made (known_of s outputs present ++ outputs_of (all_edges s ts)) (edges_of s (linked_of ts) (declared_target (linked_of ts) t)) ≡ true
 next_made s ts outputs present (Build t) e f =
-    made_build s (linked_of ts) (linked (linked_of ts) (Build t)).libraries t (known_of s outputs present ++ outputs_of (all_edges s ts))
+    made_build s (linked_of ts) (declared_target (linked_of ts) (Build t)).libraries t (known_of s outputs present ++ outputs_of (all_edges s ts))
     (sources_known s ts outputs present (all_sources t) e f)
     (files_known s ts (known_of s outputs present))
 next_made s ts outputs present (Custom t) e f =

@@ -8,10 +8,10 @@ use Rattle.build.specs.edge.Texts.{Path, holds}
 use Rattle.build.specs.edge.Paths.{way_up, source_path, is_upward}
 use Rattle.build.specs.edge.Data.{EdgeData}
 use Rattle.build.specs.Data.{SurroundingsData, TargetData}
-use Rattle.build.specs.Libraries.{LinkedData}
+use Rattle.build.specs.Libraries.{DeclaredTargetData}
 use Rattle.build.specs.target_edges.Edges.{all_edges}
 use Rattle.build.specs.project.Laws.{outputs_of, needs, times, AtMostOnce, all_held, all_made, outputs_if, Feeds, Reaches, at_once, through}
-use Rattle.build.specs.project.World.{reserved, known_of, taken_of}
+use Rattle.build.specs.project.World.{reserved_paths, known_of, taken_of}
 use Rattle.build.specs.project.Whole.{targets_in, IsWhole}
 use Rattle.build.proofs.PathLists.{times-append}
 use Rattle.build.proofs.EdgeOrder.{split_and, both, or_left, or_right, or_cases, holds_append}
@@ -20,7 +20,7 @@ use Rattle.build.proofs.EdgeOrder.{split_and, both, or_left, or_right, or_cases,
 
 pub once_made : (s : SurroundingsData) (ts : List TargetData) (outputs : List Path) → AtMostOnce (taken_of s ts outputs) → AtMostOnce (outputs_of (all_edges s ts) ++ outputs)
 once_made s ts outputs once p =
-    let h = once p in let e = times-append p reserved (outputs_of (all_edges s ts) ++ outputs) in omega arith
+    let h = once p in let e = times-append p reserved_paths (outputs_of (all_edges s ts) ++ outputs) in omega arith
 
 pub once_front : (xs ys : List Path) → AtMostOnce (xs ++ ys) → AtMostOnce xs
 once_front xs ys once p = let h = once p in let e = times-append p xs ys in omega arith
@@ -96,7 +96,7 @@ not_both : (b : Bool) → b ≡ true → not b ≡ true → ⊥
 not_both true a b = cc
 not_both false a b = cc
 
-pub no_cycle_lem : (s : SurroundingsData) (ls : List LinkedData) (outputs present kept : List Path) → IsWhole s ls outputs present kept → (i : ℕ) → Reaches (all_edges s (targets_in ls)) i i → ⊥
+pub no_cycle_lem : (s : SurroundingsData) (ls : List DeclaredTargetData) (outputs present kept : List Path) → IsWhole s ls outputs present kept → (i : ℕ) → Reaches (all_edges s (targets_in ls)) i i → ⊥
 no_cycle_lem s ls outputs present kept w i r =
     let es = all_edges s (targets_in ls) in
     let made = outputs_of es in

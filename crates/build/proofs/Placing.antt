@@ -9,42 +9,42 @@ use Rattle.build.specs.edge.Data.{EdgeData}
 use Rattle.build.specs.edge.Holding.{are_writable, is_writable}
 use Rattle.build.specs.edge.Paths.{is_upward, source_path}
 use Rattle.build.specs.Data.{FactsData, SurroundingsData, TargetData}
-use Rattle.build.specs.Libraries.{LinkedData, linked, linked_after, linked_of}
+use Rattle.build.specs.Libraries.{DeclaredTargetData, declared_target, linked_after, linked_of}
 use Rattle.build.specs.target_edges.Edges.{edges_of, edges_after, all_edges}
 use Rattle.build.specs.project.Laws.{outputs_of, first_taken, times, all_made, all_inside}
-use Rattle.build.specs.project.World.{AnswerData, InstallData, TestData, WorldData, new_world, reserved, taken_of, known_of, taken_in}
+use Rattle.build.specs.project.World.{AnswerData, InstallData, TestData, WorldData, new_world, reserved_paths, taken_of, known_of, taken_in}
 use Rattle.build.specs.project.Earlier.{all_refer_back}
 use Rattle.build.specs.project.Whole.{targets_in, IsWhole, IsNext}
 use Rattle.build.specs.project.Adding.{place_answer, with_target, after_answer, unless_taken}
-use Rattle.build.specs.project.Refused.{RefusedData, refused}
-use Rattle.build.specs.declared.project.refusal.Refusal.TheVariants.{Limit, Duplicate}
+use Rattle.build.specs.project.Refused.{RefusedData, refusal_for_text}
+use Rattle.build.specs.declared.project.refusal.ProjectRefusal.TheVariants.{Limit, Duplicate}
 use Rattle.build.specs.project.View.{NotesData, world_of}
 use Rattle.build.proofs.PathLists.{once_more, taken_same, times-append}
 use Rattle.build.proofs.Earlier.{back_push, back_grown}
 use Rattle.build.proofs.EdgeOrder.{both, or_cases, list_all-joined, holds_append, holds_left, holds_right, made_append, made_grown}
 
-pub linked_after-push : (earlier : List LinkedData) (ts : List TargetData) (t : TargetData)
-    → linked_after earlier (ts ++ t ∷ []) ≡ linked_after earlier ts ++ linked (linked_after earlier ts) t ∷ []
+pub linked_after-push : (earlier : List DeclaredTargetData) (ts : List TargetData) (t : TargetData)
+    → linked_after earlier (ts ++ t ∷ []) ≡ linked_after earlier ts ++ declared_target (linked_after earlier ts) t ∷ []
 linked_after-push earlier [] t = refl
-linked_after-push earlier (x ∷ ts) t = linked_after-push (earlier ++ linked earlier x ∷ []) ts t
+linked_after-push earlier (x ∷ ts) t = linked_after-push (earlier ++ declared_target earlier x ∷ []) ts t
 
-edges_after-push : (s : SurroundingsData) (earlier : List LinkedData) (ts : List TargetData) (t : TargetData)
-    → edges_after s earlier (ts ++ t ∷ []) ≡ edges_after s earlier ts ++ edges_of s (linked_after earlier ts) (linked (linked_after earlier ts) t)
-edges_after-push s earlier [] t = append-nil (edges_of s earlier (linked earlier t))
+edges_after-push : (s : SurroundingsData) (earlier : List DeclaredTargetData) (ts : List TargetData) (t : TargetData)
+    → edges_after s earlier (ts ++ t ∷ []) ≡ edges_after s earlier ts ++ edges_of s (linked_after earlier ts) (declared_target (linked_after earlier ts) t)
+edges_after-push s earlier [] t = append-nil (edges_of s earlier (declared_target earlier t))
 edges_after-push s earlier (x ∷ ts) t =
-    let es = edges_of s earlier (linked earlier x) in
-    let next = earlier ++ linked earlier x ∷ [] in
+    let es = edges_of s earlier (declared_target earlier x) in
+    let next = earlier ++ declared_target earlier x ∷ [] in
     ap (λ l. es ++ l) (edges_after-push s next ts t)
-    ∙ sym (append_assoc es (edges_after s next ts) (edges_of s (linked_after next ts) (linked (linked_after next ts) t)))
+    ∙ sym (append_assoc es (edges_after s next ts) (edges_of s (linked_after next ts) (declared_target (linked_after next ts) t)))
 
-pub all_edges-push : (s : SurroundingsData) (ts : List TargetData) (t : TargetData) → all_edges s (ts ++ t ∷ []) ≡ all_edges s ts ++ edges_of s (linked_of ts) (linked (linked_of ts) t)
+pub all_edges-push : (s : SurroundingsData) (ts : List TargetData) (t : TargetData) → all_edges s (ts ++ t ∷ []) ≡ all_edges s ts ++ edges_of s (linked_of ts) (declared_target (linked_of ts) t)
 all_edges-push s ts t = edges_after-push s [] ts t
 
 outputs-append : (es fs : List EdgeData) → outputs_of (es ++ fs) ≡ outputs_of es ++ outputs_of fs
 outputs-append es fs = flat_map-append (λ (e : EdgeData). e.outputs) es fs
 
-pub targets-push : (ls : List LinkedData) (l : LinkedData) → targets_in (ls ++ l ∷ []) ≡ targets_in ls ++ l.target ∷ []
-targets-push ls l = map-append (λ (k : LinkedData). k.target) ls (l ∷ [])
+pub targets-push : (ls : List DeclaredTargetData) (l : DeclaredTargetData) → targets_in (ls ++ l ∷ []) ≡ targets_in ls ++ l.target ∷ []
+targets-push ls l = map-append (λ (k : DeclaredTargetData). k.target) ls (l ∷ [])
 
 -- ---- the same paths in another order
 
@@ -74,7 +74,7 @@ module _ (p : Path) (r f o q : List Path) where
 
 -- ---- one target more
 
-module _ (s : SurroundingsData) (ls : List LinkedData) (outputs present kept now : List Path) (l : LinkedData) (ps : List Path) (w : IsWhole s ls outputs present kept)
+module _ (s : SurroundingsData) (ls : List DeclaredTargetData) (outputs present kept now : List Path) (l : DeclaredTargetData) (ps : List Path) (w : IsWhole s ls outputs present kept)
     (n : IsNext s (targets_in ls) outputs present l ps) where
   abbrev ts : List TargetData
   ts = targets_in ls
@@ -89,8 +89,8 @@ module _ (s : SurroundingsData) (ls : List LinkedData) (outputs present kept now
   outputs_are : outputs_of (all_edges s (targets_in (ls ++ l ∷ []))) ≡ outputs_of (all_edges s ts) ++ ps
   outputs_are = ap outputs_of edges_are ∙ outputs-append (all_edges s ts) more ∙ ap (λ qs. outputs_of (all_edges s ts) ++ qs) (sym n.paths_are)
 
-  taken_are : taken_of s (targets_in (ls ++ l ∷ [])) outputs ≡ reserved ++ ((outputs_of (all_edges s ts) ++ ps) ++ outputs)
-  taken_are = ap (λ qs. reserved ++ (qs ++ outputs)) outputs_are
+  taken_are : taken_of s (targets_in (ls ++ l ∷ [])) outputs ≡ reserved_paths ++ ((outputs_of (all_edges s ts) ++ ps) ++ outputs)
+  taken_are = ap (λ qs. reserved_paths ++ (qs ++ outputs)) outputs_are
 
   pub whole_next : first_taken kept ps ≡ None → now ≡ kept ++ ps → IsWhole s (ls ++ l ∷ []) outputs present now
   whole_next new e =
@@ -100,7 +100,7 @@ module _ (s : SurroundingsData) (ls : List LinkedData) (outputs present kept now
       record {
         libraries =
             ap (λ k. ls ++ k ∷ []) n.libraries
-            ∙ ap (λ x. x ++ linked (linked_of ts) l.target ∷ []) w.libraries
+            ∙ ap (λ x. x ++ declared_target (linked_of ts) l.target ∷ []) w.libraries
             ∙ sym (linked_after-push [] ts l.target)
             ∙ ap linked_of (sym (targets-push ls l));
         paths = λ p.
@@ -108,11 +108,11 @@ module _ (s : SurroundingsData) (ls : List LinkedData) (outputs present kept now
             ∙ holds_append p kept ps
             ∙ ap (λ b. b || holds p ps) (w.paths p)
             ∙ sym (holds_append p all ps)
-            ∙ holds_between p reserved f outputs ps
+            ∙ holds_between p reserved_paths f outputs ps
             ∙ ap (holds p) (sym taken_are);
         once = λ p.
             let P : ℕ → Type 0 = λ m. m ≤ 1 in
-            subst P (times_between p reserved f outputs ps ∙ ap (times p) (sym taken_are)) (once p);
+            subst P (times_between p reserved_paths f outputs ps ∙ ap (times p) (sym taken_are)) (once p);
         made =
             ap (all_made (known_of s outputs present)) edges_are
             ∙ made_append (known_of s outputs present) (all_edges s ts) more
@@ -127,13 +127,13 @@ module _ (s : SurroundingsData) (ls : List LinkedData) (outputs present kept now
 
 -- ---- an output of its own
 
-pub whole_with_output : (s : SurroundingsData) (ls : List LinkedData) (outputs present kept now : List Path) (q : Path) → IsWhole s ls outputs present kept
+pub whole_with_output : (s : SurroundingsData) (ls : List DeclaredTargetData) (outputs present kept now : List Path) (q : Path) → IsWhole s ls outputs present kept
     → not (is_upward q) ≡ true → first_taken kept (q ∷ []) ≡ None → now ≡ kept ++ q ∷ [] → IsWhole s ls (outputs ++ q ∷ []) present now
 whole_with_output s ls outputs present kept now q w inside new e =
     let f = outputs_of (all_edges s (targets_in ls)) in
     let all = taken_of s (targets_in ls) outputs in
     let once = once_more all (q ∷ []) w.once (sym (taken_same kept all (q ∷ []) w.paths) ∙ new) in
-    let is : taken_of s (targets_in ls) (outputs ++ q ∷ []) ≡ all ++ q ∷ [] = sym (append_assoc reserved (f ++ outputs) (q ∷ []) ∙ ap (λ l. reserved ++ l) (append_assoc f outputs (q ∷ []))) in
+    let is : taken_of s (targets_in ls) (outputs ++ q ∷ []) ≡ all ++ q ∷ [] = sym (append_assoc reserved_paths (f ++ outputs) (q ∷ []) ∙ ap (λ l. reserved_paths ++ l) (append_assoc f outputs (q ∷ []))) in
     let known = known_of s outputs present in
     record {
       libraries = w.libraries;
@@ -155,7 +155,7 @@ whole_with_output s ls outputs present kept now q w inside new e =
 
 -- ---- a file of the tree more
 
-pub whole_with_present : (s : SurroundingsData) (ls : List LinkedData) (outputs present now kept more : List Path) → IsWhole s ls outputs present kept → now ≡ present ++ more → IsWhole s ls outputs now kept
+pub whole_with_present : (s : SurroundingsData) (ls : List DeclaredTargetData) (outputs present now kept more : List Path) → IsWhole s ls outputs present kept → now ≡ present ++ more → IsWhole s ls outputs now kept
 whole_with_present s ls outputs present now kept more w e =
     record {
       libraries = w.libraries;
@@ -192,13 +192,13 @@ pub world_start : (facts : FactsData) (a b : List Text) (ts : List TargetData) (
     }
 world_start facts a b ts outputs present absent ds is tests h i j k l m n o p = rw h (rw i (rw j (rw k (rw l (rw m (rw n (rw o (rw p refl))))))))
 
-pub whole_start : (s : SurroundingsData) (ls : List LinkedData) (outputs present kept : List Path) → ls ≡ [] → outputs ≡ [] → kept ≡ reserved
+pub whole_start : (s : SurroundingsData) (ls : List DeclaredTargetData) (outputs present kept : List Path) → ls ≡ [] → outputs ≡ [] → kept ≡ reserved_paths
     → IsWhole s ls outputs present kept
 whole_start s ls outputs present kept none empty e =
     let whole : IsWhole s [] [] present kept = record {
       libraries = refl;
       paths = λ p. ap (holds p) e;
-      once = once_more [] reserved (λ p. omega arith) refl;
+      once = once_more [] reserved_paths (λ p. omega arith) refl;
       made = refl;
       inside = refl;
       outputs_inside = refl;
@@ -207,24 +207,24 @@ whole_start s ls outputs present kept none empty e =
     } in
     subst (λ x. IsWhole s x outputs present kept) (sym none) (subst (λ x. IsWhole s [] x present kept) (sym empty) whole)
 
-pub whole_same : (s : SurroundingsData) (ls now_ls : List LinkedData) (outputs present kept now : List Path) → IsWhole s ls outputs present kept → now_ls ≡ ls → now ≡ kept → IsWhole s now_ls outputs present now
+pub whole_same : (s : SurroundingsData) (ls now_ls : List DeclaredTargetData) (outputs present kept now : List Path) → IsWhole s ls outputs present kept → now_ls ≡ ls → now ≡ kept → IsWhole s now_ls outputs present now
 whole_same s ls now_ls outputs present kept now w a b = subst (λ x. IsWhole s x outputs present now) (sym a) (subst (λ x. IsWhole s ls outputs present x) (sym b) w)
 
 -- ---- what is answered
 
 pub place_ok : (w : WorldData) (ps : List Path) (within : Bool) → first_taken (taken_in w) ps ≡ None → within ≡ true → place_answer w ps within ≡ Ok (length w.targets)
 place_ok w ps within e f =
-    ap (λ o. unless_taken o (if within then Ok (length w.targets) else Err (refused Limit []))) e ∙ ap (λ b. if b then Ok (length w.targets) else Err (refused Limit [])) f
+    ap (λ o. unless_taken o (if within then Ok (length w.targets) else Err (refusal_for_text Limit []))) e ∙ ap (λ b. if b then Ok (length w.targets) else Err (refusal_for_text Limit [])) f
 
-pub place_long : (w : WorldData) (ps : List Path) (within : Bool) → first_taken (taken_in w) ps ≡ None → within ≡ false → place_answer w ps within ≡ Err (refused Limit [])
+pub place_long : (w : WorldData) (ps : List Path) (within : Bool) → first_taken (taken_in w) ps ≡ None → within ≡ false → place_answer w ps within ≡ Err (refusal_for_text Limit [])
 place_long w ps within e f =
-    ap (λ o. unless_taken o (if within then Ok (length w.targets) else Err (refused Limit []))) e ∙ ap (λ b. if b then Ok (length w.targets) else Err (refused Limit [])) f
+    ap (λ o. unless_taken o (if within then Ok (length w.targets) else Err (refusal_for_text Limit []))) e ∙ ap (λ b. if b then Ok (length w.targets) else Err (refusal_for_text Limit [])) f
 
-pub place_twice : (w : WorldData) (ps : List Path) (within : Bool) (path : Path) → first_taken (taken_in w) ps ≡ Some path → place_answer w ps within ≡ Err (refused Duplicate path)
-place_twice w ps within path e = ap (λ o. unless_taken o (if within then Ok (length w.targets) else Err (refused Limit []))) e
+pub place_twice : (w : WorldData) (ps : List Path) (within : Bool) (path : Path) → first_taken (taken_in w) ps ≡ Some path → place_answer w ps within ≡ Err (refusal_for_text Duplicate path)
+place_twice w ps within path e = ap (λ o. unless_taken o (if within then Ok (length w.targets) else Err (refusal_for_text Limit []))) e
 
 -- what the set tells is so of the project
-pub free_is : (s : SurroundingsData) (ls : List LinkedData) (outputs present kept ps : List Path) (taken : Option Path) → IsWhole s ls outputs present kept → taken ≡ first_taken kept ps
+pub free_is : (s : SurroundingsData) (ls : List DeclaredTargetData) (outputs present kept ps : List Path) (taken : Option Path) → IsWhole s ls outputs present kept → taken ≡ first_taken kept ps
     → first_taken (taken_of s (targets_in ls) outputs) ps ≡ taken
 free_is s ls outputs present kept ps taken w e = sym (taken_same kept (taken_of s (targets_in ls) outputs) ps w.paths) ∙ sym e
 
@@ -265,17 +265,17 @@ on_err (Err e) p = p
 pub taken_off : {X : Type 0} (xs pushed new : List X) (x : X) (n : ℕ) → pushed ≡ xs ++ x ∷ [] → n ≡ length xs → new ≡ take n pushed → new ≡ xs
 taken_off xs pushed new x n p l e = e ∙ ap (take n) p ∙ take_at xs (x ∷ []) n (sym l)
 
-pub world_with : (s : SurroundingsData) (ls : List LinkedData) (outputs : List Path) (notes : NotesData) (l : LinkedData) (w : WorldData) → world_of s ls outputs notes ≡ w
+pub world_with : (s : SurroundingsData) (ls : List DeclaredTargetData) (outputs : List Path) (notes : NotesData) (l : DeclaredTargetData) (w : WorldData) → world_of s ls outputs notes ≡ w
     → world_of s (ls ++ l ∷ []) outputs notes ≡ with_target w l.target
 world_with s ls outputs notes l w v =
     ap (λ ts. record (world_of s ls outputs notes) { targets = ts }) (targets-push ls l) ∙ ap (λ x. with_target x l.target) v
 
-pub whole_with_put : (s : SurroundingsData) (ls : List LinkedData) (outputs present kept : List Path) (q : Path) → IsWhole s ls outputs present kept → IsWhole s ls outputs (put_new present q) kept
+pub whole_with_put : (s : SurroundingsData) (ls : List DeclaredTargetData) (outputs present kept : List Path) (q : Path) → IsWhole s ls outputs present kept → IsWhole s ls outputs (put_new present q) kept
 whole_with_put s ls outputs present kept q w = by (holds q present)
   where
     by : (b : Bool) → IsWhole s ls outputs (if b then present else present ++ q ∷ []) kept
     by true = w
     by false = whole_with_present s ls outputs present (present ++ q ∷ []) kept (q ∷ []) w refl
 
-pub whole_back : (s : SurroundingsData) (ls : List LinkedData) (outputs now_outputs present kept now : List Path) → IsWhole s ls outputs present kept → now_outputs ≡ outputs → now ≡ kept → IsWhole s ls now_outputs present now
+pub whole_back : (s : SurroundingsData) (ls : List DeclaredTargetData) (outputs now_outputs present kept now : List Path) → IsWhole s ls outputs present kept → now_outputs ≡ outputs → now ≡ kept → IsWhole s ls now_outputs present now
 whole_back s ls outputs now_outputs present kept now w a b = subst (λ x. IsWhole s ls x present now) (sym a) (subst (λ x. IsWhole s ls outputs present x) (sym b) w)

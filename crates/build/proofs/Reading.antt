@@ -10,12 +10,12 @@ use Rattle.build.specs.edge.Texts.{Path, holds, texts}
 use Rattle.build.specs.edge.Data.{EdgeData}
 use Rattle.build.specs.Data.{SurroundingsData, TargetData, Build, Custom}
 use Rattle.build.specs.Files.{is_static, file_path, object_paths}
-use Rattle.build.specs.Libraries.{LinkBack, LinkedData, linked, linked_of, linked_libraries, libraries_of, library_numbers}
-use Rattle.build.specs.LinkedViews.{linked_views}
+use Rattle.build.specs.Libraries.{LinkBack, DeclaredTargetData, declared_target, linked_of, linked_libraries, libraries_of, library_numbers}
+use Rattle.build.specs.DeclaredTargetViews.{declared_target_views}
 use Rattle.build.specs.View.{target_view}
-use Rattle.build.specs.declared.linked_target.Linked.{Linked}
+use Rattle.build.specs.declared.declared_target.DeclaredTarget.{DeclaredTarget}
 use Rattle.build.proofs.LinkedLists.{back-take, linked_got, linked_of-take, target_missed, targets_after}
-use Rattle.build.specs.target_edges.Edges.{archiving, build_edges, compile_edges, edges_of, link_edges, linking, target_edges}
+use Rattle.build.specs.target_edges.Edges.{archive_edge, build_edges, compile_edges, edges_of, link_edges, link_edge, target_edges}
 use Rattle.build.specs.target_edges.Words.{library_files, link_words}
 use Rattle.build.specs.project.World.{WorldData, made_of}
 use Rattle.build.specs.project.Whole.{IsWhole, targets_in}
@@ -47,38 +47,38 @@ link_back s outputs ts e n t at =
     ap (λ k. list_all (λ m. nat_lt m k) (library_numbers t)) place ∙ back_of s outputs [] ts e n t at
 
 -- the targets, as the code has them
-pub targets_are : (xs : List Linked) → targets_in (linked_views xs) ≡ map (λ l. target_view l.target) xs
+pub targets_are : (xs : List DeclaredTarget) → targets_in (declared_target_views xs) ≡ map (λ l. target_view l.target) xs
 targets_are xs = targets_after [] (map (λ l. target_view l.target) xs)
 
 -- one target more
-pub views-push : (xs : List Linked) (x : Linked) → linked_views xs ≡ linked_of (targets_in (linked_views xs))
-    → linked_views (xs ++ x ∷ []) ≡ linked_views xs ++ linked (linked_of (targets_in (linked_views xs))) (target_view x.target) ∷ []
+pub views-push : (xs : List DeclaredTarget) (x : DeclaredTarget) → declared_target_views xs ≡ linked_of (targets_in (declared_target_views xs))
+    → declared_target_views (xs ++ x ∷ []) ≡ declared_target_views xs ++ declared_target (linked_of (targets_in (declared_target_views xs))) (target_view x.target) ∷ []
 views-push xs x e =
     let ts = map (λ l. target_view l.target) xs in
-    ap linked_of (map-append (λ (l : Linked). target_view l.target) xs (x ∷ []))
+    ap linked_of (map-append (λ (l : DeclaredTarget). target_view l.target) xs (x ∷ []))
     ∙ linked_after-push [] ts (target_view x.target)
-    ∙ ap (λ ls. linked_views xs ++ linked ls (target_view x.target) ∷ []) e
+    ∙ ap (λ ls. declared_target_views xs ++ declared_target ls (target_view x.target) ∷ []) e
 
 last_got : {X : Type 0} (xs : List X) (x d : X) → get_or (xs ++ x ∷ []) (length xs) d ≡ x
 last_got [] x d = refl
 last_got (z ∷ xs) x d = last_got xs x d
 
 -- and what it is asked for
-pub asked_last : (xs ys : List Linked) (x y : Linked) (n : ℕ) → ys ≡ xs ++ x ∷ [] → n ≡ length xs → y ≡ get_or ys n y → texts y.paths.items ≡ texts x.paths.items
+pub asked_last : (xs ys : List DeclaredTarget) (x y : DeclaredTarget) (n : ℕ) → ys ≡ xs ++ x ∷ [] → n ≡ length xs → y ≡ get_or ys n y → texts y.paths.items ≡ texts x.paths.items
 asked_last xs ys x y n e f at =
-    ap (λ (l : Linked). texts l.paths.items) (at ∙ ap (λ ls. get_or ls n y) e ∙ ap (λ m. get_or (xs ++ x ∷ []) m y) f ∙ last_got xs x y)
+    ap (λ (l : DeclaredTarget). texts l.paths.items) (at ∙ ap (λ ls. get_or ls n y) e ∙ ap (λ m. get_or (xs ++ x ∷ []) m y) f ∙ last_got xs x y)
 
 -- those of a whole project name earlier ones alone
-pub whole_back : (s : SurroundingsData) (xs : List Linked) (outputs present kept : List Path) → IsWhole s (linked_views xs) outputs present kept → LinkBack (map (λ l. target_view l.target) xs)
-whole_back s xs outputs present kept w = subst LinkBack (targets_are xs) (link_back s outputs (targets_in (linked_views xs)) w.back)
+pub whole_back : (s : SurroundingsData) (xs : List DeclaredTarget) (outputs present kept : List Path) → IsWhole s (declared_target_views xs) outputs present kept → LinkBack (map (λ l. target_view l.target) xs)
+whole_back s xs outputs present kept w = subst LinkBack (targets_are xs) (link_back s outputs (targets_in (declared_target_views xs)) w.back)
 
 -- the first so many of them do
-pub front_back : (xs earlier : List Linked) (n : ℕ) → earlier ≡ take n xs → LinkBack (map (λ l. target_view l.target) xs) → LinkBack (map (λ l. target_view l.target) earlier)
+pub front_back : (xs earlier : List DeclaredTarget) (n : ℕ) → earlier ≡ take n xs → LinkBack (map (λ l. target_view l.target) xs) → LinkBack (map (λ l. target_view l.target) earlier)
 front_back xs earlier n e back =
     subst LinkBack (take-map (λ l. target_view l.target) n xs ∙ ap (map (λ l. target_view l.target)) (sym e)) (back-take (map (λ l. target_view l.target) xs) n back)
 
 -- an archive's edges are the same whatever it links
-pub edges_same : (s : SurroundingsData) (earlier : List LinkedData) (t : TargetData) → target_edges s earlier (linked_libraries earlier t) t ≡ edges_of s earlier (linked earlier t)
+pub edges_same : (s : SurroundingsData) (earlier : List DeclaredTargetData) (t : TargetData) → target_edges s earlier (linked_libraries earlier t) t ≡ edges_of s earlier (declared_target earlier t)
 edges_same s earlier (Custom t) = refl
 edges_same s earlier (Build t) = by (is_static t.kind) refl
   where
@@ -86,29 +86,29 @@ edges_same s earlier (Build t) = by (is_static t.kind) refl
     by true e =
         let file = file_path t in
         let objects = object_paths s.facts.depth t in
-        let archive = archiving s.facts.archiver file objects in
-        let linked_by : List ℕ → EdgeData = λ ns. linking (link_words s earlier ns t file objects) file objects (library_files earlier ns) in
+        let archive = archive_edge s.facts.archiver file objects in
+        let linked_by : List ℕ → EdgeData = λ ns. link_edge (link_words s earlier ns t file objects) file objects (library_files earlier ns) in
         ap (λ x. compile_edges s t ++ (x ∷ link_edges t))
         (ap (λ b. if b then archive else linked_by []) e ∙ sym (ap (λ b. if b then archive else linked_by (libraries_of earlier t)) e))
     by false e = refl
 
-pub edges_found : (w : WorldData) (s : SurroundingsData) (xs earlier : List Linked) (n : ℕ) (one : Linked) → s ≡ w.surroundings → linked_views xs ≡ linked_of w.targets → earlier ≡ take n xs
-    → true ≡ nat_lt n (length xs) → one ≡ get_or xs n one → edges_of s (linked_views earlier) (linked (linked_views earlier) (target_view one.target)) ≡ edges_at w n
+pub edges_found : (w : WorldData) (s : SurroundingsData) (xs earlier : List DeclaredTarget) (n : ℕ) (one : DeclaredTarget) → s ≡ w.surroundings → declared_target_views xs ≡ linked_of w.targets → earlier ≡ take n xs
+    → true ≡ nat_lt n (length xs) → one ≡ get_or xs n one → edges_of s (declared_target_views earlier) (declared_target (declared_target_views earlier) (target_view one.target)) ≡ edges_at w n
 edges_found w s xs earlier n one e f g lt at =
-    let seen : Linked → TargetData = λ x. target_view x.target in
+    let seen : DeclaredTarget → TargetData = λ x. target_view x.target in
     let ts = map seen xs in
-    let front : linked_views earlier ≡ take n (linked_of w.targets) =
-    ap linked_views g ∙ ap linked_of (sym (take-map seen n xs)) ∙ sym (linked_of-take ts n) ∙ ap (take n) f in
+    let front : declared_target_views earlier ≡ take n (linked_of w.targets) =
+    ap declared_target_views g ∙ ap linked_of (sym (take-map seen n xs)) ∙ sym (linked_of-take ts n) ∙ ap (take n) f in
     let got : slice_get ts n ≡ Some (seen one) = slice_get-map seen xs n ∙ ap (option_map seen) (slice_get-get_or xs n one (ltb-true n (length xs) (sym lt)) ∙ ap Some (sym at)) in
-    let here : slice_get (linked_of w.targets) n ≡ Some (linked (take n (linked_of w.targets)) (seen one)) =
-    ap (λ ls. slice_get ls n) (sym f) ∙ linked_got ts n (seen one) got ∙ ap (λ ls. Some (linked (take n ls) (seen one))) f in
-    ap (λ x. edges_of x (linked_views earlier) (linked (linked_views earlier) (seen one))) e
-    ∙ ap (λ ls. edges_of w.surroundings ls (linked ls (seen one))) front
+    let here : slice_get (linked_of w.targets) n ≡ Some (declared_target (take n (linked_of w.targets)) (seen one)) =
+    ap (λ ls. slice_get ls n) (sym f) ∙ linked_got ts n (seen one) got ∙ ap (λ ls. Some (declared_target (take n ls) (seen one))) f in
+    ap (λ x. edges_of x (declared_target_views earlier) (declared_target (declared_target_views earlier) (seen one))) e
+    ∙ ap (λ ls. edges_of w.surroundings ls (declared_target ls (seen one))) front
     ∙ sym (ap (edges_if w.surroundings (take n (linked_of w.targets))) here)
 
-pub edges_missed : (w : WorldData) (xs : List Linked) (n : ℕ) → linked_views xs ≡ linked_of w.targets → false ≡ nat_lt n (length xs) → edges_at w n ≡ []
-edges_missed w xs n f past = ap (edges_if w.surroundings (take n (linked_of w.targets))) (ap (λ ls. slice_get ls n) (sym f) ∙ by (slice_get (linked_views xs) n) (target_missed xs n past))
+pub edges_missed : (w : WorldData) (xs : List DeclaredTarget) (n : ℕ) → declared_target_views xs ≡ linked_of w.targets → false ≡ nat_lt n (length xs) → edges_at w n ≡ []
+edges_missed w xs n f past = ap (edges_if w.surroundings (take n (linked_of w.targets))) (ap (λ ls. slice_get ls n) (sym f) ∙ by (slice_get (declared_target_views xs) n) (target_missed xs n past))
   where
-    by : (o : Option LinkedData) → None ≡ option_map (λ l. l.target) o → o ≡ None
+    by : (o : Option DeclaredTargetData) → None ≡ option_map (λ l. l.target) o → o ≡ None
     by None e = refl
     by (Some l) e = absurd cc

@@ -3,10 +3,10 @@ use Rattle.std.proofs.Common.{◌≡◌, ℕ, ◌==◌, true, false, List, [], �
 use Rattle.std.specs.List.{slice_split}
 use Rattle.build.specs.edge.Texts.{Path, Text}
 use Rattle.build.specs.edge.Data.{EdgeData}
-use Rattle.build.specs.declared.edge.rule.Rule.TheVariants as rule
+use Rattle.build.specs.declared.edge.rule.EdgeRule.TheVariants as rule
 use Rattle.build.specs.Data.{FactsData, SourceData, TargetData, Build, Custom, Tree, Made, BuildData, ListsData}
-use Rattle.build.specs.declared.target.Kind.{Kind}
-use Rattle.build.specs.declared.target.Kind.TheVariants.{Executable, StaticLibrary, SharedLibrary}
+use Rattle.build.specs.declared.target.TargetKind.{TargetKind}
+use Rattle.build.specs.declared.target.TargetKind.TheVariants.{Executable, StaticLibrary, SharedLibrary}
 use Rattle.build.specs.target_edges.Edges.{all_edges}
 use Rattle.build.specs.target_edges.Ways.{relative_way}
 
@@ -33,7 +33,7 @@ edges targets = all_edges (record { facts = facts; arguments = []; link_argument
 abbrev lists : List SourceData → List ℕ → ListsData
 lists sources numbers = record { sources = sources; include_folders = []; compile_args = []; link_args = []; link_with = numbers }
 
-abbrev target : Kind → (folder : Path) (name : Text) → List SourceData → List ℕ → Option Text → BuildData
+abbrev target : TargetKind → (folder : Path) (name : Text) → List SourceData → List ℕ → Option Text → BuildData
 target kind folder name sources numbers version = record {
   kind = kind;
   folder = folder;

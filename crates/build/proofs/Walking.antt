@@ -10,8 +10,8 @@ use Rattle.std.proofs.lemmas.List.Sorted.{IsPermutation-reverse, list_any-IsPerm
 use Rattle.std.proofs.lemmas.List.Sums.{sum_by-append, sum_by-cons, sum_by_push}
 use Rattle.support.specs.Sets.{insert_key}
 use Rattle.build.specs.Data.{TargetData, BuildData}
-use Rattle.build.specs.Sources.{listed}
-use Rattle.build.specs.Libraries.{LinkedData, linked_of, before, before_all, last_kept, with_its_own, libraries_if_static, LinkBack}
+use Rattle.build.specs.Sources.{list_with_dependencies}
+use Rattle.build.specs.Libraries.{DeclaredTargetData, linked_of, before, before_all, last_kept, with_its_own, libraries_if_static, LinkBack}
 use Rattle.build.specs.Walk.{static_at, steps_into, kept_into, steps_for, kept_after}
 use Rattle.build.specs.declared.walk.Step.{Step}
 use Rattle.build.specs.declared.walk.Step.TheVariants.{Enter, Leave}
@@ -99,37 +99,37 @@ kept_of_kept (x ∷ xs) zs = by (kept_of_kept xs zs) (list_any (nat_eq x) (last_
 -- ---- what steps stand for
 
 -- what comes with a library
-abbrev pub own : List LinkedData → ℕ → List ℕ
+abbrev pub own : List DeclaredTargetData → ℕ → List ℕ
 own ls n = libraries_if_static (slice_get ls n)
 
-abbrev pub stands : List LinkedData → Step → List ℕ
+abbrev pub stands : List DeclaredTargetData → Step → List ℕ
 stands ls (Enter n) = with_its_own ls n
 stands ls (Leave n) = n ∷ []
 
-abbrev pub all_of : List LinkedData → List Step → List ℕ
+abbrev pub all_of : List DeclaredTargetData → List Step → List ℕ
 all_of ls steps = flat_map (stands ls) steps
 
 -- what comes with each library that is to be left is kept, or stands behind it
-abbrev pub Left : List LinkedData → List Step → (kept : List ℕ) → Type 0
+abbrev pub Left : List DeclaredTargetData → List Step → (kept : List ℕ) → Type 0
 Left ls [] kept = Unit {0}
 Left ls (Enter n ∷ ss) kept = Left ls ss kept
 Left ls (Leave n ∷ ss) kept = Within (own ls n) (all_of ls ss ++ kept) × Left ls ss kept
 
 -- where the walk stands: what is kept of all these numbers is what is kept of those that steps stand for, before those that are kept
-pub record Walks (ls : List LinkedData) (all : List ℕ) (steps : List Step) (kept : List ℕ) : Type 0 where
+pub record Walks (ls : List DeclaredTargetData) (all : List ℕ) (steps : List Step) (kept : List ℕ) : Type 0 where
   pub order : before_all (all_of ls steps) (reverse kept) ≡ last_kept all
   pub closed : (n : ℕ) → list_any (nat_eq n) kept ≡ true → Within (own ls n) kept
   pub left : Left ls steps kept
 
-enters : (ls : List LinkedData) (ns : List ℕ) → all_of ls (map Enter ns) ≡ flat_map (with_its_own ls) ns
+enters : (ls : List DeclaredTargetData) (ns : List ℕ) → all_of ls (map Enter ns) ≡ flat_map (with_its_own ls) ns
 enters ls ns = flat_map-map (stands ls) Enter ns
 
-left_enters : (ls : List LinkedData) (ns kept : List ℕ) → Left ls (map Enter ns) kept
+left_enters : (ls : List DeclaredTargetData) (ns kept : List ℕ) → Left ls (map Enter ns) kept
 left_enters ls [] kept = tt
 left_enters ls (n ∷ ns) kept = left_enters ls ns kept
 
 -- at its beginning
-pub walks_first : (ls : List LinkedData) (ns : List ℕ) → Walks ls (flat_map (with_its_own ls) ns) (map Enter ns) []
+pub walks_first : (ls : List DeclaredTargetData) (ns : List ℕ) → Walks ls (flat_map (with_its_own ls) ns) (map Enter ns) []
 walks_first ls ns = record {
   order = ap (λ l. before_all l []) (enters ls ns);
   closed = λ n h. absurd cc;
@@ -137,7 +137,7 @@ walks_first ls ns = record {
 }
 
 -- other steps at the end
-left_swapped : (ls : List LinkedData) (ss old bs : List Step) (kept now : List ℕ) → Within (all_of ls old ++ kept) (all_of ls bs ++ now) → Left ls bs now
+left_swapped : (ls : List DeclaredTargetData) (ss old bs : List Step) (kept now : List ℕ) → Within (all_of ls old ++ kept) (all_of ls bs ++ now) → Left ls bs now
     → Left ls (ss ++ old) kept → Left ls (ss ++ bs) now
 left_swapped ls [] old bs kept now w there here = there
 left_swapped ls (Enter n ∷ ss) old bs kept now w there here = left_swapped ls ss old bs kept now w there here
@@ -153,19 +153,19 @@ left_swapped ls (Leave n ∷ ss) old bs kept now w there here = (λ x h. over x 
         (λ a. in_left (all_of ls ss) (all_of ls bs ++ now) x a)
         (λ a. in_right (all_of ls ss) (all_of ls bs ++ now) x (w x a))
 
-left_last : (ls : List LinkedData) (ss : List Step) (n : ℕ) (kept : List ℕ) → Left ls (ss ++ Leave n ∷ []) kept → Within (own ls n) kept
+left_last : (ls : List DeclaredTargetData) (ss : List Step) (n : ℕ) (kept : List ℕ) → Left ls (ss ++ Leave n ∷ []) kept → Within (own ls n) kept
 left_last ls [] n kept h = h.0
 left_last ls (Enter m ∷ ss) n kept h = left_last ls ss n kept h
 left_last ls (Leave m ∷ ss) n kept h = left_last ls ss n kept h.1
 
 -- what steps and one more stand for
-with_last : (ls : List LinkedData) (ss : List Step) (s : Step) (n : ℕ) (ns : List ℕ) → stands ls s ≡ n ∷ ns → all_of ls (ss ++ s ∷ []) ≡ all_of ls ss ++ n ∷ ns
+with_last : (ls : List DeclaredTargetData) (ss : List Step) (s : Step) (n : ℕ) (ns : List ℕ) → stands ls s ≡ n ∷ ns → all_of ls (ss ++ s ∷ []) ≡ all_of ls ss ++ n ∷ ns
 with_last ls ss s n ns e = flat_map-append (stands ls) ss (s ∷ []) ∙ ap (λ l. all_of ls ss ++ l) (append-nil (stands ls s) ∙ e)
 
 -- ---- one step
 
 -- a number is kept whose own are
-kept_step : (ls : List LinkedData) (all : List ℕ) (ss : List Step) (s : Step) (n : ℕ) (kept : List ℕ) → stands ls s ≡ n ∷ [] → Within (own ls n) kept
+kept_step : (ls : List DeclaredTargetData) (all : List ℕ) (ss : List Step) (s : Step) (n : ℕ) (kept : List ℕ) → stands ls s ≡ n ∷ [] → Within (own ls n) kept
     → Walks ls all (ss ++ s ∷ []) kept → Walks ls all (ss ++ []) (insert_key nat_eq kept n)
 kept_step ls all ss s n kept e inside w =
     let now = insert_key nat_eq kept n in
@@ -186,7 +186,7 @@ kept_step ls all ss s n kept e inside w =
         (λ g. in_more kept n x g)
 
 -- what is kept is not entered again
-marked_step : (ls : List LinkedData) (all : List ℕ) (ss : List Step) (n : ℕ) (kept : List ℕ) → list_any (nat_eq n) kept ≡ true
+marked_step : (ls : List DeclaredTargetData) (all : List ℕ) (ss : List Step) (n : ℕ) (kept : List ℕ) → list_any (nat_eq n) kept ≡ true
     → Walks ls all (ss ++ Enter n ∷ []) kept → Walks ls all (ss ++ []) kept
 marked_step ls all ss n kept e w =
     record {
@@ -206,7 +206,7 @@ marked_step ls all ss n kept e w =
     inside x h = in_first n (own ls n) x h (λ same. ap (λ k. list_any (nat_eq k) kept) same ∙ e) (λ g. w.closed n e x g)
 
 -- a static library is gone into
-static_step : (ls : List LinkedData) (all : List ℕ) (ss : List Step) (n : ℕ) (ns kept : List ℕ) → own ls n ≡ last_kept (flat_map (with_its_own ls) ns)
+static_step : (ls : List DeclaredTargetData) (all : List ℕ) (ss : List Step) (n : ℕ) (ns kept : List ℕ) → own ls n ≡ last_kept (flat_map (with_its_own ls) ns)
     → Walks ls all (ss ++ Enter n ∷ []) kept → Walks ls all (ss ++ Leave n ∷ map Enter ns) kept
 static_step ls all ss n ns kept e w =
     let behind = flat_map (with_its_own ls) ns in
@@ -247,7 +247,7 @@ pub walks_step : (ts : List TargetData) (all : List ℕ) (ss : List Step) (s : S
 walks_step ts all ss (Leave n) kept back w = kept_step (linked_of ts) all ss (Leave n) n kept refl (left_last (linked_of ts) ss n kept w.left) w
 walks_step ts all ss (Enter n) kept back w = by (list_any (nat_eq n) kept) refl
   where
-    ls : List LinkedData
+    ls : List DeclaredTargetData
     ls = linked_of ts
 
     into : (o : Option BuildData) → static_at ls n ≡ o → Walks ls all (ss ++ steps_into n o) (kept_into n o kept)
@@ -255,7 +255,7 @@ walks_step ts all ss (Enter n) kept back w = by (list_any (nat_eq n) kept) refl
       where
         nowhere : (x : ℕ) → list_any (nat_eq x) [] ≡ true → ⊥
         nowhere x h = absurd cc
-    into (Some t) e = static_step ls all ss n (listed (λ l. l.link_with) t) kept (own_come ts n t back e) w
+    into (Some t) e = static_step ls all ss n (list_with_dependencies (λ l. l.link_with) t) kept (own_come ts n t back e) w
 
     by : (b : Bool) → list_any (nat_eq n) kept ≡ b → Walks ls all (ss ++ (if b then [] else steps_into n (static_at ls n))) (if b then kept else kept_into n (static_at ls n) kept)
     by true e = marked_step ls all ss n kept e w
@@ -265,38 +265,38 @@ walks_step ts all ss (Enter n) kept back w = by (list_any (nat_eq n) kept) refl
 
 abbrev named : Option BuildData → List ℕ
 named None = []
-named (Some t) = listed (λ l. l.link_with) t
+named (Some t) = list_with_dependencies (λ l. l.link_with) t
 
 -- how many steps a library is at most, so many levels deep, where nothing is shared
-abbrev grown : List LinkedData → ℕ → ℕ → ℕ
+abbrev grown : List DeclaredTargetData → ℕ → ℕ → ℕ
 grown ls zero n = 2
 grown ls (suc deep) n = 2 + sum_by (grown ls deep) (named (static_at ls n))
 
-abbrev pub weight : List LinkedData → Step → ℕ
+abbrev pub weight : List DeclaredTargetData → Step → ℕ
 weight ls (Enter n) = grown ls (suc n) n
 weight ls (Leave n) = 1
 
-abbrev pub weights : List LinkedData → List Step → ℕ
+abbrev pub weights : List DeclaredTargetData → List Step → ℕ
 weights ls steps = sum_by (weight ls) steps
 
 sum_le : (f g : ℕ → ℕ) → ((x : ℕ) → f x ≤ g x) → (xs : List ℕ) → sum_by f xs ≤ sum_by g xs
 sum_le f g h [] = let a : sum_by f [] ≡ 0 = refl in omega (arith, a)
 sum_le f g h (x ∷ xs) = omega (arith, h x, sum_le f g h xs, sum_by-cons f x xs, sum_by-cons g x xs)
 
-grown_more : (ls : List LinkedData) (deep n : ℕ) → grown ls (suc deep) n ≡ 2 + sum_by (grown ls deep) (named (static_at ls n))
+grown_more : (ls : List DeclaredTargetData) (deep n : ℕ) → grown ls (suc deep) n ≡ 2 + sum_by (grown ls deep) (named (static_at ls n))
 grown_more ls deep n = refl
 
-least : (ls : List LinkedData) (deep n : ℕ) → 2 ≤ grown ls deep n
+least : (ls : List DeclaredTargetData) (deep n : ℕ) → 2 ≤ grown ls deep n
 least ls zero n = let a : grown ls 0 n ≡ 2 = refl in omega (arith, a)
 least ls (suc deep) n = omega (arith, grown_more ls deep n)
 
-deeper : (ls : List LinkedData) (a b n : ℕ) → a ≤ b → grown ls a n ≤ grown ls b n
+deeper : (ls : List DeclaredTargetData) (a b n : ℕ) → a ≤ b → grown ls a n ≤ grown ls b n
 deeper ls zero b n le = let a : grown ls 0 n ≡ 2 = refl in omega (arith, a, least ls b n)
 deeper ls (suc a) zero n le = absurd (omega (arith, le))
 deeper ls (suc a) (suc b) n le =
     omega (arith, sum_le (grown ls a) (grown ls b) (λ x. deeper ls a b x (omega (arith, le))) (named (static_at ls n)), grown_more ls a n, grown_more ls b n)
 
-below : (ls : List LinkedData) (n : ℕ) (ns : List ℕ) → list_all (λ m. nat_lt m n) ns ≡ true → sum_by (weight ls) (map Enter ns) ≤ sum_by (grown ls n) ns
+below : (ls : List DeclaredTargetData) (n : ℕ) (ns : List ℕ) → list_all (λ m. nat_lt m n) ns ≡ true → sum_by (weight ls) (map Enter ns) ≤ sum_by (grown ls n) ns
 below ls n [] e = let a : sum_by (weight ls) [] ≡ 0 = refl in omega (arith, a)
 below ls n (c ∷ cs) e =
     let p = and_parts (nat_lt c n) (list_all (λ m. nat_lt m n) cs) e in
@@ -309,14 +309,14 @@ lighter : (ts : List TargetData) (kept : List ℕ) (s : Step) → LinkBack ts �
 lighter ts kept (Leave n) back = let a : sum_by (weight (linked_of ts)) [] ≡ 0 = refl in let b : weight (linked_of ts) (Leave n) ≡ 1 = refl in omega (arith, a, b)
 lighter ts kept (Enter n) back = by (list_any (nat_eq n) kept)
   where
-    ls : List LinkedData
+    ls : List DeclaredTargetData
     ls = linked_of ts
 
     into : (o : Option BuildData) → static_at ls n ≡ o → sum_by (weight ls) (steps_into n o) < 2 + sum_by (grown ls n) (named o)
     into None e = let a : sum_by (weight ls) [] ≡ 0 = refl in omega (arith, a)
     into (Some t) e =
         let one : weight ls (Leave n) ≡ 1 = refl in
-        let ns = listed (λ l. l.link_with) t in
+        let ns = list_with_dependencies (λ l. l.link_with) t in
         omega (arith, below ls n ns (names_before ts n t back e), one, sum_by-cons (weight ls) (Leave n) (map Enter ns))
 
     by : (b : Bool) → sum_by (weight ls) (if b then [] else steps_into n (static_at ls n)) < grown ls (suc n) n

@@ -2,11 +2,11 @@
 use Rattle.std.specs.Prelude.{ℕ, ℤ, Bool, List, Option}
 use Rattle.build.specs.edge.Texts.{Path, Text}
 use Rattle.build.specs.declared.facts.OptionType.{OptionType}
-use Rattle.build.specs.declared.target.Kind.{Kind}
+use Rattle.build.specs.declared.target.TargetKind.{TargetKind}
 
 -- ---- facts
 
--- The flags are what edges take from the options.
+-- The flags are the values of the options that decide the words of commands.
 pub record FlagsData : Type 0 where
   pub warning_level : ℕ
   pub is_werror : Bool
@@ -16,6 +16,7 @@ pub record FlagsData : Type 0 where
   pub c_args : List Text
   pub c_link_args : List Text
 
+-- The value of an option in the form of its type. The choice of a combo and the state of a feature are texts.
 pub data OptionData : Type 0 where
   text : (value : Text) → OptionData
   boolean : (value : Bool) → OptionData
@@ -28,22 +29,24 @@ pub record OptionEntryData : Type 0 where
   pub kind : OptionType
   pub value : OptionData
 
--- The facts are what `project`, the options and the machine file say.
+-- The facts of a project come from the call of `project`, the options and the machine file.
 pub record FactsData : Type 0 where
   pub name : Text
   pub version : Text
   pub license : List Text
   -- How many folders the build directory is below the source root.
   pub depth : ℕ
+  -- The absolute paths of the source directory and of the build directory.
   pub source_root : Path
   pub build_root : Path
   -- The words of the compiler's command, and of the archiver's.
   pub compiler : List Text
   pub archiver : List Text
   pub flags : FlagsData
+  -- Every option: the built-in ones in the order of their table, then those that the project declares.
   pub options : List OptionEntryData
 
--- What edges take from the project.
+-- The facts and the arguments of a project, on which the edges of all its targets depend.
 pub record SurroundingsData : Type 0 where
   pub facts : FactsData
   -- The arguments of `add_project_arguments` and `add_project_link_arguments`.
@@ -52,6 +55,7 @@ pub record SurroundingsData : Type 0 where
 
 -- ---- targets
 
+-- A source that a target names: a file, or outputs of one earlier target.
 pub data SourceData : Type 0 where
   -- A file of the source tree.
   Tree : (path : Path) → SourceData
@@ -63,6 +67,7 @@ pub data SourceData : Type 0 where
 -- The lists of a target itself, or those that a dependency adds.
 pub record ListsData : Type 0 where
   pub sources : List SourceData
+  -- Folders of the source tree. The empty path is its root.
   pub include_folders : List Path
   pub compile_args : List Text
   pub link_args : List Text
@@ -71,14 +76,17 @@ pub record ListsData : Type 0 where
 
 -- An executable or a library.
 pub record BuildData : Type 0 where
-  pub kind : Kind
+  pub kind : TargetKind
   -- The folder of the definition file.
   pub folder : Path
   pub name : Text
+  -- The target's own lists, and those that each of its dependencies adds.
   pub own : ListsData
   pub dependencies : List ListsData
+  -- The keywords `version` and `soversion` of a shared library.
   pub version : Option Text
   pub soversion : Option Text
+  -- Whether Ninja builds the target by default (`build_by_default`), and whether it is installed.
   pub is_default : Bool
   pub is_installed : Bool
 
@@ -98,9 +106,11 @@ pub record CustomData : Type 0 where
   pub depfile : Option Text
   -- The length of the longest of its lists.
   pub longest : ℕ
+  -- Whether Ninja builds the target by default, and whether it is installed.
   pub is_default : Bool
   pub is_installed : Bool
 
+-- A declared target: an executable or a library, or a custom target.
 pub data TargetData : Type 0 where
   Build : (target : BuildData) → TargetData
   Custom : (target : CustomData) → TargetData

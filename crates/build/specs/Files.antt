@@ -5,19 +5,22 @@ use Rattle.build.specs.edge.Texts.{Path, Text}
 use Rattle.build.specs.edge.Paths.{object_path}
 use Rattle.support.specs.paths.Paths.{path_in}
 use Rattle.build.specs.Data.{BuildData, CustomData, TargetData, Build, Custom}
-use Rattle.build.specs.Sources.{compiled}
-use Rattle.build.specs.declared.target.Kind.{Kind}
-use Rattle.build.specs.declared.target.Kind.TheVariants.{Executable, StaticLibrary, SharedLibrary}
+use Rattle.build.specs.Sources.{compiled_inputs}
+use Rattle.build.specs.declared.target.TargetKind.{TargetKind}
+use Rattle.build.specs.declared.target.TargetKind.TheVariants.{Executable, StaticLibrary, SharedLibrary}
 
-abbrev pub is_static : Kind → Bool
+-- Returns whether a target of this kind is a static library.
+abbrev pub is_static : TargetKind → Bool
 is_static StaticLibrary = true
 is_static _ = false
 
-abbrev pub is_shared : Kind → Bool
+-- Returns whether a target of this kind is a shared library.
+abbrev pub is_shared : TargetKind → Bool
 is_shared SharedLibrary = true
 is_shared _ = false
 
-abbrev pub is_library : Kind → Bool
+-- Returns whether a target of this kind is a static or a shared library.
+abbrev pub is_library : TargetKind → Bool
 is_library Executable = false
 is_library _ = true
 
@@ -46,11 +49,13 @@ abbrev pub so_name : BuildData → Text
 so_name t = numbered_so t.name (so_number t.version t.soversion)
 
 -- Returns the name of the file of a kind.
-abbrev pub file_name_of : Kind → BuildData → Text
+abbrev pub file_name_of : TargetKind → BuildData → Text
 file_name_of Executable t = t.name
 file_name_of StaticLibrary t = codes "lib" ++ (t.name ++ codes ".a")
 file_name_of SharedLibrary t = numbered_so t.name (file_number t.version t.soversion)
 
+-- Returns the name of the target's file: `NAME`, `libNAME.a` or `libNAME.so`. After a dot follows a shared library's `version`, or else
+-- its `soversion`, if it has one.
 abbrev pub file_name : BuildData → Text
 file_name t = file_name_of t.kind t
 
@@ -63,11 +68,13 @@ abbrev pub numbered_names : Option Text → BuildData → List Text
 numbered_names None t = []
 numbered_names (Some number) t = (if bytes_eq (so_name t) (file_name t) then [] else so_name t ∷ []) ++ numbered_so t.name None ∷ []
 
-abbrev pub link_names_of : Kind → BuildData → List Text
+-- Returns the names of the symbolic links to the target's file, given its kind. Only a shared library with a number has any.
+abbrev pub link_names_of : TargetKind → BuildData → List Text
 link_names_of Executable t = []
 link_names_of StaticLibrary t = []
 link_names_of SharedLibrary t = numbered_names (so_number t.version t.soversion) t
 
+-- Returns the names of the symbolic links to the target's file. The links are in the folder of that file.
 abbrev pub link_names : BuildData → List Text
 link_names t = link_names_of t.kind t
 
@@ -77,7 +84,7 @@ link_paths t = map (path_in t.folder) (link_names t)
 
 -- Returns the objects of the sources that are compiled.
 abbrev pub object_paths : ℕ → BuildData → List Path
-object_paths depth t = map (λ i. object_path (file_path t) i.name) (compiled depth t)
+object_paths depth t = map (λ i. object_path (file_path t) i.name) (compiled_inputs depth t)
 
 -- Returns the outputs of a custom target.
 abbrev pub output_paths : CustomData → List Path

@@ -5,7 +5,7 @@ pub mod Inputs
 pub mod Files
 pub mod Libraries
 pub mod Marks
-pub mod LinkedViews
+pub mod DeclaredTargetViews
 pub mod Walk
 pub mod edge
 pub mod target_edges

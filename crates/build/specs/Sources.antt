@@ -6,16 +6,16 @@ use Rattle.build.specs.edge.Paths.{source_path}
 use Rattle.build.specs.Data.{SourceData, Tree, Built, Made, ListsData, BuildData}
 
 -- Returns the items that the target's dependencies add to a list.
-abbrev pub brought : {X : Type 0} → (ListsData → List X) → BuildData → List X
-brought list t = flat_map list t.dependencies
+abbrev pub items_of_dependencies : {X : Type 0} → (ListsData → List X) → BuildData → List X
+items_of_dependencies list t = flat_map list t.dependencies
 
 -- Returns a list of the target, followed by the items of its dependencies.
-abbrev pub listed : {X : Type 0} → (ListsData → List X) → BuildData → List X
-listed list t = list t.own ++ brought list t
+abbrev pub list_with_dependencies : {X : Type 0} → (ListsData → List X) → BuildData → List X
+list_with_dependencies list t = list t.own ++ items_of_dependencies list t
 
 -- Returns all sources of the target, its own first.
 abbrev pub all_sources : BuildData → List SourceData
-all_sources t = listed (λ l. l.sources) t
+all_sources t = list_with_dependencies (λ l. l.sources) t
 
 -- ---- compiled sources
 
@@ -24,9 +24,11 @@ pub record InputData : Type 0 where
   pub path : Path
   pub name : Path
 
+-- Returns whether the path ends in `.c`, as a C source does.
 abbrev pub is_c : Path → Bool
 is_c path = ends_with nat_eq path (codes ".c")
 
+-- Returns whether the path ends in `.h`, as a header does.
 abbrev pub is_header : Path → Bool
 is_header path = ends_with nat_eq path (codes ".h")
 
@@ -58,8 +60,8 @@ put_inputs kept [] = kept
 put_inputs kept (i ∷ is) = put_inputs (put_input kept i) is
 
 -- Returns the inputs that are compiled, in the order in which they are first named.
-abbrev pub compiled : ℕ → BuildData → List InputData
-compiled depth t = put_inputs [] (flat_map (c_inputs_in depth) (all_sources t))
+abbrev pub compiled_inputs : ℕ → BuildData → List InputData
+compiled_inputs depth t = put_inputs [] (flat_map (c_inputs_in depth) (all_sources t))
 
 -- ---- sources that are only made earlier
 
@@ -73,9 +75,9 @@ generated_in (Tree path) = []
 generated_in (Built path) = []
 generated_in (Made paths) = flat_map if_not_c paths
 
--- Returns the outputs of custom targets among the sources that are not compiled, each once.
-abbrev pub generated : BuildData → List Path
-generated t = first_kept (flat_map generated_in (all_sources t))
+-- Returns the outputs of custom targets that are among the sources but are not compiled, each once.
+abbrev pub generated_paths : BuildData → List Path
+generated_paths t = first_kept (flat_map generated_in (all_sources t))
 
 -- ---- allowed sources
 
@@ -85,6 +87,7 @@ is_foreign (Tree path) = not (is_c path || is_header path)
 is_foreign (Built path) = not (is_c path || is_header path)
 is_foreign (Made paths) = false
 
+-- Returns whether a file among the sources of these lists is neither a C source nor a header.
 abbrev pub has_foreign_in : ListsData → Bool
 has_foreign_in l = list_any is_foreign l.sources
 

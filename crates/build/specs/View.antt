@@ -16,6 +16,7 @@ use Rattle.build.specs.declared.target.CustomTarget.{CustomTarget}
 use Rattle.build.specs.declared.target.Target.{Target}
 use Rattle.build.specs.declared.target.Target.TheVariants as target
 
+-- Returns the flags of the code as plain data, with each string as its bytes.
 abbrev pub flags_view : Flags → plain.FlagsData
 flags_view f = record {
   warning_level = f.warning_level;
@@ -27,15 +28,18 @@ flags_view f = record {
   c_link_args = texts f.c_link_args.items;
 }
 
+-- Returns an option's value of the code as plain data, with each string as its bytes.
 abbrev pub option_view : OptionValue → plain.OptionData
 option_view (value.Text t) = plain.text (string_bytes t)
 option_view (value.Boolean b) = plain.boolean b
 option_view (value.Integer n) = plain.integer n
 option_view (value.Texts ts) = plain.texts (texts ts.items)
 
+-- Returns a listed option of the code as plain data: its name, its type and its value.
 abbrev pub option_entry_view : OptionEntry → plain.OptionEntryData
 option_entry_view e = record { name = string_bytes e.name; kind = e.kind; value = option_view e.value }
 
+-- Returns the facts of the code as plain data, with each string as its bytes. Nothing is left out.
 abbrev pub facts_view : Facts → plain.FactsData
 facts_view f = record {
   name = string_bytes f.name;
@@ -50,6 +54,7 @@ facts_view f = record {
   options = map option_entry_view f.options.items;
 }
 
+-- Returns the facts and the project's arguments of the code as plain data, with each string as its bytes.
 abbrev pub surroundings_view : Surroundings → plain.SurroundingsData
 surroundings_view s = record {
   facts = facts_view s.facts;
@@ -57,11 +62,13 @@ surroundings_view s = record {
   link_arguments = texts s.link_arguments.items;
 }
 
+-- Returns a source of the code as plain data. A list of outputs that targets share in memory becomes a plain list.
 abbrev pub source_view : Source → plain.SourceData
 source_view (source.Tree path) = plain.Tree (string_bytes path)
 source_view (source.Built path) = plain.Built (string_bytes path)
 source_view (source.Made paths) = plain.Made (texts paths.value.items)
 
+-- Returns the lists of a target or a dependency as plain data, with each string as its bytes.
 abbrev pub lists_view : Lists → plain.ListsData
 lists_view l = record {
   sources = map source_view l.sources.items;
@@ -71,6 +78,7 @@ lists_view l = record {
   link_with = l.link_with.items;
 }
 
+-- Returns an executable or a library of the code as plain data. Lists that targets share in memory become plain lists.
 abbrev pub build_view : BuildTarget → plain.BuildData
 build_view t = record {
   kind = t.kind;
@@ -84,6 +92,7 @@ build_view t = record {
   is_installed = t.is_installed;
 }
 
+-- Returns a custom target of the code as plain data, with each string as its bytes. Nothing is left out.
 abbrev pub custom_view : CustomTarget → plain.CustomData
 custom_view t = record {
   name = string_bytes t.name;
@@ -99,6 +108,7 @@ custom_view t = record {
   is_installed = t.is_installed;
 }
 
+-- Returns a target of the code as plain data. The code holds it in a box, which is left out.
 abbrev pub target_view : Target → plain.TargetData
 target_view (target.Build t) = plain.Build (build_view t.value)
 target_view (target.Custom t) = plain.Custom (custom_view t.value)

@@ -2,7 +2,7 @@
 
 mod edge;
 mod folders;
-mod holding;
+mod holdable_texts;
 mod parts;
 mod rule;
 mod seen_paths;
@@ -10,11 +10,11 @@ mod texts;
 
 pub use edge::Edge;
 pub use folders::{build_folder, source_folder};
-pub use holding::{
+pub use holdable_texts::{
     are_paths, are_writable, can_hold_path, can_hold_value, can_hold_values, is_path, is_some_list,
 };
 pub use parts::{LentEdge, OwnParts, SharedParts};
-pub use rule::Rule;
+pub use rule::EdgeRule;
 pub use seen_paths::{is_upward, object_path, source_path, source_root};
 pub use support::text_lists::{copies, strings};
 pub use texts::{first_kept, holds, lend_text, push_all, push_copies, push_text};

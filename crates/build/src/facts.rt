@@ -1,10 +1,12 @@
+//! Holds what a project knows from `project`, its options and the machine file.
+
 /// Holds what edges take from the options.
 pub struct Flags {
     /// `warning_level`, 0 to 3.
     pub warning_level: usize,
     /// `werror`.
     pub is_werror: bool,
-    /// `c_std`: `none` if no standard is asked for.
+    /// `c_std`: `none` if no standard is requested.
     pub c_std: String,
     /// `optimization`: `plain` if no argument sets it.
     pub optimization: String,

@@ -10,7 +10,7 @@ ghost use Rattle.build.specs.View.{build_view, custom_view};
 
 use crate::edge::{lend_text, object_path};
 use crate::sources::Input;
-use crate::target::{BuildTarget, CustomTarget, Kind};
+use crate::target::{BuildTarget, CustomTarget, TargetKind};
 use std::alloc::{AllocError, Global};
 use support::paths::path_in;
 
@@ -81,9 +81,9 @@ pub fn file_name(alloc: Global, target: &BuildTarget) -> Result<String, AllocErr
 {
     let name = target.name.as_str();
     match target.kind {
-        Kind::Executable => String::from_str(alloc, name),
-        Kind::StaticLibrary => between(alloc, "lib", name, ".a"),
-        Kind::SharedLibrary => with_number(alloc, name, file_number(target)),
+        TargetKind::Executable => String::from_str(alloc, name),
+        TargetKind::StaticLibrary => between(alloc, "lib", name, ".a"),
+        TargetKind::SharedLibrary => with_number(alloc, name, file_number(target)),
     }
 }
 
@@ -139,8 +139,8 @@ pub fn link_names(alloc: Global, target: &BuildTarget) -> Result<Vec<String>, Al
     ensures { IfOk result (λ v. texts v.items ≡ link_names (build_view target.now)) }
 {
     match target.kind {
-        Kind::Executable | Kind::StaticLibrary => Ok(Vec::new(alloc)),
-        Kind::SharedLibrary => numbered_names(alloc, target),
+        TargetKind::Executable | TargetKind::StaticLibrary => Ok(Vec::new(alloc)),
+        TargetKind::SharedLibrary => numbered_names(alloc, target),
     }
 }
 

@@ -1,15 +1,15 @@
 //! Keeps a project: its targets, its other declarations, and the edges that build it.
 
+mod acceptance;
 mod claims;
-mod fitting;
-mod notes;
 mod project;
+mod records;
 mod refusal;
-mod unheld;
+mod unholdable;
 
-pub use notes::{Answer, Install, Test};
 pub use project::{
     Project, edges, edges_are_writable, edges_stand_in_order, needs_are_made, no_circle,
     outputs_differ, parts, targets_refer_back,
 };
-pub use refusal::{Refusal, Refused};
+pub use records::{Answer, Install, Test};
+pub use refusal::{ProjectError, ProjectRefusal};

@@ -2,8 +2,9 @@
 ghost use Rattle.std.specs.Prelude.{◌≡◌, ◌++◌, [], map, flat_map, IfOk, string_bytes};
 ghost use Rattle.std.specs.List.{list_any};
 ghost use Rattle.build.specs.edge.Texts.{texts};
-ghost use Rattle.build.specs.Sources.{is_c, is_header, c_input, own_input, c_inputs_in, put_inputs, compiled, if_not_c, generated_in};
-ghost use Rattle.build.specs.Sources.{generated, is_foreign, has_foreign_in, has_foreign, source_paths};
+ghost use Rattle.build.specs.Sources.{is_c, is_header, c_input, own_input, c_inputs_in, put_inputs, compiled_inputs, if_not_c};
+ghost use Rattle.build.specs.Sources.{generated_in};
+ghost use Rattle.build.specs.Sources.{generated_paths, is_foreign, has_foreign_in, has_foreign, source_paths};
 ghost use Rattle.build.specs.View.{source_view, lists_view, build_view};
 ghost use Rattle.build.specs.Inputs.{input_view};
 
@@ -125,7 +126,7 @@ pub fn compiled_sources(
     depth: usize,
     target: &BuildTarget,
 ) -> Result<Vec<Input>, AllocError>
-    ensures { IfOk result (λ v. map input_view v.items ≡ compiled depth (build_view target.now)) }
+    ensures { IfOk result (λ v. map input_view v.items ≡ compiled_inputs depth (build_view target.now)) }
 {
     first_inputs(alloc, all_inputs(alloc, depth, target)?)
 }
@@ -182,9 +183,9 @@ fn all_generated(alloc: Global, target: &BuildTarget) -> Result<Vec<String>, All
     Ok(paths)
 }
 
-/// Returns the outputs of custom targets among the sources that are not compiled, each once.
+/// Returns the outputs of custom targets that are among the sources but are not compiled, each once.
 pub fn generated_outputs(alloc: Global, target: &BuildTarget) -> Result<Vec<String>, AllocError>
-    ensures { IfOk result (λ v. texts v.items ≡ generated (build_view target.now)) }
+    ensures { IfOk result (λ v. texts v.items ≡ generated_paths (build_view target.now)) }
 {
     let paths = all_generated(alloc, target)?;
     first_kept(alloc, &paths)

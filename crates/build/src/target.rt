@@ -1,3 +1,4 @@
+//! Holds targets as they are declared.
 ghost use Rattle.std.specs.Prelude.{◌≡◌};
 ghost use Rattle.build.specs.Files.{is_static, is_library, is_shared};
 
@@ -5,20 +6,20 @@ use std::rc::Rc;
 
 /// Lists the kinds of build targets.
 #[derive(Clone, Copy)]
-pub enum Kind {
+pub enum TargetKind {
     Executable,
     StaticLibrary,
     SharedLibrary,
 }
 
-impl Kind {
+impl TargetKind {
     /// Returns whether the kind is that of a library.
     pub fn is_library(self) -> bool
         ensures { result ≡ is_library self }
     {
         match self {
-            Kind::Executable => false,
-            Kind::StaticLibrary | Kind::SharedLibrary => true,
+            TargetKind::Executable => false,
+            TargetKind::StaticLibrary | TargetKind::SharedLibrary => true,
         }
     }
 
@@ -27,8 +28,8 @@ impl Kind {
         ensures { result ≡ is_static self }
     {
         match self {
-            Kind::StaticLibrary => true,
-            Kind::Executable | Kind::SharedLibrary => false,
+            TargetKind::StaticLibrary => true,
+            TargetKind::Executable | TargetKind::SharedLibrary => false,
         }
     }
 
@@ -37,8 +38,8 @@ impl Kind {
         ensures { result ≡ is_shared self }
     {
         match self {
-            Kind::SharedLibrary => true,
-            Kind::Executable | Kind::StaticLibrary => false,
+            TargetKind::SharedLibrary => true,
+            TargetKind::Executable | TargetKind::StaticLibrary => false,
         }
     }
 }
@@ -82,7 +83,7 @@ impl Drop for Lists {
 
 /// Holds an executable or a library (Meson reference manual, `executable`, `static_library` and `shared_library`).
 pub struct BuildTarget {
-    pub kind: Kind,
+    pub kind: TargetKind,
     /// The folder of the definition file, `""` for the root.
     pub folder: String,
     pub name: String,

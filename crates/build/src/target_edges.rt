@@ -1,19 +1,19 @@
 //! Computes the edges that make a target.
 
-mod asking;
-mod building;
-mod claiming;
-mod compiling;
+mod claims;
+mod compile_words;
 mod custom;
-mod linking;
-mod made;
-mod own;
+mod edge_list;
+mod edge_parts;
+mod link_and_archive;
 mod parts;
-mod way;
+mod relative_paths;
+mod source_parts;
+mod word_checks;
 mod words;
 
-pub use building::{no_parts, target_parts};
-pub use claiming::{Claims, claims_of};
-pub use linking::Context;
-pub use own::{SourceTexts, last_words, own_parts, source_texts};
+pub use claims::{Claims, claims_of};
+pub use edge_parts::{no_parts, target_parts};
+pub use link_and_archive::LinkContext;
 pub use parts::{BuildParts, CustomParts, TargetParts};
+pub use source_parts::{SourceTexts, last_words, own_parts, source_texts};

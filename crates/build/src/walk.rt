@@ -8,14 +8,14 @@ ghost use Rattle.std.specs.Prelude.{length, nat_eq, slice_index_or, slice_set, o
 ghost use Rattle.std.specs.List.{list_any};
 ghost use Rattle.support.specs.Sets.{insert_key};
 ghost use Rattle.build.specs.Libraries.{LinkBack, libraries_of, linked_libraries};
-ghost use Rattle.build.specs.LinkedViews.{linked_views};
+ghost use Rattle.build.specs.DeclaredTargetViews.{declared_target_views};
 ghost use Rattle.build.specs.Marks.{AreMarks};
 ghost use Rattle.build.specs.View.{target_view, build_view};
 ghost use Rattle.build.specs.Walk.{if_static, static_at, steps_of, steps_into, kept_into, steps_for, kept_after};
 ghost use Rattle.build.specs.declared.walk.Step.TheVariants.{Enter};
 
-use crate::linked_target::Linked;
-use crate::linking::build_target_at;
+use crate::declared_target::DeclaredTarget;
+use crate::libraries::build_target_at;
 use crate::target::{BuildTarget, Target};
 use std::alloc::{AllocError, Global};
 
@@ -151,8 +151,8 @@ fn if_static(target: &BuildTarget) -> Option<&BuildTarget>
 }
 
 // Returns the static library with this number, if it is one.
-fn static_at(earlier: &[Linked], number: usize) -> Option<&BuildTarget>
-    ensures { option_map (λ t. build_view t.now) result ≡ static_at (linked_views earlier.now) number }
+fn static_at(earlier: &[DeclaredTarget], number: usize) -> Option<&BuildTarget>
+    ensures { option_map (λ t. build_view t.now) result ≡ static_at (declared_target_views earlier.now) number }
 {
     match build_target_at(earlier, number) {
         Some(target) => if_static(target),
@@ -165,13 +165,14 @@ fn enter(
     steps: &mut Vec<Step>,
     kept: &mut Vec<u32>,
     marks: &mut Vec<bool>,
-    earlier: &[Linked],
+    earlier: &[DeclaredTarget],
     number: u32,
 ) -> Result<(), AllocError>
     requires { AreMarks marks.old.items kept.old.items }
     ensures steps { IfOk result (λ _. steps.new.items
-        ≡ steps.old.items ++ steps_into number (static_at (linked_views earlier.now) number)) }
-    ensures kept { IfOk result (λ _. kept.new.items ≡ kept_into number (static_at (linked_views earlier.now) number) kept.old.items) }
+        ≡ steps.old.items ++ steps_into number (static_at (declared_target_views earlier.now) number)) }
+    ensures kept { IfOk result (λ _. kept.new.items
+        ≡ kept_into number (static_at (declared_target_views earlier.now) number) kept.old.items) }
     ensures marks { IfOk result (λ _. AreMarks marks.new.items kept.new.items) }
 {
     match static_at(earlier, number as usize) {
@@ -187,13 +188,13 @@ fn take_step(
     steps: &mut Vec<Step>,
     kept: &mut Vec<u32>,
     marks: &mut Vec<bool>,
-    earlier: &[Linked],
+    earlier: &[DeclaredTarget],
     step: Step,
 ) -> Result<(), AllocError>
     requires { AreMarks marks.old.items kept.old.items }
     ensures steps { IfOk result (λ _. steps.new.items
-        ≡ steps.old.items ++ steps_for (linked_views earlier.now) kept.old.items step) }
-    ensures kept { IfOk result (λ _. kept.new.items ≡ kept_after (linked_views earlier.now) kept.old.items step) }
+        ≡ steps.old.items ++ steps_for (declared_target_views earlier.now) kept.old.items step) }
+    ensures kept { IfOk result (λ _. kept.new.items ≡ kept_after (declared_target_views earlier.now) kept.old.items step) }
     ensures marks { IfOk result (λ _. AreMarks marks.new.items kept.new.items) }
 {
     match step {
@@ -211,11 +212,11 @@ fn take_step(
 // Returns the libraries of a build target, given the earlier targets.
 fn libraries_of(
     alloc: Global,
-    earlier: &[Linked],
+    earlier: &[DeclaredTarget],
     target: &BuildTarget,
 ) -> Result<Vec<u32>, AllocError>
     requires { LinkBack (map (λ l. target_view l.target) earlier.now) }
-    ensures { IfOk result (λ v. v.items ≡ libraries_of (linked_views earlier.now) (build_view target.now)) }
+    ensures { IfOk result (λ v. v.items ≡ libraries_of (declared_target_views earlier.now) (build_view target.now)) }
 {
     let mut steps = Vec::new(alloc);
     push_all(&mut steps, target)?;
@@ -234,11 +235,11 @@ fn libraries_of(
 /// Returns the libraries with which the target's file is linked, given the earlier targets. An archive and a custom target link none.
 pub fn linked_libraries(
     alloc: Global,
-    earlier: &[Linked],
+    earlier: &[DeclaredTarget],
     target: &Target,
 ) -> Result<Vec<u32>, AllocError>
     requires { LinkBack (map (λ l. target_view l.target) earlier.now) }
-    ensures { IfOk result (λ v. v.items ≡ linked_libraries (linked_views earlier.now) (target_view target.now)) }
+    ensures { IfOk result (λ v. v.items ≡ linked_libraries (declared_target_views earlier.now) (target_view target.now)) }
 {
     match target {
         Target::Build(target) => {

@@ -5,7 +5,7 @@ use Rattle.std.specs.Prelude.{OnOk, OnErr}
 use Rattle.std.specs.declared.alloc.AllocError.{AllocError}
 use Rattle.std.specs.Global.{Global}
 use Rattle.std.proofs.lemmas.List.{map-append, take_more, take_all, set_split, drop_all, get_or_default}
-use Rattle.byte_devices.specs.declared.piece.Kind.{Kind}
+use Rattle.byte_devices.specs.declared.piece.PieceKind.{PieceKind}
 use Rattle.byte_devices.specs.declared.piece.Piece.{Piece}
 use Rattle.byte_devices.specs.Pieces.{PieceData, piece, goes_on, with_bytes}
 use Rattle.byte_devices.specs.PiecesView.{piece_view, pieces_view}
@@ -39,7 +39,7 @@ kept_as_it_was items n p new e some is same =
     ∙ sym (last_is items n p e some is)
 
 -- bytes were put behind it
-pub went_on : (kind : Kind) (items : List Piece) (n : ℕ) (x p : Piece) (new : Vec ℕ Global) (bytes : List ℕ) → n ≡ length items → 0 < n
+pub went_on : (kind : PieceKind) (items : List Piece) (n : ℕ) (x p : Piece) (new : Vec ℕ Global) (bytes : List ℕ) → n ≡ length items → 0 < n
     → x ≡ get_or items (n - 1) x → p ≡ get_or items (n - 1) p → goes_on x.kind kind ≡ true → new.items ≡ p.bytes.items ++ bytes
     → pieces_view (set items (n - 1) (record { kind = p.kind; bytes = new })) ≡ with_bytes kind (pieces_view items) bytes
 went_on kind items n x p new bytes e some xs is h more =
@@ -51,7 +51,7 @@ went_on kind items n x p new bytes e some xs is h more =
     ∙ ap (λ v. with_bytes kind v bytes) (sym (last_is items n p e some is))
 
 -- bytes are a piece of their own behind the last
-pub behind_last : (kind : Kind) (items : List Piece) (n : ℕ) (x : Piece) (bytes : List ℕ) → n ≡ length items → 0 < n → x ≡ get_or items (n - 1) x
+pub behind_last : (kind : PieceKind) (items : List Piece) (n : ℕ) (x : Piece) (bytes : List ℕ) → n ≡ length items → 0 < n → x ≡ get_or items (n - 1) x
     → goes_on x.kind kind ≡ false → goes_on kind kind ≡ true → (length bytes == 0) ≡ false
     → pieces_view items ++ piece kind bytes ∷ [] ≡ with_bytes kind (pieces_view items) bytes
 behind_last kind items n x bytes e some is h k long =
@@ -60,7 +60,7 @@ behind_last kind items n x bytes e some is h k long =
     ∙ ap (λ v. with_bytes kind v bytes) (sym (last_is items n x e some is))
 
 -- or the first piece
-pub as_first : (kind : Kind) (items : List Piece) (bytes : List ℕ) → length items ≡ 0 → goes_on kind kind ≡ true → (length bytes == 0) ≡ false
+pub as_first : (kind : PieceKind) (items : List Piece) (bytes : List ℕ) → length items ≡ 0 → goes_on kind kind ≡ true → (length bytes == 0) ≡ false
     → pieces_view items ++ piece kind bytes ∷ [] ≡ with_bytes kind (pieces_view items) bytes
 as_first kind [] bytes e k long = sym (first_piece kind bytes long k)
 as_first kind (x ∷ items) bytes e k long = absurd (omega arith)

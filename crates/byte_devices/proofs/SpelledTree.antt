@@ -6,7 +6,7 @@ use Rattle.std.proofs.lemmas.Grind.{flat_map-append}
 use Rattle.std.proofs.lemmas.List.{drop-drop, drop_all, drop_more, length-drop, take_rest, take_at, take_all, take_more, take-append-drop, append_cancel_left, map-append}
 use Rattle.ports.specs.Tree.{file_at}
 use Rattle.byte_devices.specs.Slices.{AreNamed, HasNoFirst, IsFirst, Spells}
-use Rattle.byte_devices.specs.Texts.{BeginsWith, ended}
+use Rattle.byte_devices.specs.Texts.{BeginsWith, null_terminated_text}
 use Rattle.byte_devices.proofs.Named.{AreNamed-push, none_before, text_in}
 use Rattle.byte_devices.proofs.Zeros.{cut_same}
 
@@ -14,7 +14,7 @@ abbrev pub Files : Type 0
 Files = List (List ℕ × List ℕ)
 
 abbrev pub path_bytes : List ℕ × List ℕ → List ℕ
-path_bytes file = ended file.0
+path_bytes file = null_terminated_text file.0
 
 abbrev pub size_of : List ℕ × List ℕ → ℕ
 size_of file = length file.1
@@ -51,7 +51,7 @@ pub one_read : (paths sizes contents : List ℕ) (i path_at byte_at : ℕ) (done
 one_read paths sizes contents i path_at byte_at done new size path bytes r less at_i first fresh is =
     let begins = subst (λ s. BeginsWith s path) (take_rest paths path_at) first.path_first in
     let cut = subst (λ s. s ≡ bytes ++ drop size s) (take_rest contents byte_at) first.bytes_first in
-    let path_rest : drop path_at paths ≡ ended path ++ drop (path_at + (length path + 1)) paths =
+    let path_rest : drop path_at paths ≡ null_terminated_text path ++ drop (path_at + (length path + 1)) paths =
     begins.parts ∙ ap (λ s. path ++ 0 ∷ s) (drop-drop (length path + 1) path_at paths) ∙ sym (append_assoc path (0 ∷ []) _) in
     let byte_rest : drop byte_at contents ≡ bytes ++ drop (byte_at + length bytes) contents =
     cut ∙ ap (λ n. bytes ++ drop n (drop byte_at contents)) (sym first.long) ∙ ap (λ s. bytes ++ s) (drop-drop (length bytes) byte_at contents) in
@@ -62,7 +62,7 @@ one_read paths sizes contents i path_at byte_at done new size path bytes r less 
           ∙ sym (map-append size_of done ((path, bytes) ∷ []));
       read_contents = pushed bytes_of contents byte_at (length bytes) done (path, bytes) r.read_contents byte_rest;
       good = AreNamed-push done path bytes r.good begins.is_text fresh;
-      paths_within = omega (arith, r.paths_within, ap length path_rest, length-drop path_at paths, length-append (ended path) (drop (path_at + (length path + 1)) paths), length-append path (0 ∷ []));
+      paths_within = omega (arith, r.paths_within, ap length path_rest, length-drop path_at paths, length-append (null_terminated_text path) (drop (path_at + (length path + 1)) paths), length-append path (0 ∷ []));
       contents_within = omega (arith, r.contents_within, ap length byte_rest, length-drop byte_at contents, length-append bytes (drop (byte_at + length bytes) contents));
     })
 
@@ -80,7 +80,7 @@ tree_left [] files paths sizes contents d f p s c = record { more = files; is = 
 tree_left (x ∷ done) [] paths sizes contents d f p s c = absurd (cc)
 tree_left (x ∷ done) (y ∷ files) paths sizes contents d f p s c =
     let here : x.0 ++ 0 ∷ (flat_map path_bytes done ++ paths) ≡ y.0 ++ 0 ∷ flat_map path_bytes files =
-    sym (append_assoc x.0 (0 ∷ []) (flat_map path_bytes done ++ paths)) ∙ sym (append_assoc (ended x.0) (flat_map path_bytes done) paths) ∙ p
+    sym (append_assoc x.0 (0 ∷ []) (flat_map path_bytes done ++ paths)) ∙ sym (append_assoc (null_terminated_text x.0) (flat_map path_bytes done) paths) ∙ p
     ∙ append_assoc y.0 (0 ∷ []) (flat_map path_bytes files) in
     let cut = cut_same x.0 y.0 _ _ d.0 f.0 here in
     let long : length x.1 ≡ length y.1 = cc in
@@ -110,7 +110,7 @@ record Next (done files : Files) (paths : List ℕ) (size : ℕ) (contents : Lis
   bytes : List ℕ
   after : Files
   is : files ≡ done ++ (path, bytes) ∷ after
-  next_path : paths ≡ ended path ++ flat_map path_bytes after
+  next_path : paths ≡ null_terminated_text path ++ flat_map path_bytes after
   next_size : length bytes ≡ size
   next_bytes : contents ≡ bytes ++ flat_map bytes_of after
 

@@ -2,34 +2,35 @@
 use Rattle.std.specs.Prelude.{ℕ, Bool, true, false, List, [], ◌∷◌, ◌++◌, fold, if◌then◌else◌}
 use Rattle.std.specs.List.{flat_map}
 use Rattle.ports.specs.Outputs as outputs
-use Rattle.ports.specs.Outputs.{Event, Step, opening, closing, puts, logs, faults}
-use Rattle.byte_devices.specs.declared.piece.Kind.{Kind}
-use Rattle.byte_devices.specs.declared.piece.Kind.TheVariants.{Open, Bytes, Close, Log, Fault}
+use Rattle.ports.specs.Outputs.{Event, Step, opening_steps, closing_steps, puts, logs, faults}
+use Rattle.byte_devices.specs.declared.piece.PieceKind.{PieceKind}
+use Rattle.byte_devices.specs.declared.piece.PieceKind.TheVariants.{Open, Bytes, Close, Log, Fault}
 
--- What a piece is of, and its bytes: the name of an output that was begun, or what was written.
+-- A piece of the events: its kind, and its bytes, which are the name of an output that was opened or the bytes that were written.
 pub record PieceData : Type 0 where
-  pub kind : Kind
+  pub kind : PieceKind
   pub bytes : List ℕ
 
-abbrev pub piece : Kind → List ℕ → PieceData
+-- Returns the piece of this kind with these bytes.
+abbrev pub piece : PieceKind → List ℕ → PieceData
 piece kind bytes = record { kind = kind; bytes = bytes }
 
 -- Returns whether bytes of the second kind continue a piece of the first.
-abbrev pub goes_on : Kind → Kind → Bool
+abbrev pub goes_on : PieceKind → PieceKind → Bool
 goes_on Bytes Bytes = true
 goes_on Log Log = true
 goes_on Fault Fault = true
 goes_on kind next = false
 
 -- Returns the pieces with one more byte of this kind.
-abbrev pub with_byte : Kind → List PieceData → ℕ → List PieceData
+abbrev pub with_byte : PieceKind → List PieceData → ℕ → List PieceData
 with_byte kind [] byte = piece kind (byte ∷ []) ∷ []
 with_byte kind (p ∷ []) byte =
     if goes_on p.kind kind then piece p.kind (p.bytes ++ byte ∷ []) ∷ [] else p ∷ piece kind (byte ∷ []) ∷ []
 with_byte kind (p ∷ q ∷ ps) byte = p ∷ with_byte kind (q ∷ ps) byte
 
 -- Returns the pieces with more bytes of this kind.
-abbrev pub with_bytes : Kind → List PieceData → List ℕ → List PieceData
+abbrev pub with_bytes : PieceKind → List PieceData → List ℕ → List PieceData
 with_bytes kind ps bytes = fold (with_byte kind) ps bytes
 
 -- Returns the pieces with one more event.
@@ -45,10 +46,10 @@ abbrev pub pieces_of : List Event → List PieceData
 pieces_of events = fold with_event [] events
 
 -- Returns the steps of bytes of this kind.
-unfoldable pub steps_of : Kind → List ℕ → List Step
-steps_of Open bytes = opening bytes
+unfoldable pub steps_of : PieceKind → List ℕ → List Step
+steps_of Open bytes = opening_steps bytes
 steps_of Bytes bytes = puts bytes
-steps_of Close bytes = closing
+steps_of Close bytes = closing_steps
 steps_of Log bytes = logs bytes
 steps_of Fault bytes = faults bytes
 

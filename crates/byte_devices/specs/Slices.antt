@@ -2,7 +2,7 @@
 use Rattle.std.specs.Prelude.{◌≡◌, ℕ, List, [], ◌∷◌, ◌++◌, map, drop, length, None}
 use Rattle.std.specs.List.{flat_map}
 use Rattle.ports.specs.Tree.{file_at}
-use Rattle.byte_devices.specs.Texts.{IsText, BeginsWith, ended}
+use Rattle.byte_devices.specs.Texts.{IsText, BeginsWith, null_terminated_text}
 
 -- Holds if the paths are texts, and no two of them are the same.
 abbrev pub AreNamed : List (List ℕ × List ℕ) → Type 0
@@ -11,7 +11,7 @@ AreNamed (file ∷ files) = IsText file.0 × (file_at files file.0 ≡ None) × 
 
 -- Holds if the slices spell these files: the paths, each ended by a zero byte; the sizes; and the contents, joined.
 pub record Spells (paths sizes contents : List ℕ) (files : List (List ℕ × List ℕ)) : Type 0 where
-  pub are_paths : paths ≡ flat_map (λ file. ended file.0) files
+  pub are_paths : paths ≡ flat_map (λ file. null_terminated_text file.0) files
   pub are_sizes : sizes ≡ map (λ file. length file.1) files
   pub are_contents : contents ≡ flat_map (λ file. file.1) files
   pub named : AreNamed files
@@ -25,5 +25,6 @@ pub record IsFirst (paths : List ℕ) (size : ℕ) (contents : List ℕ) (path b
 
 -- Holds if no file of this size is first.
 abbrev pub HasNoFirst : List ℕ → ℕ → List ℕ → Type 0
-HasNoFirst paths size contents = (path bytes more rest : List ℕ) → IsText path → paths ≡ ended path ++ more → length bytes ≡ size
+HasNoFirst paths size contents = (path bytes more rest : List ℕ) → IsText path → paths ≡ null_terminated_text path ++ more
+    → length bytes ≡ size
     → contents ≡ bytes ++ rest → ⊥

@@ -12,17 +12,18 @@ pub record IsText (bytes : List ℕ) : Type 0 where
   pub utf8 : IsUtf8 bytes
   pub nonzero : list_any is_zero bytes ≡ false
 
+-- Holds if each of the texts is UTF-8 and has no zero byte.
 abbrev pub AreTexts : List (List ℕ) → Type 0
 AreTexts [] = Unit {0}
 AreTexts (text ∷ more) = IsText text × AreTexts more
 
 -- Returns a text and the zero byte that ends it.
-abbrev pub ended : List ℕ → List ℕ
-ended text = text ++ 0 ∷ []
+abbrev pub null_terminated_text : List ℕ → List ℕ
+null_terminated_text text = text ++ 0 ∷ []
 
 -- Holds if the bytes are these texts, each ended by a zero byte.
 pub record SpellsTexts (bytes : List ℕ) (texts : List (List ℕ)) : Type 0 where
-  pub joined : bytes ≡ flat_map ended texts
+  pub joined : bytes ≡ flat_map null_terminated_text texts
   pub are_texts : AreTexts texts
 
 -- Holds if the bytes begin with this text, and the zero byte that ends it.

@@ -13,6 +13,6 @@ mod text;
 mod tree;
 
 pub use outputs::KeptOutputs;
-pub use piece::{Kind, Piece};
+pub use piece::{Piece, PieceKind};
 pub use text::{TextsFault, texts};
 pub use tree::{SliceTree, TreeFault};

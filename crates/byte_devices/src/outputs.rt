@@ -1,12 +1,12 @@
 //! Keeps what a run writes as pieces.
 ghost use Rattle.std.specs.Prelude.{◌≡◌, ◌∷◌, [], ℕ, List};
 ghost use Rattle.std.proofs.Props.{props};
-ghost use Rattle.ports.specs.Outputs.{told};
+ghost use Rattle.ports.specs.Outputs.{events_of_steps};
 ghost use Rattle.std.specs.Prelude.{None};
 ghost use Rattle.byte_devices.specs.Pieces.{pieces_of, steps_in};
 ghost use Rattle.byte_devices.specs.PiecesView.{pieces_view};
 
-use crate::piece::{Kind, Piece, keep_bytes, keep_piece};
+use crate::piece::{Piece, PieceKind, keep_bytes, keep_piece};
 use ports::{DeviceFault, Outputs};
 use std::alloc::Global;
 
@@ -16,7 +16,8 @@ pub struct KeptOutputs {
     alloc: Global,
     pieces: Vec<Piece>,
     failures: u64,
-    ghost joined: { pieces_of (told None (steps_in (pieces_view pieces.items))) ≡ pieces_view pieces.items } by { Prim.hlevel props },
+    ghost joined: { pieces_of (events_of_steps None (steps_in (pieces_view pieces.items)))
+        ≡ pieces_view pieces.items } by { Prim.hlevel props },
 }
 
 impl KeptOutputs {
@@ -53,7 +54,12 @@ impl Outputs for KeptOutputs {
     }
 
     fn open(&mut self, name: &str) -> Result<(), DeviceFault> {
-        match keep_piece(self.alloc, &mut self.pieces, Kind::Open, name.as_bytes()) {
+        match keep_piece(
+            self.alloc,
+            &mut self.pieces,
+            PieceKind::Open,
+            name.as_bytes(),
+        ) {
             Ok(()) => Ok(()),
             Err(_) => {
                 self.failures += 1;
@@ -63,7 +69,7 @@ impl Outputs for KeptOutputs {
     }
 
     fn close(&mut self) -> Result<(), DeviceFault> {
-        match keep_piece(self.alloc, &mut self.pieces, Kind::Close, &[]) {
+        match keep_piece(self.alloc, &mut self.pieces, PieceKind::Close, &[]) {
             Ok(()) => Ok(()),
             Err(_) => {
                 self.failures += 1;
@@ -73,7 +79,7 @@ impl Outputs for KeptOutputs {
     }
 
     fn put(&mut self, bytes: &[u8]) -> Result<usize, DeviceFault> {
-        match keep_bytes(self.alloc, &mut self.pieces, Kind::Bytes, bytes) {
+        match keep_bytes(self.alloc, &mut self.pieces, PieceKind::Bytes, bytes) {
             Ok(()) => Ok(bytes.len()),
             Err(_) => {
                 self.failures += 1;
@@ -83,7 +89,7 @@ impl Outputs for KeptOutputs {
     }
 
     fn log(&mut self, bytes: &[u8]) -> Result<usize, DeviceFault> {
-        match keep_bytes(self.alloc, &mut self.pieces, Kind::Log, bytes) {
+        match keep_bytes(self.alloc, &mut self.pieces, PieceKind::Log, bytes) {
             Ok(()) => Ok(bytes.len()),
             Err(_) => {
                 self.failures += 1;
@@ -93,7 +99,7 @@ impl Outputs for KeptOutputs {
     }
 
     fn fault(&mut self, bytes: &[u8]) -> Result<usize, DeviceFault> {
-        match keep_bytes(self.alloc, &mut self.pieces, Kind::Fault, bytes) {
+        match keep_bytes(self.alloc, &mut self.pieces, PieceKind::Fault, bytes) {
             Ok(()) => Ok(bytes.len()),
             Err(_) => {
                 self.failures += 1;

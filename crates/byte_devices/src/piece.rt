@@ -7,7 +7,7 @@ use std::alloc::{AllocError, Global};
 
 /// Says what a piece is.
 #[derive(Clone, Copy, Debug, PartialEq, Eq)]
-pub enum Kind {
+pub enum PieceKind {
     /// An output was begun: the bytes are its name.
     Open,
     /// Bytes of the open output.
@@ -23,16 +23,18 @@ pub enum Kind {
 /// Holds what was written, of one kind.
 #[derive(Drop)]
 pub struct Piece {
-    pub kind: Kind,
+    pub kind: PieceKind,
     pub bytes: Vec<u8>,
 }
 
 // Returns whether bytes of the second kind continue a piece of the first.
-fn goes_on(kind: Kind, next: Kind) -> bool
+fn goes_on(kind: PieceKind, next: PieceKind) -> bool
     ensures { result ≡ goes_on kind next }
 {
     match (kind, next) {
-        (Kind::Bytes, Kind::Bytes) | (Kind::Log, Kind::Log) | (Kind::Fault, Kind::Fault) => true,
+        (PieceKind::Bytes, PieceKind::Bytes)
+        | (PieceKind::Log, PieceKind::Log)
+        | (PieceKind::Fault, PieceKind::Fault) => true,
         _ => false,
     }
 }
@@ -41,7 +43,7 @@ fn goes_on(kind: Kind, next: Kind) -> bool
 pub(crate) fn keep_piece(
     alloc: Global,
     pieces: &mut Vec<Piece>,
-    kind: Kind,
+    kind: PieceKind,
     bytes: &[u8],
 ) -> Result<(), AllocError>
     ensures kept { OnOk result (pieces_view pieces.new.items ≡ pieces_view pieces.old.items ++ piece kind bytes.now ∷ []) }
@@ -56,7 +58,7 @@ pub(crate) fn keep_piece(
 pub(crate) fn keep_bytes(
     alloc: Global,
     pieces: &mut Vec<Piece>,
-    kind: Kind,
+    kind: PieceKind,
     bytes: &[u8],
 ) -> Result<(), AllocError>
     requires { goes_on kind kind ≡ true }

@@ -16,8 +16,8 @@ use thiserror::Error;
 /// Says why slices are no tree.
 #[derive(Clone, Copy, Debug, PartialEq, Eq, Drop, Error)]
 pub enum TreeFault {
-    /// The slices spell no tree: a path isn't UTF-8 or has no zero byte after it, two paths are the same, or there are fewer or more paths
-    /// or contents than the sizes say.
+    /// The slices spell no tree. A path isn't UTF-8 or has no zero byte after it, two paths are the same, or the sizes give another number
+    /// of paths or contents.
     #[error("the slices spell no tree of files")]
     Slices,
     /// Memory ran out.

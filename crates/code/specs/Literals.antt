@@ -4,21 +4,21 @@ use Rattle.syntax.specs.declared.tree.Literal.{Literal}
 use Rattle.syntax.specs.declared.tree.Literal.TheVariants as literals
 use Rattle.syntax.specs.lexer.Numerals.{magnitude}
 use Rattle.syntax.specs.lexer.Texts.{text_of}
-use Rattle.syntax.specs.declared.lexer.token.Kind.{Kind}
-use Rattle.syntax.specs.declared.lexer.token.Kind.TheVariants as kinds
-use Rattle.code.specs.FormatStrings.{written}
-use Rattle.code.specs.declared.literal.Meaning.{Meaning}
-use Rattle.code.specs.declared.literal.Meaning.TheVariants as meanings
+use Rattle.syntax.specs.declared.lexer.token.TokenKind.{TokenKind}
+use Rattle.syntax.specs.declared.lexer.token.TokenKind.TheVariants as kinds
+use Rattle.code.specs.FormatStrings.{text_of_parts}
+use Rattle.code.specs.declared.literal.LiteralValue.{LiteralValue}
+use Rattle.code.specs.declared.literal.LiteralValue.TheVariants as meanings
 use Rattle.code.specs.declared.literal.Spelling.{Spelling}
 use Rattle.code.specs.declared.literal.Spelling.TheVariants as spellings
 
 -- Returns the bytes of a literal as it is spelled in the source.
-abbrev pub spelled : Spelling → List ℕ
-spelled (spellings.Short t) = t
-spelled (spellings.Long t) = string_bytes t
+abbrev pub bytes_of_literal : Spelling → List ℕ
+bytes_of_literal (spellings.Short t) = t
+bytes_of_literal (spellings.Long t) = string_bytes t
 
 -- Returns the kind of token of a literal.
-abbrev pub kind_of : Literal → Kind
+abbrev pub kind_of : Literal → TokenKind
 kind_of literals.True = kinds.True
 kind_of literals.False = kinds.False
 kind_of literals.Number = kinds.Number
@@ -51,10 +51,11 @@ is_format literals.RawFormatString = true
 is_format _ = false
 
 -- Holds if this is the meaning of a literal with this spelling.
-abbrev pub means : Literal → List ℕ → Meaning → Bool
+abbrev pub means : Literal → List ℕ → LiteralValue → Bool
 means literal source (meanings.Boolean b) = is_boolean b literal
 means literal source (meanings.Integer n) = is_number literal && (n == magnitude source)
 means literal source (meanings.Short t) = is_plain literal && bytes_eq t (text_of (kind_of literal) source)
 means literal source (meanings.Text t) = is_plain literal && bytes_eq t.value (text_of (kind_of literal) source)
-means literal source (meanings.Format f) = is_format literal && bytes_eq (written f.value.parts.items) (text_of (kind_of literal) source)
+means literal source (meanings.Format f) =
+    is_format literal && bytes_eq (text_of_parts f.value.parts.items) (text_of (kind_of literal) source)
 means literal source (meanings.Source t) = not (is_format literal) && bytes_eq (string_bytes t.value) source

@@ -4,7 +4,7 @@ use Rattle.std.specs.List.{list_all}
 use Rattle.syntax.specs.ExpressionTree.{ExpressionTree, EntryTree, ArgumentTree, OperandTree, LinkTree, NameTree, LiteralTree, ListTree}
 use Rattle.syntax.specs.ExpressionTree.{DictionaryTree, FunctionTree, PostfixTree, PrefixTree, ChainTree, TernaryTree, MethodTree}
 use Rattle.syntax.specs.ExpressionTree.{IndexTree, expressions, entries, arguments, links, operands}
-use Rattle.code.specs.Literals.{spelled}
+use Rattle.code.specs.Literals.{bytes_of_literal}
 use Rattle.code.specs.declared.node.Node.{Node}
 use Rattle.code.specs.declared.node.Node.TheVariants as flat
 use Rattle.code.specs.declared.node.EntryNode.{EntryNode}
@@ -37,7 +37,7 @@ link_at ts (Index i) = IndexTree (tree_at ts i)
 -- Returns the tree of a node, given the table of names and the trees of the nodes before it.
 abbrev pub tree_of : List (List ℕ) → List ExpressionTree → Node → ExpressionTree
 tree_of names ts (flat.Name number line) = NameTree (slice_index_or names number []) line
-tree_of names ts (flat.Literal line node) = LiteralTree node.literal (spelled node.source.value) line
+tree_of names ts (flat.Literal line node) = LiteralTree node.literal (bytes_of_literal node.source.value) line
 tree_of names ts (flat.List items line) = ListTree (expressions (map (tree_at ts) items.items)) line
 tree_of names ts (flat.Dictionary es line) = DictionaryTree (entries (map (entry_at ts) es.items)) line
 tree_of names ts (flat.Call call line) =

@@ -5,7 +5,7 @@ ghost use Rattle.code.specs.Statements.{all_placed};
 
 use crate::node::{Node, StatementNode};
 
-/// A build file as flat lists. An expression is identified by its index in `nodes` and a statement by its index in `statements`.
+/// Holds a definition file as flat lists. An expression is identified by its index in `nodes` and a statement by its index in `statements`.
 ///
 /// Each comes after its parts, so a walk over parts ends. Names are indexes into a table of names.
 pub struct Code {

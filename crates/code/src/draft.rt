@@ -7,7 +7,7 @@ use crate::names::Names;
 use crate::node::Node;
 use std::alloc::{AllocError, Global};
 
-/// The nodes so far, with the table of the names that they use.
+/// Holds the nodes so far, with the table of the names that they use.
 #[derive(Drop)]
 pub struct Draft {
     pub alloc: Global,

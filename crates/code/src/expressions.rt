@@ -8,7 +8,7 @@ ghost use Rattle.code.specs.Nodes.{argument_at, link_at, argument_within, link_w
 
 use crate::draft::Draft;
 use crate::literal::LiteralNode;
-use crate::narrow::narrow;
+use crate::narrow_numbers::narrow;
 use crate::node::{ArgumentNode, CallNode, EntryNode, LinkNode, Node, OperandNode};
 use std::alloc::{AllocError, Global};
 use syntax::tree::{Argument, Entry, Expression, Link, Literal, Operand, Prefix};

@@ -9,7 +9,7 @@ use crate::node::StatementNode;
 use std::alloc::{AllocError, Global};
 use syntax::tree::Expression;
 
-/// The expressions and statements so far.
+/// Holds the expressions and statements so far.
 #[derive(Drop)]
 pub struct FileDraft {
     pub draft: Draft,

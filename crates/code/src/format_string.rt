@@ -1,13 +1,13 @@
 //! Splits f-strings into their parts.
 ghost use Rattle.std.specs.Prelude.{◌≡◌, IfOk, map};
 ghost use Rattle.values.specs.texts.Segments.{segment_data};
-ghost use Rattle.code.specs.FormatStrings.{is_split, part_data, written};
+ghost use Rattle.code.specs.FormatStrings.{is_split, part_data, text_of_parts};
 
 use crate::names::Names;
 use std::alloc::{AllocError, Global};
 use values::texts::{Places, Segment, segments};
 
-/// A part of an f-string.
+/// Holds a part of an f-string.
 #[derive(Drop)]
 pub enum Part {
     /// The text between placeholders. It is not empty.
@@ -16,7 +16,7 @@ pub enum Part {
     Place { name: String, number: Option<usize> },
 }
 
-/// An f-string, by its parts after its escapes are decoded.
+/// Holds an f-string, by its parts after its escapes are decoded.
 #[derive(Drop)]
 pub struct FormatString {
     pub parts: Vec<Part>,
@@ -53,7 +53,7 @@ fn own_parts(
 impl FormatString {
     /// Returns the f-string with this text, whose escapes are decoded, and looks its names up in a table.
     pub fn new(alloc: Global, names: &Names, text: &str) -> Result<FormatString, AllocError>
-        ensures { IfOk result (λ f. written f.parts.items ≡ text.now) }
+        ensures { IfOk result (λ f. text_of_parts f.parts.items ≡ text.now) }
     {
         let segments = segments(alloc, Places::Names, text)?;
         let parts = own_parts(alloc, names, &segments)?;

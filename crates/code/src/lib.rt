@@ -1,7 +1,7 @@
-//! Defines build files as code: the syntax tree of a file as flat lists, in which parts are referred to by number, with the names in one
-//! table.
+//! Represents definition files as code: the syntax tree of a file as flat lists, in which parts are referred to by number, with the names
+//! in one table.
 //!
-//! [`flatten`] makes the [`Code`] of a [`syntax::tree::File`]. The code owns the meaning of its literals, so the source can be dropped.
+//! [`flatten`] makes the [`Code`] of a [`syntax::tree::File`]. The code owns the values of its literals, so the source can be dropped.
 //! Evaluation walks this code: a frame there has the code and numbers, and no reference into a tree.
 //!
 //! # Decisions
@@ -12,7 +12,7 @@
 //!
 //! **Nodes are small.** A source may have a statement for every two bytes. So a statement takes 16 bytes and an expression 40: what is
 //! larger is boxed, and numbers have 32 bits where that makes a node smaller. A larger number, which no file of 16 MiB needs, is reported
-//! as out of memory. A literal keeps its meaning and not its text, which only proofs read.
+//! as out of memory. A literal keeps its value and not its text, which only proofs read.
 //!
 //! **The contract covers the tree of the code, not the number of nodes.** The contract of [`flatten`] gives the tree that the code means,
 //! and says that nodes come after their parts. It does not say that every node is part of the tree: a draft that makes each node twice
@@ -29,15 +29,15 @@ mod draft;
 mod expressions;
 mod file_draft;
 mod format_string;
+mod from_tree;
 mod literal;
-mod making;
 mod names;
-mod narrow;
+mod narrow_numbers;
 pub mod node;
 mod statements;
 
 pub use code::Code;
 pub use format_string::{FormatString, Part};
-pub use literal::{LiteralNode, Meaning, Spelling};
-pub use making::{flatten, names_may_grow};
+pub use from_tree::{flatten, names_may_grow};
+pub use literal::{LiteralNode, LiteralValue, Spelling};
 pub use names::Names;

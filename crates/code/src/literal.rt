@@ -3,21 +3,21 @@ ghost use Rattle.std.specs.Prelude.{◌≡◌, false, IfOk, IfSome, IsTrue};
 ghost use Rattle.std.specs.Option.{ForSome};
 ghost use Rattle.syntax.specs.lexer.Numerals.{magnitude};
 ghost use Rattle.syntax.specs.lexer.Texts.{text_of};
-ghost use Rattle.code.specs.Literals.{is_format, is_number, is_plain, kind_of, means, spelled};
+ghost use Rattle.code.specs.Literals.{is_format, is_number, is_plain, kind_of, means, bytes_of_literal};
 
 use crate::format_string::FormatString;
 use crate::names::Names;
 use std::alloc::{AllocError, Global};
 use std::snapshot::Snapshot;
-use syntax::lexer::token::Kind;
+use syntax::lexer::token::TokenKind;
 use syntax::lexer::{magnitude, text_in_slice, text_of_slice};
 use syntax::tree::Literal;
 use values::{Short, Text};
 
-/// The meaning of a literal, or its text if the meaning is not kept. A short text is inline, and anything longer is boxed, so that no node
-/// grows.
+/// Holds the value of a literal, or its text if the value is not kept. A short text is inline, and anything longer is boxed, so that no
+/// node grows.
 #[derive(Drop)]
-pub enum Meaning {
+pub enum LiteralValue {
     /// `true` or `false`.
     Boolean(bool),
     /// The number that the literal spells.
@@ -32,35 +32,35 @@ pub enum Meaning {
     Source(Box<String>),
 }
 
-/// A literal as it is spelled in the source: a string includes its quotes. A short one is not allocated.
+/// Holds a literal as it is spelled in the source: a string includes its quotes. A short one is not allocated.
 #[derive(Drop)]
 pub enum Spelling {
     Short(Text),
     Long(String),
 }
 
-/// A literal with its meaning, so that evaluation need not read its text again.
+/// Holds a literal with its value, so that evaluation need not read its text again.
 #[derive(Drop)]
 pub struct LiteralNode {
     pub literal: Literal,
-    pub meaning: Meaning,
+    pub meaning: LiteralValue,
     /// The literal as it is spelled in the source. Only proofs read it, and it takes no memory.
     pub source: Snapshot<Spelling>,
-    pub ghost stands: { IsTrue (means literal (spelled source.value) meaning) },
+    pub ghost stands: { IsTrue (means literal (bytes_of_literal source.value) meaning) },
 }
 
 // Returns the kind of token of a literal.
-fn kind_of(literal: Literal) -> Kind
+fn kind_of(literal: Literal) -> TokenKind
     ensures { result ≡ kind_of literal }
 {
     match literal {
-        Literal::True => Kind::True,
-        Literal::False => Kind::False,
-        Literal::Number => Kind::Number,
-        Literal::String => Kind::String,
-        Literal::RawString => Kind::RawString,
-        Literal::FormatString => Kind::FormatString,
-        Literal::RawFormatString => Kind::RawFormatString,
+        Literal::True => TokenKind::True,
+        Literal::False => TokenKind::False,
+        Literal::Number => TokenKind::Number,
+        Literal::String => TokenKind::String,
+        Literal::RawString => TokenKind::RawString,
+        Literal::FormatString => TokenKind::FormatString,
+        Literal::RawFormatString => TokenKind::RawFormatString,
     }
 }
 
@@ -103,7 +103,7 @@ fn decode(alloc: Global, literal: Literal, text: &str) -> Result<Option<Box<Text
 
 // Returns the spelling of a literal.
 fn spelling_of(alloc: Global, text: &str) -> Result<Spelling, AllocError>
-    ensures { IfOk result (λ s. spelled s ≡ text.now) }
+    ensures { IfOk result (λ s. bytes_of_literal s ≡ text.now) }
 {
     match Text::of_short(text) {
         Some(text) => Ok(Spelling::Short(text)),
@@ -112,56 +112,66 @@ fn spelling_of(alloc: Global, text: &str) -> Result<Spelling, AllocError>
 }
 
 // Returns a literal as it is spelled in the source.
-fn unread(alloc: Global, literal: Literal, text: &str) -> Result<Meaning, AllocError>
+fn unread(alloc: Global, literal: Literal, text: &str) -> Result<LiteralValue, AllocError>
     requires { is_format literal ≡ false }
     ensures { IfOk result (λ m. IsTrue (means literal text.now m)) }
 {
     let text = String::from_str(alloc, text)?;
-    Ok(Meaning::Source(Box::new(alloc, text)?))
+    Ok(LiteralValue::Source(Box::new(alloc, text)?))
 }
 
-// Returns the meaning of a number.
-fn number(alloc: Global, literal: Literal, text: &str) -> Result<Meaning, AllocError>
+// Returns the value of a number.
+fn number(alloc: Global, literal: Literal, text: &str) -> Result<LiteralValue, AllocError>
     requires { IsTrue (is_number literal) }
     ensures { IfOk result (λ m. IsTrue (means literal text.now m)) }
 {
     match small_number(text) {
-        Some(n) => Ok(Meaning::Integer(n)),
+        Some(n) => Ok(LiteralValue::Integer(n)),
         None => unread(alloc, literal, text),
     }
 }
 
-// Returns the meaning of a string that is no f-string.
-fn plain(alloc: Global, literal: Literal, text: &str) -> Result<Meaning, AllocError>
+// Returns the value of a string that is no f-string.
+fn plain(alloc: Global, literal: Literal, text: &str) -> Result<LiteralValue, AllocError>
     requires { IsTrue (is_plain literal) }
     ensures { IfOk result (λ m. IsTrue (means literal text.now m)) }
 {
     if let Some(short) = short(literal, text) {
-        return Ok(Meaning::Short(short));
+        return Ok(LiteralValue::Short(short));
     }
     match decode(alloc, literal, text)? {
-        Some(decoded) => Ok(Meaning::Text(decoded)),
+        Some(decoded) => Ok(LiteralValue::Text(decoded)),
         None => unread(alloc, literal, text),
     }
 }
 
-// Returns the meaning of an f-string.
-fn format(alloc: Global, names: &Names, literal: Literal, text: &str) -> Result<Meaning, AllocError>
+// Returns the value of an f-string.
+fn format(
+    alloc: Global,
+    names: &Names,
+    literal: Literal,
+    text: &str,
+) -> Result<LiteralValue, AllocError>
     requires { IsTrue (is_format literal) }
     ensures { IfOk result (λ m. IsTrue (means literal text.now m)) }
 {
     let text = text_of_slice(alloc, kind_of(literal), text)?;
     let format = FormatString::new(alloc, names, text.as_str())?;
-    Ok(Meaning::Format(Box::new(alloc, format)?))
+    Ok(LiteralValue::Format(Box::new(alloc, format)?))
 }
 
-// Returns the meaning of a literal.
-fn read(alloc: Global, names: &Names, literal: Literal, text: &str) -> Result<Meaning, AllocError>
+// Returns the value of a literal.
+fn read(
+    alloc: Global,
+    names: &Names,
+    literal: Literal,
+    text: &str,
+) -> Result<LiteralValue, AllocError>
     ensures { IfOk result (λ m. IsTrue (means literal text.now m)) }
 {
     match literal {
-        Literal::True => Ok(Meaning::Boolean(true)),
-        Literal::False => Ok(Meaning::Boolean(false)),
+        Literal::True => Ok(LiteralValue::Boolean(true)),
+        Literal::False => Ok(LiteralValue::Boolean(false)),
         Literal::Number => number(alloc, literal, text),
         Literal::String => plain(alloc, literal, text),
         Literal::RawString => plain(alloc, literal, text),
@@ -179,7 +189,7 @@ impl LiteralNode {
         text: &str,
     ) -> Result<LiteralNode, AllocError>
         ensures literal { IfOk result (λ node. node.literal ≡ literal) }
-        ensures source { IfOk result (λ node. spelled node.source.value ≡ text.now) }
+        ensures source { IfOk result (λ node. bytes_of_literal node.source.value ≡ text.now) }
     {
         let spelling = spelling_of(alloc, text)?;
         let source = Snapshot::of(&spelling);

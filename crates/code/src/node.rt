@@ -4,7 +4,7 @@ use syntax::tree::{Operator, Prefix};
 use values::Text;
 use values::language_names::{FunctionName, MethodName};
 
-/// An expression, whose parts are given by their indexes in the list of nodes. Each node has the line of its first token.
+/// Holds an expression, whose parts are given by their indexes in the list of nodes. Each node has the line of its first token.
 #[derive(Drop)]
 pub enum Node {
     /// A name, by its index in the table of names.
@@ -59,35 +59,35 @@ pub enum Node {
     },
 }
 
-/// A call: the name of a function, and its arguments.
+/// Holds a call: the name of a function, and its arguments.
 #[derive(Drop)]
 pub struct CallNode {
     pub name: FunctionName,
     pub arguments: Vec<ArgumentNode>,
 }
 
-/// An operator and the value after it.
+/// Names an operator and the value after it.
 #[derive(Clone, Copy)]
 pub struct OperandNode {
     pub operator: Operator,
     pub value: usize,
 }
 
-/// `key : value`
+/// Holds an entry of a dictionary, `key : value`.
 #[derive(Clone, Copy)]
 pub struct EntryNode {
     pub key: usize,
     pub value: usize,
 }
 
-/// An argument, with its name if it is a keyword argument.
+/// Holds an argument, with its name if it is a keyword argument.
 #[derive(Drop)]
 pub struct ArgumentNode {
     pub name: Option<Text>,
     pub value: usize,
 }
 
-/// A link after a value.
+/// Holds a link after a value.
 #[derive(Drop)]
 pub enum LinkNode {
     /// `.name(argument)`
@@ -101,7 +101,7 @@ pub enum LinkNode {
     },
 }
 
-/// A statement, whose parts are given by their indexes. Each has the line of its first token.
+/// Holds a statement, whose parts are given by their indexes. Each has the line of its first token.
 #[derive(Drop)]
 pub enum StatementNode {
     /// `name = value`
@@ -120,7 +120,7 @@ pub enum StatementNode {
     Foreach { node: Box<ForeachNode> },
 }
 
-/// The branches of an `if` that have a condition, and the statements after `else`.
+/// Holds the branches of an `if` that have a condition, and the statements after `else`.
 #[derive(Drop)]
 pub struct IfNode {
     pub line: usize,
@@ -128,7 +128,7 @@ pub struct IfNode {
     pub otherwise: Vec<usize>,
 }
 
-/// The names of a `foreach`, its list, and the statements of a round.
+/// Holds the names of a `foreach`, its list, and the statements of a round.
 #[derive(Drop)]
 pub struct ForeachNode {
     pub line: usize,
@@ -140,7 +140,7 @@ pub struct ForeachNode {
     pub body: Vec<usize>,
 }
 
-/// A branch of an `if`: a condition, and the statements that run if it is true.
+/// Holds a branch of an `if`: a condition, and the statements that run if it is true.
 #[derive(Drop)]
 pub struct BranchNode {
     pub condition: usize,

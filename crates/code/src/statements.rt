@@ -8,7 +8,7 @@ ghost use Rattle.code.specs.Nodes.{are_below};
 ghost use Rattle.code.specs.Statements.{statement_at, set_node};
 
 use crate::file_draft::FileDraft;
-use crate::narrow::narrow;
+use crate::narrow_numbers::narrow;
 use crate::node::{BranchNode, ForeachNode, IfNode, StatementNode};
 use std::alloc::AllocError;
 use syntax::tree::{Branch, Expression, Statement};

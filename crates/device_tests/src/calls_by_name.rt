@@ -2,7 +2,7 @@
 
 use arguments::no_arguments;
 use interp::{CallName, call, lookup};
-use machine::machine_file::Machine;
+use machine_file::Machine;
 use ports::memory::{MemOutputs, MemTree};
 use std::alloc::{AllocError, Global};
 use std::rc::Rc;

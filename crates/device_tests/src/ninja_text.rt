@@ -1,7 +1,7 @@
 //! Tests the text of edges that no project has yet.
 ghost use Rattle.ports.specs.Endings.{HasRoom};
 
-use build::edge::{Edge, Rule, are_writable, can_hold_path, can_hold_value};
+use build::edge::{Edge, EdgeRule, are_writable, can_hold_path, can_hold_value};
 use ninja::{write_edge, write_path, write_value, write_words};
 use ports::memory::{Event, MemOutputs};
 use ports::{DeviceFault, Outputs};
@@ -93,7 +93,7 @@ fn write_block<O: Outputs>(edge: &Edge, out: &mut O) -> Result<(), DeviceFault>
 fn an_edge_with_blanks_and_quotes(rt: HostRuntime) -> Result<(), Fail> {
     let alloc = rt.alloc();
     let edge = Edge {
-        rule: Rule::CCompile,
+        rule: EdgeRule::CCompile,
         outputs: strings(alloc, &["q.p/a b:c$.c.o"])?,
         inputs: strings(alloc, &["../a b:c$.c"])?,
         implicit: strings(alloc, &["i"])?,

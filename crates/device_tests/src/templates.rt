@@ -145,8 +145,8 @@ fn ran(alloc: Global, plan: Plan) -> Result<Outcome, Fail> {
     Ok(judge(plan.fails.0, stop, shown.as_slice()))
 }
 
-// Returns the outcome of a run. What was written before a call of the outputs failed is less than all. A call of the tree may fail after
-// the last byte is written.
+// Returns the outcome of a run. If a call of the outputs failed, less than everything was written. A call of the tree may fail after the
+// last byte is written.
 fn judge(device: Device, stop: Option<PassStop>, shown: &[u8]) -> Outcome {
     let is_begun = WRITTEN.as_bytes().starts_with(shown);
     let is_whole = is_begun && shown.len() == WRITTEN.len();

@@ -2,15 +2,15 @@
 use Rattle.std.proofs.Common.{◌≡◌, ℕ, List, [], ◌∷◌, ◌++◌, length, refl, sym, ap, ◌∙◌, arith, append_assoc, length-append}
 use Rattle.std.specs.List.{flat_map}
 use Rattle.world.specs.MakingSettings.{settings_of}
-use Rattle.byte_devices.specs.Texts.{AreTexts, SpellsTexts, ended}
+use Rattle.byte_devices.specs.Texts.{AreTexts, SpellsTexts, null_terminated_text}
 use Rattle.byte_devices.proofs.Zeros.{cut_same}
 
-same : (texts others : List (List ℕ)) → AreTexts texts → AreTexts others → flat_map ended texts ≡ flat_map ended others → others ≡ texts
+same : (texts others : List (List ℕ)) → AreTexts texts → AreTexts others → flat_map null_terminated_text texts ≡ flat_map null_terminated_text others → others ≡ texts
 same [] [] t o e = refl
-same [] (x ∷ others) t o e = absurd (omega (arith, ap length e, length-append (ended x) (flat_map ended others), length-append x (0 ∷ [])))
-same (x ∷ texts) [] t o e = absurd (omega (arith, ap length e, length-append (ended x) (flat_map ended texts), length-append x (0 ∷ [])))
+same [] (x ∷ others) t o e = absurd (omega (arith, ap length e, length-append (null_terminated_text x) (flat_map null_terminated_text others), length-append x (0 ∷ [])))
+same (x ∷ texts) [] t o e = absurd (omega (arith, ap length e, length-append (null_terminated_text x) (flat_map null_terminated_text texts), length-append x (0 ∷ [])))
 same (x ∷ texts) (y ∷ others) t o e =
-    let cut = cut_same x y _ _ t.0 o.0 (sym (append_assoc x (0 ∷ []) (flat_map ended texts)) ∙ e ∙ append_assoc y (0 ∷ []) (flat_map ended others)) in
+    let cut = cut_same x y _ _ t.0 o.0 (sym (append_assoc x (0 ∷ []) (flat_map null_terminated_text texts)) ∙ e ∙ append_assoc y (0 ∷ []) (flat_map null_terminated_text others)) in
     let rest = same texts others t.1 o.1 cut.1 in
     λ j. sym cut.0 j ∷ rest j
 

@@ -1,11 +1,11 @@
 -- Defines what a call answers: the run of the tree that the slices spell.
 use Rattle.std.specs.Prelude.{◌≡◌, ℕ, List, None, length}
-use Rattle.ports.specs.Outputs.{told}
-use Rattle.outputs.specs.build_file.Concluding.{Whole}
-use Rattle.outputs.specs.declared.build_file.concluding.Status.{Status}
-use Rattle.outputs.specs.declared.build_file.concluding.Status.TheVariants as statuses
-use Rattle.command.specs.declared.line.Task.{Task}
-use Rattle.machine.specs.machine_file.Answers.{MachineSaid}
+use Rattle.ports.specs.Outputs.{events_of_steps}
+use Rattle.backend.specs.Concluding.{Whole}
+use Rattle.backend.specs.declared.run_end.Status.{Status}
+use Rattle.backend.specs.declared.run_end.Status.TheVariants as statuses
+use Rattle.command_line.specs.declared.line.Task.{Task}
+use Rattle.machine_file.specs.Answers.{MachineSaid}
 use Rattle.world.specs.Deed.{Files}
 use Rattle.world.specs.MakingSettings.{settings_of}
 use Rattle.meson.specs.Tasks.{run_by}
@@ -17,7 +17,7 @@ use Rattle.embedding.specs.declared.ending.Ending.TheVariants as ends
 
 -- Returns everything that a run writes, as bytes.
 abbrev pub answer_of : Whole → List ℕ
-answer_of run = encoding (told None run.steps)
+answer_of run = encoding (events_of_steps None run.steps)
 
 -- The status and the length are those of the run's answer, and the room begins with as much of the answer as fits.
 pub record Answers (run : Whole) (status : Status) (room : List ℕ) (len : ℕ) : Type 0 where

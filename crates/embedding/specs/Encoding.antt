@@ -2,13 +2,13 @@
 use Rattle.std.specs.Prelude.{◌≡◌, ℕ, List, ◌∷◌, ◌++◌, length, take}
 use Rattle.std.specs.List.{flat_map}
 use Rattle.std.specs.Int.{to_le_bytes, w64}
-use Rattle.byte_devices.specs.declared.piece.Kind.{Kind}
-use Rattle.byte_devices.specs.declared.piece.Kind.TheVariants.{Open, Bytes, Close, Log, Fault}
+use Rattle.byte_devices.specs.declared.piece.PieceKind.{PieceKind}
+use Rattle.byte_devices.specs.declared.piece.PieceKind.TheVariants.{Open, Bytes, Close, Log, Fault}
 use Rattle.byte_devices.specs.Pieces.{PieceData, pieces_of}
 use Rattle.ports.specs.Outputs.{Event}
 
 -- Returns the first byte of an event: `O`, `B`, `C`, `L` or `E`.
-abbrev pub kind_byte : Kind → ℕ
+abbrev pub kind_byte : PieceKind → ℕ
 kind_byte Open = 79
 kind_byte Bytes = 66
 kind_byte Close = 67

@@ -1,8 +1,9 @@
 -- Defines what a caller passes, without its place in memory.
 use Rattle.embedding.specs.Given.{GivenData}
-use Rattle.embedding.specs.declared.given.Given.{Given}
+use Rattle.embedding.specs.declared.input_slices.InputSlices.{InputSlices}
 
-abbrev pub given_view : Given → GivenData
+-- Returns the slices that a caller passes as plain data, each as the list of its items.
+abbrev pub given_view : InputSlices → GivenData
 given_view g = record {
   paths = g.paths.now;
   sizes = g.sizes.now;

@@ -1,14 +1,14 @@
 -- Defines how a kept run is answered.
 use Rattle.std.specs.Prelude.{ℕ, List}
-use Rattle.outputs.specs.build_file.Concluding.{Whole}
-use Rattle.outputs.specs.declared.build_file.concluding.Status.TheVariants as statuses
+use Rattle.backend.specs.Concluding.{Whole}
+use Rattle.backend.specs.declared.run_end.Status.TheVariants as statuses
 use Rattle.embedding.specs.Answers.{Answers}
 use Rattle.embedding.specs.declared.ending.Ending.{Ending}
 use Rattle.embedding.specs.declared.ending.Ending.TheVariants as ends
-use Rattle.embedding.specs.declared.given.Refused.{Refused}
-use Rattle.embedding.specs.declared.given.Refused.TheVariants as refusals
-use Rattle.embedding.specs.declared.running.Finished.{Finished}
-use Rattle.embedding.specs.declared.running.Finished.TheVariants as finishes
+use Rattle.embedding.specs.declared.input_slices.InputError.{InputError}
+use Rattle.embedding.specs.declared.input_slices.InputError.TheVariants as refusals
+use Rattle.embedding.specs.declared.slice_run.Finished.{Finished}
+use Rattle.embedding.specs.declared.slice_run.Finished.TheVariants as finishes
 
 -- Returns the ending of a run that finished so.
 abbrev pub ending_of : Finished → Ending
@@ -16,7 +16,7 @@ ending_of finishes.Done = ends.Done
 ending_of finishes.Fault = ends.Fault
 
 -- Returns the ending of a call that is refused so.
-abbrev pub ending_at : Refused → Ending
+abbrev pub ending_at : InputError → Ending
 ending_at refusals.Slices = ends.Slices
 ending_at refusals.Settings = ends.Settings
 ending_at refusals.Memory = ends.Memory

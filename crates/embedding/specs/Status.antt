@@ -1,7 +1,7 @@
 -- Defines the statuses of the calls for C.
 use Rattle.std.specs.Prelude.{◌≡◌, ℕ, List}
-use Rattle.command.specs.declared.line.Task.{Task}
-use Rattle.machine.specs.machine_file.Answers.{MachineSaid}
+use Rattle.command_line.specs.declared.line.Task.{Task}
+use Rattle.machine_file.specs.Answers.{MachineSaid}
 use Rattle.world.specs.Deed.{Files}
 use Rattle.embedding.specs.Answers.{Ends, Keeps}
 use Rattle.embedding.specs.Given.{GivenData}
@@ -16,6 +16,7 @@ status_of ends.Memory = 3
 status_of ends.Settings = 4
 status_of ends.Slices = 5
 
+-- Returns the record of these slices, in the order of the arguments of the calls for C.
 abbrev pub given_as : (paths sizes contents words machine source_root build_folder : List ℕ) → GivenData
 given_as paths sizes contents words machine source_root build_folder = record {
   paths = paths;

@@ -12,7 +12,7 @@ pub enum Ending {
     Memory,
     /// The source directory is no absolute path, or nothing can be built in the build directory.
     Settings,
-    /// The slices spell no tree of files or no option words, or a directory isn't UTF-8.
+    /// The slices spell no tree of files or no option arguments, or a directory isn't UTF-8.
     Slices,
 }
 

@@ -1,6 +1,6 @@
 //! Runs each task over slices.
 ghost use Rattle.std.specs.Prelude.{ℕ, List};
-ghost use Rattle.command.specs.declared.line.Task.TheVariants as tasks;
+ghost use Rattle.command_line.specs.declared.line.Task.TheVariants as tasks;
 ghost use Rattle.interp.specs.Evaluation.{MachineSaid};
 ghost use Rattle.world.specs.Prelude.{Files};
 ghost use Rattle.embedding.specs.Answers.{Ends, Keeps};
@@ -8,13 +8,13 @@ ghost use Rattle.embedding.specs.Given.{Means};
 ghost use Rattle.embedding.specs.GivenView.{given_view};
 
 use crate::ending::Ending;
-use crate::given::Given;
-use crate::running::run;
+use crate::input_slices::InputSlices;
+use crate::slice_run::run;
 use meson::Task;
 use std::alloc::Global;
 
 /// Configures the project, as `meson setup` does.
-pub fn setup(alloc: Global, given: &Given<'_>, room: &mut [u8], length: &mut u64) -> Ending
+pub fn setup(alloc: Global, given: &InputSlices<'_>, room: &mut [u8], length: &mut u64) -> Ending
     ensures run { (files : Files) (options : List (List ℕ)) (said : MachineSaid) → Means (given_view given.now) files options said
         → Ends tasks.Setup (given_view given.now) files options said result room.new length.new }
     ensures kept { Keeps result room.old room.new length.new }
@@ -23,7 +23,12 @@ pub fn setup(alloc: Global, given: &Given<'_>, room: &mut [u8], length: &mut u64
 }
 
 /// Lists what the project asks the machine file, as `meson questions` does.
-pub fn questions(alloc: Global, given: &Given<'_>, room: &mut [u8], length: &mut u64) -> Ending
+pub fn questions(
+    alloc: Global,
+    given: &InputSlices<'_>,
+    room: &mut [u8],
+    length: &mut u64,
+) -> Ending
     ensures run { (files : Files) (options : List (List ℕ)) (said : MachineSaid) → Means (given_view given.now) files options said
         → Ends tasks.Questions (given_view given.now) files options said result room.new length.new }
     ensures kept { Keeps result room.old room.new length.new }
@@ -32,7 +37,7 @@ pub fn questions(alloc: Global, given: &Given<'_>, room: &mut [u8], length: &mut
 }
 
 /// Reports the fault in which the project ends, and its details, as `meson fault` does.
-pub fn fault(alloc: Global, given: &Given<'_>, room: &mut [u8], length: &mut u64) -> Ending
+pub fn fault(alloc: Global, given: &InputSlices<'_>, room: &mut [u8], length: &mut u64) -> Ending
     ensures run { (files : Files) (options : List (List ℕ)) (said : MachineSaid) → Means (given_view given.now) files options said
         → Ends tasks.Fault (given_view given.now) files options said result room.new length.new }
     ensures kept { Keeps result room.old room.new length.new }

@@ -6,10 +6,10 @@ use Rattle.ports.specs.Tree.{TreeState}
 use Rattle.support.specs.declared.faults.refusal.Refusal.{Refusal}
 use Rattle.world.specs.Answering.{Refuses}
 use Rattle.world.specs.Deed.{Files, read, change}
-use Rattle.world.specs.Store.{changing}
+use Rattle.world.specs.Store.{world_after_change}
 use Rattle.world.specs.Gives.{Gives, Holds, is_ended}
 use Rattle.world.specs.Plan.{Plan, deed, ruled, next, carry, give, refuse}
-use Rattle.world.specs.Trace.{Mark, Ended, Seen, seen}
+use Rattle.world.specs.Trace.{Mark, Ended, Seen, seen_from_parts}
 use Rattle.world.specs.Run.{Run, ran, Act, Done, Faulted, after, follow, marks_of, with_end}
 use Rattle.world.specs.World.{World, Facts, LeavesPaths, with_facts, with_line}
 use Rattle.world.specs.declared.stop.Stop.{Stop}
@@ -93,11 +93,11 @@ given_rule {view = view} {files = files} {p = p} {s0 = s0} {w = w} {names = name
 
 -- the facts change
 pub given_change : {files : Files} {f : Facts → Facts} {leaves : LeavesPaths f} {w w1 : World} {names names1 : List (List ℕ)} {tree : TreeState} {out : OutputState} {n : ℕ}
-    → Holds tree files → w1 ≡ changing f w → names1 ≡ names
+    → Holds tree files → w1 ≡ world_after_change f w → names1 ≡ names
     → Given (λ (u : Unit {0}). u) files (deed (change f leaves)) (record { world = w; names = names; tree = tree; out = out; ticks = n }) (Ok tt) (record { world = w1; names = names1; tree = tree; out = out; ticks = n })
 given_change {files = files} {f = f} {leaves = leaves} {w = w} {w1 = w1} {names = names} {names1 = names1} {tree = tree} {out = out} {n = n} h is same = record {
-  gives = subst (λ v. Gives (λ (u : Unit {0}). u) (carry files (deed (change f leaves)) w) (Ok tt) v (seen out n names) (seen out n names1)) (sym is)
-      (subst (λ ns. Gives (λ (u : Unit {0}). u) (carry files (deed (change f leaves)) w) (Ok tt) (changing f w) (seen out n names) (seen out n ns)) (sym same) (record { is = refl; written = none_added (seen out n names) }));
+  gives = subst (λ v. Gives (λ (u : Unit {0}). u) (carry files (deed (change f leaves)) w) (Ok tt) v (seen_from_parts out n names) (seen_from_parts out n names1)) (sym is)
+      (subst (λ ns. Gives (λ (u : Unit {0}). u) (carry files (deed (change f leaves)) w) (Ok tt) (world_after_change f w) (seen_from_parts out n names) (seen_from_parts out n ns)) (sym same) (record { is = refl; written = none_added (seen_from_parts out n names) }));
   holds = h;
 }
 

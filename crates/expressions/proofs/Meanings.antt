@@ -7,18 +7,18 @@ use Rattle.syntax.specs.declared.tree.Literal.{Literal}
 use Rattle.syntax.specs.declared.tree.Literal.TheVariants as literals
 use Rattle.syntax.specs.lexer.Numerals.{magnitude}
 use Rattle.syntax.specs.lexer.Texts.{text_of}
-use Rattle.code.specs.Literals.{is_boolean, is_format, is_number, is_plain, kind_of, means, spelled}
+use Rattle.code.specs.Literals.{is_boolean, is_format, is_number, is_plain, kind_of, means, bytes_of_literal}
 use Rattle.code.specs.declared.literal.LiteralNode.{LiteralNode}
-use Rattle.code.specs.declared.literal.Meaning.{Meaning}
+use Rattle.code.specs.declared.literal.LiteralValue.{LiteralValue}
 use Rattle.code.proofs.Trees.{both_true}
 use Rattle.values.specs.Data.{boolean, text}
 use Rattle.values.specs.Limits.{within}
-use Rattle.world.specs.Plan.{answered, give}
+use Rattle.world.specs.Plan.{answer_at_line, give}
 use Rattle.expressions.specs.Forms.{format_string, literal_value, number}
 
 -- the test that a node keeps, at its meaning
-pub stands : (n : LiteralNode) (m : Meaning) → n.meaning ≡ m → IsTrue (means n.literal (spelled n.source.value) m)
-stands n m is = subst (λ (x : Meaning). IsTrue (means n.literal (spelled n.source.value) x)) is n.stands
+pub stands : (n : LiteralNode) (m : LiteralValue) → n.meaning ≡ m → IsTrue (means n.literal (bytes_of_literal n.source.value) m)
+stands n m is = subst (λ (x : LiteralValue). IsTrue (means n.literal (bytes_of_literal n.source.value) x)) is n.stands
 
 module _ (line : ℕ) (s : List ℕ) where
   pub of_boolean : (l : Literal) (b : Bool) → IsTrue (is_boolean b l) → give (boolean b) ≡ literal_value line l s
@@ -37,7 +37,7 @@ module _ (line : ℕ) (s : List ℕ) where
   of_boolean literals.RawFormatString true h = absurd cc
   of_boolean literals.RawFormatString false h = absurd cc
 
-  of_number : (l : Literal) → IsTrue (is_number l) → answered line (number (magnitude s)) ≡ literal_value line l s
+  of_number : (l : Literal) → IsTrue (is_number l) → answer_at_line line (number (magnitude s)) ≡ literal_value line l s
   of_number literals.True h = absurd cc
   of_number literals.False h = absurd cc
   of_number literals.Number h = refl
@@ -46,12 +46,12 @@ module _ (line : ℕ) (s : List ℕ) where
   of_number literals.FormatString h = absurd cc
   of_number literals.RawFormatString h = absurd cc
 
-  pub of_integer : (l : Literal) (n : ℕ) → IsTrue (is_number l && (n == magnitude s)) → answered line (number n) ≡ literal_value line l s
+  pub of_integer : (l : Literal) (n : ℕ) → IsTrue (is_number l && (n == magnitude s)) → answer_at_line line (number n) ≡ literal_value line l s
   of_integer l n h =
       let p = both_true (is_number l) (n == magnitude s) h in
-      ap (λ m. answered line (number m)) ((Decides-eqb n (magnitude s)).0 p.1) ∙ of_number l p.0
+      ap (λ m. answer_at_line line (number m)) ((Decides-eqb n (magnitude s)).0 p.1) ∙ of_number l p.0
 
-  of_plain : (l : Literal) → IsTrue (is_plain l) → answered line (within (text (text_of (kind_of l) s))) ≡ literal_value line l s
+  of_plain : (l : Literal) → IsTrue (is_plain l) → answer_at_line line (within (text (text_of (kind_of l) s))) ≡ literal_value line l s
   of_plain literals.True h = absurd cc
   of_plain literals.False h = absurd cc
   of_plain literals.Number h = absurd cc
@@ -61,10 +61,10 @@ module _ (line : ℕ) (s : List ℕ) where
   of_plain literals.RawFormatString h = absurd cc
 
   pub of_text : (l : Literal) (t : List ℕ) → IsTrue (is_plain l && bytes_eq t (text_of (kind_of l) s))
-      → answered line (within (text t)) ≡ literal_value line l s
+      → answer_at_line line (within (text t)) ≡ literal_value line l s
   of_text l t h =
       let p = both_true (is_plain l) (bytes_eq t (text_of (kind_of l) s)) h in
-      ap (λ u. answered line (within (text u))) ((bytes_eq-Decides t (text_of (kind_of l) s)).0 p.1) ∙ of_plain l p.0
+      ap (λ u. answer_at_line line (within (text u))) ((bytes_eq-Decides t (text_of (kind_of l) s)).0 p.1) ∙ of_plain l p.0
 
   of_places : (l : Literal) → IsTrue (is_format l) → format_string line (text_of (kind_of l) s) ≡ literal_value line l s
   of_places literals.True h = absurd cc

@@ -8,7 +8,7 @@ use Rattle.values.specs.Data.{no_entries, entry, entry_count, entry_values, entr
 use Rattle.values.specs.Few.{item_count}
 use Rattle.values.specs.View.{data_of, items_of}
 use Rattle.values.specs.declared.value.Value.{Value}
-use Rattle.expressions.specs.Rounds.{HasFewRounds, Loops, Round, entry_rounds, item_rounds, looped}
+use Rattle.expressions.specs.Rounds.{HasFewRounds, Loops, Round, entry_rounds, item_rounds, loop_rounds}
 
 rounds_counted : (xs : List Value) → length (item_rounds (items_of xs)) ≡ length xs
 rounds_counted [] = refl
@@ -47,11 +47,11 @@ rounds_few (integer z) few = omega arith
 rounds_few (text t) few = omega arith
 rounds_few (object o) few = omega arith
 
-one_name : (ds : Items) (second : Option (List ℕ)) → is_some second ≡ false → looped second (list ds) ≡ Ok (item_rounds ds)
+one_name : (ds : Items) (second : Option (List ℕ)) → is_some second ≡ false → loop_rounds second (list ds) ≡ Ok (item_rounds ds)
 one_name ds None h = refl
 one_name ds (Some name) h = absurd (let f : true ≡ false = h in cc)
 
-two_names : (es : Entries) (second : Option (List ℕ)) → is_some second ≡ true → looped second (dictionary es) ≡ Ok (entry_rounds es)
+two_names : (es : Entries) (second : Option (List ℕ)) → is_some second ≡ true → loop_rounds second (dictionary es) ≡ Ok (entry_rounds es)
 two_names es None h = absurd (let f : false ≡ true = h in cc)
 two_names es (Some name) h = refl
 

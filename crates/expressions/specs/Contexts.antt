@@ -8,7 +8,7 @@ use Rattle.world.specs.Deed.{Files}
 use Rattle.world.specs.Gives.{Continues, Gives, Holds, failures_after}
 use Rattle.world.specs.Plan.{Plan, carry}
 use Rattle.world.specs.Store.{world_of}
-use Rattle.world.specs.Trace.{Seen, seen}
+use Rattle.world.specs.Trace.{Seen, seen_from_parts}
 use Rattle.world.specs.World.{World}
 use Rattle.world.specs.declared.stop.Stop.{Stop}
 use Rattle.expressions.specs.declared.context.Context.{Context}
@@ -23,7 +23,7 @@ pub record Stand : Type 0 where
 
 -- Returns what marks change in a state.
 abbrev pub seen_of : Stand → Seen
-seen_of s = seen s.out s.ticks s.names
+seen_of s = seen_from_parts s.out s.ticks s.names
 
 -- Holds if, over these files, the call ended as the plan does in this state, or stopped after a prefix of its marks. The tree still
 -- contains the files.

@@ -21,10 +21,10 @@ entry_rounds no_entries = []
 entry_rounds (entry key d es) = (text key, Some d) ∷ entry_rounds es
 
 -- Returns the rounds of a loop. A loop with one name iterates over a list, one with two names over a dictionary in order of insertion.
-abbrev pub looped : Option (List ℕ) → Data → Result (List Round) Refusal
-looped None (list ds) = Ok (item_rounds ds)
-looped (Some second) (dictionary es) = Ok (entry_rounds es)
-looped second d = Err refusals.Type
+abbrev pub loop_rounds : Option (List ℕ) → Data → Result (List Round) Refusal
+loop_rounds None (list ds) = Ok (item_rounds ds)
+loop_rounds (Some second) (dictionary es) = Ok (entry_rounds es)
+loop_rounds second d = Err refusals.Type
 
 -- Returns the plain data of a round.
 abbrev pub round_data : Declared → Round
@@ -46,8 +46,8 @@ RoundAt rounds at (Some r) = drop at rounds ≡ round_data r ∷ drop (at + 1) r
 
 -- Holds if a loop with one name or with two can iterate over a value, or has this refusal.
 abbrev pub Loops : Bool → Data → Result (Unit {0}) Refusal → Type 0
-Loops has_second d (Ok u) = (second : Option (List ℕ)) → is_some second ≡ has_second → looped second d ≡ Ok (rounds_in d)
-Loops has_second d (Err refusal) = (second : Option (List ℕ)) → is_some second ≡ has_second → looped second d ≡ Err refusal
+Loops has_second d (Ok u) = (second : Option (List ℕ)) → is_some second ≡ has_second → loop_rounds second d ≡ Ok (rounds_in d)
+Loops has_second d (Err refusal) = (second : Option (List ℕ)) → is_some second ≡ has_second → loop_rounds second d ≡ Err refusal
 
 -- Holds if a loop over a value has at most 65,536 rounds.
 abbrev pub HasFewRounds : Data → Type 0

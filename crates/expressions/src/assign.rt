@@ -1,13 +1,14 @@
 //! Assigns variables.
 ghost use Rattle.std.specs.Prelude.{◌≡◌, ◌<◌, ℕ, IsTrue, Some, length, nat_lt, option_map};
-ghost use Rattle.arguments.specs.Rules.{broken};
+ghost use Rattle.arguments.specs.Rules.{breach_message};
 ghost use Rattle.code.specs.Statements.{name_at, second_within};
 ghost use Rattle.world.specs.Prelude.{Refuses, data_of, failures_after};
 ghost use Rattle.world.specs.Configuring.{copy_configuration};
 ghost use Rattle.world.specs.Plan.{deed, next};
-ghost use Rattle.expressions.specs.Forms.{thing};
+ghost use Rattle.expressions.specs.Forms.{predefined_object};
 ghost use Rattle.expressions.specs.Rounds.{round_data};
-ghost use Rattle.expressions.specs.Assignments.{added, assigned, bound, configuration_in, configuration_of, copied, own, summed};
+ghost use Rattle.expressions.specs.Assignments.{assignment_of_sum, variable_assignment, assignment_of_round, configuration_in};
+ghost use Rattle.expressions.specs.Assignments.{configuration_of, copied_configuration, own, plus_assignment_of};
 
 use crate::context::Context;
 use crate::loops::Round;
@@ -62,7 +63,7 @@ impl<'a, T: Tree, O: Outputs, L: Ledger> Context<'a, T, O, L> {
         requires room { HasRoom T.seen O.seen self.old }
         ensures same { Same self.old self.new }
         ensures device { Fails T.seen O.seen self.old result self.new }
-        ensures gives { Answers T.seen O.seen data_of (copied number) self.old result self.new }
+        ensures gives { Answers T.seen O.seen data_of (copied_configuration number) self.old result self.new }
     {
         let copy = self.copy_made(number)?;
         Ok(Value::of_object(self.alloc, Object::ConfigurationData(copy))?)
@@ -86,7 +87,7 @@ impl<'a, T: Tree, O: Outputs, L: Ledger> Context<'a, T, O, L> {
     #[cold]
     fn refuse_name(&self, line: usize, number: usize) -> Result<(), Stop>
         ensures refuses { number < length self.now.store.now.names → Refuses (fault_on self.now line Refusal.Arguments
-            (broken Rule.IsSettable (name_at self.now.store.now.names number))) result }
+            (breach_message Rule.IsSettable (name_at self.now.store.now.names number))) result }
         ensures quiet { (n : ℕ) → failures_after n result ≡ n }
     {
         let name = self.store.name(number);
@@ -100,7 +101,7 @@ impl<'a, T: Tree, O: Outputs, L: Ledger> Context<'a, T, O, L> {
         ensures same { Same self.old self.new }
         ensures device { Fails T.seen O.seen self.old result self.new }
         ensures gives { number < length self.old.store.now.names → Answers T.seen O.seen
-            (λ u. u) (assigned line (name_at self.old.store.now.names number) (data_of value)) self.old result self.new }
+            (λ u. u) (variable_assignment line (name_at self.old.store.now.names number) (data_of value)) self.old result self.new }
     {
         let name = self.store.name(number);
         if is_predefined(name) {
@@ -121,7 +122,7 @@ impl<'a, T: Tree, O: Outputs, L: Ledger> Context<'a, T, O, L> {
         ensures same { Same self.old self.new }
         ensures device { Fails T.seen O.seen self.old result self.new }
         ensures gives { first < length self.old.store.now.names → IsTrue (second_within (length self.old.store.now.names) second)
-            → Answers T.seen O.seen (λ u. u) (bound line (name_at self.old.store.now.names first) (option_map
+            → Answers T.seen O.seen (λ u. u) (assignment_of_round line (name_at self.old.store.now.names first) (option_map
             (name_at self.old.store.now.names) second) (round_data round)) self.old result self.new }
     {
         match second {
@@ -141,7 +142,7 @@ impl<'a, T: Tree, O: Outputs, L: Ledger> Context<'a, T, O, L> {
         ensures same { Same self.old self.new }
         ensures device { Fails T.seen O.seen self.old result self.new }
         ensures gives { first < length self.old.store.now.names → IsTrue (nat_lt second (length self.old.store.now.names))
-            → Answers T.seen O.seen (λ u. u) (bound line (name_at self.old.store.now.names first) (Some
+            → Answers T.seen O.seen (λ u. u) (assignment_of_round line (name_at self.old.store.now.names first) (Some
             (name_at self.old.store.now.names second)) (round_data round)) self.old result self.new }
     {
         let Round {
@@ -164,7 +165,7 @@ impl<'a, T: Tree, O: Outputs, L: Ledger> Context<'a, T, O, L> {
         ensures same { Same self.old self.new }
         ensures device { Fails T.seen O.seen self.old result self.new }
         ensures gives { one.0 < length self.old.store.now.names → IsTrue (nat_lt other.0 (length self.old.store.now.names))
-            → Answers T.seen O.seen (λ u. u) (bound line (name_at self.old.store.now.names one.0) (Some
+            → Answers T.seen O.seen (λ u. u) (assignment_of_round line (name_at self.old.store.now.names one.0) (Some
             (name_at self.old.store.now.names other.0)) (data_of one.1, Some (data_of other.1))) self.old result self.new }
     {
         self.assign(line, one.0, one.1)?;
@@ -172,13 +173,13 @@ impl<'a, T: Tree, O: Outputs, L: Ledger> Context<'a, T, O, L> {
         answer
     }
 
-    /// Assigns to the variable whose name has this number the sum of its value and another. Its value is taken out first, so that a value
+    /// Assigns to the variable whose name has this number the sum of its value and another. Its value is moved out first, so that a value
     /// that nobody else shares grows in place.
     pub fn add(&mut self, line: usize, number: usize, right: Value) -> Result<(), Stop>
         ensures same { Same self.old self.new }
         ensures device { Fails T.seen O.seen self.old result self.new }
         ensures gives { number < length self.old.store.now.names → Answers T.seen O.seen (λ u. u)
-            (summed line (name_at self.old.store.now.names number) (data_of right)) self.old result self.new }
+            (plus_assignment_of line (name_at self.old.store.now.names number) (data_of right)) self.old result self.new }
     {
         let is_thing = is_predefined(self.store.name(number));
         if is_thing {
@@ -194,7 +195,7 @@ impl<'a, T: Tree, O: Outputs, L: Ledger> Context<'a, T, O, L> {
     // Returns the object of the predefined variable whose name has this number.
     fn thing_at(&self, number: usize) -> Result<Value, Stop>
         ensures gives { number < length self.now.store.now.names
-            → Answers T.seen O.seen data_of (thing (name_at self.now.store.now.names number)) self.now result self.now }
+            → Answers T.seen O.seen data_of (predefined_object (name_at self.now.store.now.names number)) self.now result self.now }
         ensures quiet { (n : ℕ) → failures_after n result ≡ n }
     {
         let name = self.store.name(number);
@@ -216,8 +217,8 @@ impl<'a, T: Tree, O: Outputs, L: Ledger> Context<'a, T, O, L> {
         ensures same { Same self.old self.new }
         ensures device { Fails T.seen O.seen self.old result self.new }
         ensures gives { number < length self.old.store.now.names → Answers T.seen O.seen (λ u. u)
-            (next (thing (name_at self.old.store.now.names number))
-            (λ d. added line (name_at self.old.store.now.names number) d (data_of right))) self.old result self.new }
+            (next (predefined_object (name_at self.old.store.now.names number))
+            (λ d. assignment_of_sum line (name_at self.old.store.now.names number) d (data_of right))) self.old result self.new }
     {
         let thing = self.thing_at(number)?;
         self.sum(line, number, thing, right)
@@ -229,7 +230,7 @@ impl<'a, T: Tree, O: Outputs, L: Ledger> Context<'a, T, O, L> {
         ensures same { Same self.old self.new }
         ensures device { Fails T.seen O.seen self.old result self.new }
         ensures gives { number < length self.old.store.now.names → Answers T.seen O.seen (λ u. u)
-            (added line (name_at self.old.store.now.names number) (data_of left) (data_of right)) self.old result self.new }
+            (assignment_of_sum line (name_at self.old.store.now.names number) (data_of left) (data_of right)) self.old result self.new }
     {
         let answer = binary(self.alloc, Binary::Add, left, right)?;
         let sum = self.answer(line, answer)?;

@@ -11,7 +11,7 @@ use support::faults::Refusal;
 use values::Value;
 use world::Stop;
 
-/// What the value of a condition chooses.
+/// Says what the value of a condition chooses.
 #[derive(Clone, Copy)]
 pub enum Choice {
     /// The statements of its own branch.

@@ -1,13 +1,13 @@
 //! Defines what an evaluation works on, and its small steps.
 ghost use Rattle.std.specs.Prelude.{◌≡◌, ◌<◌, ℕ, Result, None, option_map};
 ghost use Rattle.values.specs.Data.{Data, is_disabler};
-ghost use Rattle.values.specs.declared.refusal.Refusal.{Refusal as OperationRefusal};
+ghost use Rattle.values.specs.declared.refusal.OperationRefusal.{OperationRefusal as OperationRefusal};
 ghost use Rattle.arguments.specs.Refused.{answer_data};
 ghost use Rattle.world.specs.Prelude.{Answers as AnswersSo, Refuses, data_of, failures_after};
-ghost use Rattle.world.specs.Plan.{answered};
-ghost use Rattle.expressions.specs.Forms.{fitted, needed, unchosen};
+ghost use Rattle.world.specs.Plan.{answer_at_line};
+ghost use Rattle.expressions.specs.Forms.{check_at_line, needed_value, disabled_ternary};
 
-use arguments::Refused;
+use arguments::ArgumentError;
 use ports::{Outputs, Tree};
 use std::alloc::Global;
 use std::sync::ledger::Ledger;
@@ -15,7 +15,7 @@ use support::faults::Refusal;
 use values::Value;
 use world::{Steps, Stop, Store, of_operation};
 
-/// The context of an evaluation: the world, the devices, and the counter of rules.
+/// Holds the context of an evaluation: the world, the devices, and the counter of rules.
 #[derive(Drop)]
 pub struct Context<'a, T, O, L: Ledger> {
     pub alloc: Global,
@@ -71,9 +71,13 @@ impl<'a, T: Tree, O: Outputs, L: Ledger> Context<'a, T, O, L> {
 
     /// Returns the value of an operation, or stops with its refusal.
     #[inline(always)]
-    pub fn answer(&self, line: usize, answer: Result<Value, values::Refusal>) -> Result<Value, Stop>
+    pub fn answer(
+        &self,
+        line: usize,
+        answer: Result<Value, values::OperationRefusal>,
+    ) -> Result<Value, Stop>
         ensures gives { (given : Result Data OperationRefusal) → AnswersSo given answer
-            → Answers T.seen O.seen data_of (answered line given) self.now result self.now }
+            → Answers T.seen O.seen data_of (answer_at_line line given) self.now result self.now }
         ensures quiet { (n : ℕ) → failures_after n result ≡ n }
     {
         match answer {
@@ -85,7 +89,7 @@ impl<'a, T: Tree, O: Outputs, L: Ledger> Context<'a, T, O, L> {
     /// Returns the value of a call, and refuses one without a value with E6.
     #[inline(always)]
     pub fn need(&self, line: usize, answer: Option<Value>) -> Result<Value, Stop>
-        ensures gives { Answers T.seen O.seen data_of (needed line (option_map data_of answer)) self.now result self.now }
+        ensures gives { Answers T.seen O.seen data_of (needed_value line (option_map data_of answer)) self.now result self.now }
         ensures quiet { (n : ℕ) → failures_after n result ≡ n }
     {
         match answer {
@@ -96,7 +100,7 @@ impl<'a, T: Tree, O: Outputs, L: Ledger> Context<'a, T, O, L> {
 
     /// Returns the value of a ternary whose condition is not a boolean: a disabler if it is one, and otherwise E6.
     pub fn refuse_choice(&self, line: usize, value: Value) -> Result<Value, Stop>
-        ensures gives { Answers T.seen O.seen data_of (unchosen line (is_disabler (data_of value))) self.now result self.now }
+        ensures gives { Answers T.seen O.seen data_of (disabled_ternary line (is_disabler (data_of value))) self.now result self.now }
         ensures quiet { (n : ℕ) → failures_after n result ≡ n }
     {
         if value.is_disabler() {
@@ -106,9 +110,9 @@ impl<'a, T: Tree, O: Outputs, L: Ledger> Context<'a, T, O, L> {
         }
     }
 
-    /// Passes on the result of a check of arguments, or stops with its refusal and detail.
-    pub fn fit(&self, line: usize, answer: Result<(), Refused>) -> Result<(), Stop>
-        ensures gives { Answers T.seen O.seen (λ u. u) (fitted line (answer_data answer)) self.now result self.now }
+    /// Passes on the result of a check of arguments. If the check refused, stops with its refusal and detail.
+    pub fn fit(&self, line: usize, answer: Result<(), ArgumentError>) -> Result<(), Stop>
+        ensures gives { Answers T.seen O.seen (λ u. u) (check_at_line line (answer_data answer)) self.now result self.now }
         ensures quiet { (n : ℕ) → failures_after n result ≡ n }
     {
         match answer {

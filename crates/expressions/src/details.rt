@@ -7,13 +7,13 @@ use arguments::values_words;
 use operations::methods::takes_words;
 use std::alloc::{AllocError, Global};
 use values::language_names::MethodName;
-use values::{Refusal, Value};
+use values::{OperationRefusal, Value};
 
 /// Returns the detail that this key of a dictionary occurs twice.
 pub fn key_twice(alloc: Global, key: &str) -> Result<String, AllocError>
     ensures { IfOk result (λ text. string_bytes text ≡ key_twice key.now) }
 {
-    format!(in alloc; "key '{key}': stands twice")
+    format!(in alloc; "key '{key}': occurs twice")
 }
 
 // Returns what the method with this name takes and what it got, as in `contains: takes one text, and got an integer`.
@@ -37,13 +37,13 @@ pub fn method_detail(
     receiver: &Value,
     name: &MethodName,
     values: &[Value],
-    refusal: Refusal,
+    refusal: OperationRefusal,
 ) -> Result<String, AllocError>
     ensures { IfOk result (λ text. string_bytes text
         ≡ method_detail (data_of receiver.now) name.now (map data_of values.now) refusal) }
 {
     match refusal {
-        Refusal::Arguments => method_words(alloc, receiver, name, values),
+        OperationRefusal::Arguments => method_words(alloc, receiver, name, values),
         _ => Ok(String::new(alloc)),
     }
 }

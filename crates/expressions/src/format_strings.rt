@@ -4,7 +4,7 @@ ghost use Rattle.code.specs.FormatStrings.{part_data};
 ghost use Rattle.values.specs.Data.{text};
 ghost use Rattle.world.specs.Prelude.{Answers as AnswersSo, data_of, failures_after, within, within_bytes};
 ghost use Rattle.expressions.specs.Filling.{Puts};
-ghost use Rattle.expressions.specs.Forms.{filled};
+ghost use Rattle.expressions.specs.Forms.{filled_format_string};
 
 use crate::context::Context;
 use code::Part;
@@ -19,7 +19,7 @@ use world::Stop;
 // Appends a piece to a text, which may already be too long.
 fn put(
     alloc: Global,
-    made: &mut Result<Text, values::Refusal>,
+    made: &mut Result<Text, values::OperationRefusal>,
     piece: &str,
 ) -> Result<(), AllocError>
     ensures { (before : List ℕ) → made.old ≡ within_bytes before → IfOk result (λ _. made.new ≡ within_bytes (before ++ piece.now)) }
@@ -37,7 +37,7 @@ fn put(
 // Appends a printed value, and returns whether the value may be in an f-string.
 fn put_plain(
     alloc: Global,
-    made: &mut Result<Text, values::Refusal>,
+    made: &mut Result<Text, values::OperationRefusal>,
     value: &Value,
 ) -> Result<bool, AllocError>
     ensures { (before : List ℕ) → made.old ≡ within_bytes before
@@ -56,7 +56,7 @@ fn put_plain(
 // Appends a printed value, which is dropped, and returns whether it may be in an f-string.
 fn put_value(
     alloc: Global,
-    made: &mut Result<Text, values::Refusal>,
+    made: &mut Result<Text, values::OperationRefusal>,
     value: Value,
 ) -> Result<bool, AllocError>
     ensures { (before : List ℕ) → made.old ≡ within_bytes before → IfOk result (λ done. Puts (data_of value) before made.new done) }
@@ -65,7 +65,9 @@ fn put_value(
 }
 
 // Returns the value of a text, and the refusal if it is too long.
-fn text_value(made: Result<Text, values::Refusal>) -> Result<Value, values::Refusal>
+fn text_value(
+    made: Result<Text, values::OperationRefusal>,
+) -> Result<Value, values::OperationRefusal>
     ensures { (whole : List ℕ) → made ≡ within_bytes whole → AnswersSo (within (text whole)) result }
 {
     match made {
@@ -79,7 +81,7 @@ impl<'a, T: Tree, O: Outputs, L: Ledger> Context<'a, T, O, L> {
 
     /// Returns the value of an f-string with these parts: each placeholder becomes the printed value of its variable.
     pub fn fill(&self, line: usize, parts: &[Part]) -> Result<Value, Stop>
-        ensures gives { Answers T.seen O.seen data_of (filled line [] (map part_data parts.now)) self.now result self.now }
+        ensures gives { Answers T.seen O.seen data_of (filled_format_string line [] (map part_data parts.now)) self.now result self.now }
         ensures quiet { (n : ℕ) → failures_after n result ≡ n }
     {
         let mut made = Ok(Text::empty());

@@ -3,7 +3,7 @@ ghost use Rattle.std.specs.Prelude.{◌≡◌, ℕ, option_map};
 ghost use Rattle.operations.specs.operators.Literal.{pairs_of};
 ghost use Rattle.world.specs.Prelude.{Refuses, data_of, failures_after, items_of};
 ghost use Rattle.expressions.specs.Details.{key_twice};
-ghost use Rattle.expressions.specs.Forms.{listed, paired, part_at, prefixed};
+ghost use Rattle.expressions.specs.Forms.{list_value, dictionary_value, part_at, prefix_value};
 
 use crate::context::Context;
 use crate::details::key_twice;
@@ -21,7 +21,7 @@ impl<'a, T: Tree, O: Outputs, L: Ledger> Context<'a, T, O, L> {
 
     /// Returns the value of `[first, second]`.
     pub fn list(&self, line: usize, values: Vec<Value>) -> Result<Value, Stop>
-        ensures gives { Answers T.seen O.seen data_of (listed line (items_of values.items)) self.now result self.now }
+        ensures gives { Answers T.seen O.seen data_of (list_value line (items_of values.items)) self.now result self.now }
         ensures quiet { (n : ℕ) → failures_after n result ≡ n }
     {
         let answer = list(self.alloc, values)?;
@@ -38,7 +38,7 @@ impl<'a, T: Tree, O: Outputs, L: Ledger> Context<'a, T, O, L> {
 
     /// Returns the value of `{key : value, key : value}`.
     pub fn pair(&self, line: usize, pairs: Vec<(Value, Value)>) -> Result<Value, Stop>
-        ensures gives { Answers T.seen O.seen data_of (paired line (pairs_of pairs.items)) self.now result self.now }
+        ensures gives { Answers T.seen O.seen data_of (dictionary_value line (pairs_of pairs.items)) self.now result self.now }
         ensures quiet { (n : ℕ) → failures_after n result ≡ n }
     {
         match dictionary(self.alloc, pairs)? {
@@ -52,7 +52,7 @@ impl<'a, T: Tree, O: Outputs, L: Ledger> Context<'a, T, O, L> {
 
     /// Returns the value of `not value` or `-value`.
     pub fn prefix(&self, line: usize, prefix: Prefix, value: Value) -> Result<Value, Stop>
-        ensures gives { Answers T.seen O.seen data_of (prefixed line prefix (data_of value)) self.now result self.now }
+        ensures gives { Answers T.seen O.seen data_of (prefix_value line prefix (data_of value)) self.now result self.now }
         ensures quiet { (n : ℕ) → failures_after n result ≡ n }
     {
         let answer = unary(unary_of(prefix), value);

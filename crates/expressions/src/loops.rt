@@ -7,7 +7,7 @@ use std::alloc::{AllocError, Global};
 use support::faults::Refusal;
 use values::{Dictionary, Value, values_have_few_items};
 
-/// The values of a round's variables: of the first, and of the second if there is one.
+/// Holds the values of a round's variables: of the first, and of the second if there is one.
 #[derive(Drop)]
 pub struct Round {
     pub first: Value,

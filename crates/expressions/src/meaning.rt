@@ -5,9 +5,9 @@ ghost use Rattle.expressions.specs.Forms.{meaning_of, unary_of};
 use operations::operators::{Binary, Connective, Unary};
 use syntax::tree::{Operator, Prefix};
 
-/// What an operator between two values does.
+/// Says what an operator between two values does.
 #[derive(Clone, Copy)]
-pub enum Meaning {
+pub enum InfixOperator {
     /// Both values are evaluated.
     Combines(Binary),
     /// The left value may decide alone.
@@ -15,25 +15,25 @@ pub enum Meaning {
 }
 
 /// Returns what an operator in a chain does.
-pub fn meaning_of(operator: Operator) -> Meaning
+pub fn meaning_of(operator: Operator) -> InfixOperator
     ensures { result ≡ meaning_of operator }
 {
     match operator {
-        Operator::Or => Meaning::Connects(Connective::Or),
-        Operator::And => Meaning::Connects(Connective::And),
-        Operator::Equal => Meaning::Combines(Binary::Equal),
-        Operator::NotEqual => Meaning::Combines(Binary::NotEqual),
-        Operator::Less => Meaning::Combines(Binary::Less),
-        Operator::LessOrEqual => Meaning::Combines(Binary::LessOrEqual),
-        Operator::Greater => Meaning::Combines(Binary::Greater),
-        Operator::GreaterOrEqual => Meaning::Combines(Binary::GreaterOrEqual),
-        Operator::In => Meaning::Combines(Binary::In),
-        Operator::NotIn => Meaning::Combines(Binary::NotIn),
-        Operator::Add => Meaning::Combines(Binary::Add),
-        Operator::Subtract => Meaning::Combines(Binary::Subtract),
-        Operator::Multiply => Meaning::Combines(Binary::Multiply),
-        Operator::Divide => Meaning::Combines(Binary::Divide),
-        Operator::Remainder => Meaning::Combines(Binary::Remainder),
+        Operator::Or => InfixOperator::Connects(Connective::Or),
+        Operator::And => InfixOperator::Connects(Connective::And),
+        Operator::Equal => InfixOperator::Combines(Binary::Equal),
+        Operator::NotEqual => InfixOperator::Combines(Binary::NotEqual),
+        Operator::Less => InfixOperator::Combines(Binary::Less),
+        Operator::LessOrEqual => InfixOperator::Combines(Binary::LessOrEqual),
+        Operator::Greater => InfixOperator::Combines(Binary::Greater),
+        Operator::GreaterOrEqual => InfixOperator::Combines(Binary::GreaterOrEqual),
+        Operator::In => InfixOperator::Combines(Binary::In),
+        Operator::NotIn => InfixOperator::Combines(Binary::NotIn),
+        Operator::Add => InfixOperator::Combines(Binary::Add),
+        Operator::Subtract => InfixOperator::Combines(Binary::Subtract),
+        Operator::Multiply => InfixOperator::Combines(Binary::Multiply),
+        Operator::Divide => InfixOperator::Combines(Binary::Divide),
+        Operator::Remainder => InfixOperator::Combines(Binary::Remainder),
     }
 }
 

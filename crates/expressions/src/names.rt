@@ -1,11 +1,12 @@
 //! Looks names up: of variables, of functions, and of the methods of values.
 ghost use Rattle.std.specs.Prelude.{◌≡◌, ◌<◌, ◌||◌, ◌&&◌, ℕ, IfOk, [], false, length, map, option_map, slice_index_or};
-ghost use Rattle.arguments.specs.Misfits.{checked};
+ghost use Rattle.arguments.specs.Misfits.{arguments_check};
 ghost use Rattle.arguments.specs.Rows.{any_values};
 ghost use Rattle.operations.specs.methods.Methods.{has_name};
 ghost use Rattle.world.specs.Prelude.{arguments_data, data_of, failures_after};
-ghost use Rattle.expressions.specs.Forms.{asked_of, disabler_method, fitted, function_at, function_inside, known, known_method};
-ghost use Rattle.expressions.specs.Forms.{may_be_asked_first, may_come_first, method_answered, thing, value_method, variable};
+ghost use Rattle.expressions.specs.Forms.{asked_of, disabler_method, check_at_line, function_at, function_inside, known_value};
+ghost use Rattle.expressions.specs.Forms.{known_method};
+ghost use Rattle.expressions.specs.Forms.{may_be_asked_first, may_come_first, method_answered, predefined_object, value_method, variable};
 
 use crate::context::Context;
 use crate::details::method_detail;
@@ -64,7 +65,7 @@ impl<'a, T: Tree, O: Outputs, L: Ledger> Context<'a, T, O, L> {
 
     /// Returns the object of a predefined variable.
     pub fn thing(&self, name: &str) -> Result<Value, Stop>
-        ensures gives { Answers T.seen O.seen data_of (thing name.now) self.now result self.now }
+        ensures gives { Answers T.seen O.seen data_of (predefined_object name.now) self.now result self.now }
         ensures quiet { (n : ℕ) → failures_after n result ≡ n }
     {
         let value = predefined_value(self.alloc, name)?;
@@ -100,7 +101,7 @@ impl<'a, T: Tree, O: Outputs, L: Ledger> Context<'a, T, O, L> {
 
     // Returns the value of a variable, and refuses one without a value with E5.
     fn require_known(&self, line: usize, name: &str, value: Option<Value>) -> Result<Value, Stop>
-        ensures gives { Answers T.seen O.seen data_of (known line name.now (option_map data_of value)) self.now result self.now }
+        ensures gives { Answers T.seen O.seen data_of (known_value line name.now (option_map data_of value)) self.now result self.now }
         ensures quiet { (n : ℕ) → failures_after n result ≡ n }
     {
         match value {
@@ -134,8 +135,8 @@ impl<'a, T: Tree, O: Outputs, L: Ledger> Context<'a, T, O, L> {
         self.store.is_begun() || may_come_first(function)
     }
 
-    /// Returns the function of a call that is part of an expression. Besides the refusals of `function_at`, it refuses most functions
-    /// before `project` with E13.
+    /// Returns the function of a call that is part of an expression. In addition to the refusals of `function_at`, it refuses most
+    /// functions before `project` with E13.
     pub fn function_inside(&self, line: usize, name: &FunctionName) -> Result<Function, Stop>
         ensures gives { Answers T.seen O.seen (λ f. f) (function_inside line name.now) self.now result self.now }
         ensures quiet { (n : ℕ) → failures_after n result ≡ n }
@@ -205,7 +206,7 @@ impl<'a, T: Tree, O: Outputs, L: Ledger> Context<'a, T, O, L> {
 
     // Refuses keyword arguments, which no method of a value takes. Positional arguments of any type and number are accepted here.
     fn require_no_keyword(&self, line: usize, arguments: &Arguments) -> Result<(), Stop>
-        ensures gives { Answers T.seen O.seen (λ u. u) (fitted line (checked any_values (arguments_data arguments.now)))
+        ensures gives { Answers T.seen O.seen (λ u. u) (check_at_line line (arguments_check any_values (arguments_data arguments.now)))
             self.now result self.now }
         ensures quiet { (n : ℕ) → failures_after n result ≡ n }
     {

@@ -75,7 +75,7 @@ fn hold_streams(rt: &HostRuntime) -> io::Result<Vec<File>> {
     Ok(held)
 }
 
-// Returns the words of the command line. The first is the program's name.
+// Returns the arguments of the command line. The first is the program's name.
 fn words(rt: &HostRuntime) -> io::Result<Vec<String>> {
     Ok(env::args(rt)?.collect(rt.alloc())?)
 }

@@ -1,9 +1,9 @@
 //! Runs the program over a folder of a disk.
 ghost use Rattle.std.specs.Prelude.{◌≡◌, ◌≢◌, ◌<◌, ◌≤◌, map, string_bytes};
 ghost use Rattle.std.specs.IoError.{error_kind};
-ghost use Rattle.command.specs.CommandLine.{IsLine, IsRefused, IsTaken};
+ghost use Rattle.command_line.specs.CommandLine.{IsLine, IsRefused, IsTaken};
 ghost use Rattle.ports.specs.Endings.{HasRoom};
-ghost use Rattle.outputs.specs.build_file.Concluding.{Agrees, exit_status};
+ghost use Rattle.backend.specs.Concluding.{Agrees, exit_status};
 ghost use Rattle.interp.specs.Evaluation.{IsSaid, MachineSaid};
 ghost use Rattle.world.specs.MakingSettings.{settings_of};
 ghost use Rattle.world.specs.Prelude.{Files as DeviceFiles, Holds};
@@ -30,12 +30,13 @@ const CURRENT_FOLDER: &str = ".";
 // fits.
 const MACHINE_FILE_BYTES: usize = 33_554_432;
 
-/// Runs the command line `words` for the project in the current folder, whose path is `root`. The first word is the program's name.
+/// Runs the command line `words` for the project in the current folder, whose path is `root`. The first argument is the program's name.
 ///
 /// `setup` configures the project, `questions` prints what that asks of the machine file, and `fault` prints the fault in which it ends.
-/// The log goes to `log`, fault lines and the program's own texts to `faults`, and outputs to the folder that the words name, below `root`.
+/// The log goes to `log`, fault lines and the program's own texts to `faults`, and outputs to the folder that the arguments name, below
+/// `root`.
 ///
-/// Returns the exit status: 0 done, 1 a fault of the sources, 2 a device failed, 3 memory ran out, 4 the words are no command line.
+/// Returns the exit status: 0 done, 1 a fault of the sources, 2 a device failed, 3 memory ran out, 4 the command line is wrong.
 pub fn run<R: Files<File = File> + AllocGlobal, L: Write + Drop, F: Write + Drop>(
     rt: &R,
     words: &[String],
@@ -83,7 +84,7 @@ fn perform_line<R: Files<File = File> + AllocGlobal, L: Write + Drop, F: Write +
     let machine = machine_bytes(rt, root, &line.machine_file)?;
     let place = place_below(rt.alloc(), root, line.folder.as_str())?;
     let mut out = DiskOutputs::new(rt, rt.alloc(), place, log, faults)?;
-    let given = Place {
+    let given = RunInputs {
         root,
         machine: &machine,
     };
@@ -99,7 +100,7 @@ fn place_below(alloc: Global, root: &str, folder: &str) -> Result<OutputPlace, A
 
 // Holds the path of the source directory and the bytes of the machine file.
 #[derive(Clone, Copy)]
-struct Place<'a> {
+struct RunInputs<'a> {
     root: &'a str,
     machine: &'a [u8],
 }
@@ -108,7 +109,7 @@ struct Place<'a> {
 fn perform_over<T: Tree, O: Outputs>(
     alloc: Global,
     line: Line,
-    place: &Place<'_>,
+    place: &RunInputs<'_>,
     tree: &mut T,
     out: &mut O,
 ) -> Status
@@ -116,7 +117,7 @@ fn perform_over<T: Tree, O: Outputs>(
     requires out { HasRoom (O.seen out.old).failures }
 
     // If the tree is steady, status `Done` or `Fault` is that of the run of the line's task. The run is over this root, the line's folder
-    // and words, and these bytes of a machine file. With status `Device` or `Memory` the outputs took a beginning of it.
+    // and arguments, and these bytes of a machine file. With status `Device` or `Memory` the outputs took a beginning of it.
     ensures run { (files : DeviceFiles) (said : MachineSaid) → Holds (T.seen tree.old) files → IsSaid place.now.machine.now said
         → Agrees (run_by line.task files
         (settings_of place.now.root.now (string_bytes line.folder) (map string_bytes line.words.items)) said)
@@ -141,7 +142,7 @@ fn perform_over<T: Tree, O: Outputs>(
 fn perform_on_disk<'o, R: Files<File = File> + AllocGlobal, L: Write + Drop, F: Write + Drop>(
     rt: &R,
     line: Line,
-    place: &Place<'_>,
+    place: &RunInputs<'_>,
     out: &mut DiskOutputs<'o, R, L, F>,
 ) -> io::Result<Status>
     requires { HasRoom (⟦<DiskOutputs<'o, R, L, F> as Outputs>⟧.seen out.old).failures }

@@ -2,13 +2,13 @@
 #![tactic(auto)]
 
 ghost use Rattle.std.specs.Prelude.{ℕ, List};
-ghost use Rattle.command.specs.declared.line.Task.TheVariants as tasks;
+ghost use Rattle.command_line.specs.declared.line.Task.TheVariants as tasks;
 ghost use Rattle.interp.specs.Evaluation.{MachineSaid};
 ghost use Rattle.world.specs.Prelude.{Files};
 ghost use Rattle.embedding.specs.Given.{Means};
 ghost use Rattle.embedding.specs.Status.{EndsWith, KeepsAt, given_as};
 
-use embedding::{Ending, Given};
+use embedding::{Ending, InputSlices};
 use std::alloc::Global;
 
 /// Configures the project, as `meson setup` does.
@@ -31,7 +31,7 @@ pub extern "C" fn hawkottoman_setup(
         options said result room.new length.new }
     ensures kept { KeepsAt result room.old room.new length.new }
 {
-    let given = Given {
+    let given = InputSlices {
         paths,
         sizes,
         contents,
@@ -63,7 +63,7 @@ pub extern "C" fn hawkottoman_questions(
         options said result room.new length.new }
     ensures kept { KeepsAt result room.old room.new length.new }
 {
-    let given = Given {
+    let given = InputSlices {
         paths,
         sizes,
         contents,
@@ -95,7 +95,7 @@ pub extern "C" fn hawkottoman_fault(
         options said result room.new length.new }
     ensures kept { KeepsAt result room.old room.new length.new }
 {
-    let given = Given {
+    let given = InputSlices {
         paths,
         sizes,
         contents,

@@ -18,7 +18,7 @@ use Rattle.expressions.specs.Contexts.{Stand, Given, Leads}
 use Rattle.interp.specs.Bounds.{Bounds}
 use Rattle.interp.specs.Evaluates.{HaltsTo, Comes}
 use Rattle.interp.specs.Folders.{folder}
-use Rattle.interp.specs.FolderEntries.{HaltEnds, IsDeeper, RuleEnds, ended_all, enters, inside}
+use Rattle.interp.specs.FolderEntries.{HaltEnds, IsDeeper, RuleEnds, ended_all, enters, folder_in_expression}
 use Rattle.interp.specs.declared.flow.Flow.{Flow}
 use Rattle.interp.specs.declared.halt.Halt.{Halt}
 use Rattle.interp.specs.declared.halt.Halt.TheVariants as halts
@@ -55,7 +55,7 @@ ended-alike files (suc n) p q w h =
     record { fault = a.fault; world = a.world; marks = a.marks ++ Ended ∷ []; one = ap with_end a.one; other = ap with_end a.other }
 
 inside-alike : (A B : Type 0) (files : Files) (left : Bounds) (entry : FolderEntry) (w : World)
-    → Alike (carry files (inside {A = A} left entry) w) (carry files (inside {A = B} left entry) w)
+    → Alike (carry files (folder_in_expression {A = A} left entry) w) (carry files (folder_in_expression {A = B} left entry) w)
 inside-alike A B files left entry w =
     ended-alike files entry.rules (enters {A = A} left entry) (enters {A = B} left entry) w
     (refused-alike {A = A} {B = B} files entry.line refusals.Type [] (carry files (folder left (string_bytes entry.text)) w))
@@ -66,12 +66,12 @@ alike-follow others a = ap (λ x. follow x others) a.one ∙ sym a.other
 -- ---- what was left for a folder
 
 pub leads_left : {A B : Type 0} {files : Files} (left : Bounds) (entry : FolderEntry) {p : Plan A} {others : A → Plan B} {s0 s1 : Stand}
-    → Leads files p s0 (inside left entry) s1 → Leads files (next p others) s0 (inside left entry) s1
+    → Leads files p s0 (folder_in_expression left entry) s1 → Leads files (next p others) s0 (folder_in_expression left entry) s1
 leads_left {A = A} {B = B} {files = files} left entry {others = others} {s1 = s1} l = record {
   continues = record {
     made = l.continues.made;
     is = ap (λ r. follow r (λ a. carry files (others a))) l.continues.is
-        ∙ follow-after l.continues.made (carry files (inside {A = A} left entry) s1.world) (λ a. carry files (others a))
+        ∙ follow-after l.continues.made (carry files (folder_in_expression {A = A} left entry) s1.world) (λ a. carry files (others a))
         ∙ ap (after l.continues.made) (alike-follow (λ a. carry files (others a)) (inside-alike A B files left entry s1.world));
     written = l.continues.written;
   };
@@ -181,16 +181,16 @@ ended-same A B stops.Device = refl
 ended-same A B stops.Memory = refl
 
 ruled-inside : {A : Type 0} (left : Bounds) (entry : FolderEntry)
-    → ruled (inside {A = A} left entry) ≡ inside left (record { text = entry.text; line = entry.line; rules = entry.rules + 1 })
+    → ruled (folder_in_expression {A = A} left entry) ≡ folder_in_expression left (record { text = entry.text; line = entry.line; rules = entry.rules + 1 })
 ruled-inside left entry = ap (λ n. ended_all n (enters left entry)) (sym (add-one entry.rules))
 
 -- the expression was left before it
 rule-left : {A : Type 0} {files : Files} (left : Bounds) {p : Plan A} {s0 s1 : Stand} (entry : FolderEntry) (halt : Halt)
-    → IsDeeper entry halt → Leads files p s0 (inside left entry) s1 → HaltsTo files left (ruled p) s0 halt s1
+    → IsDeeper entry halt → Leads files p s0 (folder_in_expression left entry) s1 → HaltsTo files left (ruled p) s0 halt s1
 rule-left {A = A} {files = files} left {p = p} {s0 = s0} {s1 = s1} entry (halts.Stops stop) d l =
     subst (λ e. Given {B = A} (λ a. a) files (ruled p) s0 (Err e) s1) (sym d) (leads_end (leads_rule l) (given_none l.holds refl))
 rule-left {files = files} left {p = p} {s0 = s0} {s1 = s1} entry (halts.Enters other) d l =
-    subst (λ (e : FolderEntry). Leads files (ruled p) s0 (inside left e) s1) (sym d) (leads_as (ruled-inside left entry) (leads_rule l))
+    subst (λ (e : FolderEntry). Leads files (ruled p) s0 (folder_in_expression left e) s1) (sym d) (leads_as (ruled-inside left entry) (leads_rule l))
 
 -- an expression that halts
 rule-halted : (A : Type 0) (files : Files) (left : Bounds) (p : Plan A) (s0 : Stand) (w : World) (names : List (List ℕ)) (tree : TreeState) (out : OutputState) (n m : ℕ) (halt now : Halt)

@@ -13,16 +13,16 @@ use Rattle.syntax.specs.ExpressionTree.{ExpressionTree, NameTree, LiteralTree, L
 use Rattle.syntax.specs.ExpressionTree.{PrefixTree, ChainTree, TernaryTree, ExpressionTrees, NoExpression, MoreExpressions, EntryTrees}
 use Rattle.syntax.specs.ExpressionTree.{NoEntry, MoreEntries, ArgumentTrees, NoArgument, MoreArguments, LinkTree, MethodTree, IndexTree}
 use Rattle.syntax.specs.ExpressionTree.{LinkTrees, NoLink, MoreLinks, OperandTrees, NoOperand, MoreOperands}
-use Rattle.syntax.specs.Parsed.{parsed}
+use Rattle.syntax.specs.Parsed.{parsed_file}
 use Rattle.syntax.specs.Tree.{StatementTree, AssignTree, AppendTree, ValueTree, BreakTree, ContinueTree, IfTree, ForeachTree, Statements}
 use Rattle.syntax.specs.Tree.{NoStatement, MoreStatements, Branches, NoBranch, MoreBranches, FileTree}
 use Rattle.values.specs.declared.object.Object.{Object}
-use Rattle.values.specs.declared.refusal.Refusal.{Refusal as OperationRefusal}
+use Rattle.values.specs.declared.refusal.OperationRefusal.{OperationRefusal as OperationRefusal}
 use Rattle.values.specs.Data.{Data, boolean, integer, text, list, dictionary, object, Items, no_items, item, items_append, boolean_in}
 use Rattle.values.specs.Data.{object_in, is_disabler}
 use Rattle.values.specs.Limits.{within}
 use Rattle.arguments.specs.Refused.{RefusedData}
-use Rattle.arguments.specs.Rules.{broken}
+use Rattle.arguments.specs.Rules.{breach_message}
 use Rattle.arguments.specs.declared.rule.Rule.TheVariants as call_rules
 use Rattle.support.specs.declared.faults.refusal.Refusal.{Refusal}
 use Rattle.support.specs.declared.faults.refusal.Refusal.TheVariants as refusals
@@ -34,35 +34,35 @@ use Rattle.operations.specs.operators.Literal.{literal_answer}
 use Rattle.operations.specs.declared.operators.literal.LiteralRefusal.{LiteralRefusal}
 use Rattle.operations.specs.declared.operators.literal.LiteralRefusal.TheVariants as literal_refusals
 use Rattle.operations.specs.methods.Methods.{answer as method_answer, has_name}
-use Rattle.objects.specs.Methods.{has_method as has_object_method}
+use Rattle.methods.specs.Methods.{has_method as has_object_method}
 use Rattle.values.specs.texts.Segments.{Segment, text as between, place}
 use Rattle.arguments.specs.Arguments.{ArgumentsData, no_arguments, with_argument}
 use Rattle.arguments.specs.Disablers.{gives_disabler}
-use Rattle.calls.specs.language_calls.Turning.{is_turned_off}
+use Rattle.language_calls.specs.Turning.{is_turned_off}
 use Rattle.values.specs.language_names.Functions.{function_named}
 use Rattle.values.specs.language_names.Names.{is_left_out, is_predefined}
 use Rattle.support.specs.paths.Paths.{folder_below}
 use Rattle.values.specs.declared.language_names.functions.Function.{Function}
 use Rattle.ports.specs.Tree.{file_at}
-use Rattle.world.specs.World.{World, Facts, looking, entering, with_facts, with_place}
+use Rattle.world.specs.World.{World, Facts, world_after_look, world_in_folder, with_facts, with_place}
 use Rattle.world.specs.Run.{Run, ran, follow, after, Done, Faulted, marks_of}
 use Rattle.world.specs.Deed.{Files, Deed, read, refuse as refuse_deed, then as andthen, perform, need}
-use Rattle.world.specs.Plan.{Plan, deed, ruled, next as next_plan, carry, answered, refuse, give}
-use Rattle.world.specs.Costs.{definition_file, is_opened, unopened, spent}
+use Rattle.world.specs.Plan.{Plan, deed, ruled, next as next_plan, carry, answer_at_line, refuse, give}
+use Rattle.world.specs.Costs.{definition_file, is_opened, unopened_cost, cost_of_run}
 use Rattle.world.specs.Start.{first_world}
 use Rattle.world.specs.Trace.{ends_of}
 use Rattle.world.proofs.Costs.{Takes, more as more_in, free as free_in, none as none_in, chain as chain_in, rules as rules_in, opens, paid}
 use Rattle.world.proofs.Costs.{paid-after, spent-after, spent-paid, deed-costs}
-use Rattle.expressions.specs.declared.meaning.Meaning.{Meaning}
-use Rattle.expressions.specs.declared.meaning.Meaning.TheVariants.{Combines, Connects}
+use Rattle.expressions.specs.declared.meaning.InfixOperator.{InfixOperator}
+use Rattle.expressions.specs.declared.meaning.InfixOperator.TheVariants.{Combines, Connects}
 use Rattle.interp.specs.Cost.{value_cost, values_cost, entries_cost, arguments_cost, links_cost, link_cost, chain_cost, statement_cost}
 use Rattle.interp.specs.Cost.{branches_cost, statements_cost, parsed_cost, file_cost, tree_cost}
-use Rattle.expressions.specs.Forms.{known, variable, variable_by, printed_plain, part_text, filled, number, literal_value, meaning_of}
-use Rattle.expressions.specs.Forms.{unless_decided, combined, unchosen, chosen, needed, known_function, refused_name, function_at}
-use Rattle.expressions.specs.Forms.{may_come_first, allowed, function_inside, known_method, may_be_asked_first, value_method, fitted}
+use Rattle.expressions.specs.Forms.{known_value, variable, variable_by, printed_plain, part_text, filled_format_string, number, literal_value, meaning_of}
+use Rattle.expressions.specs.Forms.{unless_decided, operator_value, disabled_ternary, ternary_value, needed_value, known_function, refused_name, function_at}
+use Rattle.expressions.specs.Forms.{may_come_first, allowed_call, function_inside, known_method, may_be_asked_first, value_method, check_at_line}
 use Rattle.expressions.specs.Forms.{answered_with, paired_by}
 use Rattle.expressions.specs.Details.{key_twice, method_detail}
-use Rattle.interp.specs.Expressions.{called_by, called, entered_inside, inside_by, known_object_method, method_at_by, method_at}
+use Rattle.interp.specs.Expressions.{called_by, plan_of_call, entered_inside, inside_by, known_object_method, method_at_by, method_at}
 use Rattle.interp.specs.Expressions.{object_method_called, method_by, method_called_by, method_of, value_of, values_of, entries_of}
 use Rattle.interp.specs.Expressions.{arguments_of, links_of, link_of, chain_of}
 use Rattle.interp.specs.declared.flow.Flow.{Flow}
@@ -75,12 +75,12 @@ use Rattle.interp.specs.declared.statement_calls.Action.{Action}
 use Rattle.interp.specs.declared.statement_calls.Action.TheVariants.{Call, Enter, Leave}
 use Rattle.interp.specs.StatementCalls.{call_by_action, subdir_done_unless, named_call}
 use Rattle.interp.specs.Subdir.{AfterCallData, Ends, Enters, action_of, on_call_end, subdir_unless}
-use Rattle.expressions.specs.Assignments.{configuration_in, own_by, own, added, appended, summed, assigned_by, assigned, bound}
-use Rattle.expressions.specs.Rounds.{Round, looped, item_rounds, entry_rounds}
-use Rattle.expressions.specs.Folders.{opened_by, opened, fresh_by, fresh, go_back}
+use Rattle.expressions.specs.Assignments.{configuration_in, own_by, own, assignment_of_sum, plus_assignment, plus_assignment_of, assigned_by, variable_assignment, assignment_of_round}
+use Rattle.expressions.specs.Rounds.{Round, loop_rounds, item_rounds, entry_rounds}
+use Rattle.expressions.specs.Folders.{opened_by, statements_of_folder, fresh_by, fresh, go_back}
 use Rattle.interp.specs.Folders.{folder_by}
-use Rattle.world.specs.DefinitionFiles.{most_bytes, refuse_line, tree_or_fault, spelled_by, spelled}
-use Rattle.interp.specs.Evaluation.{begun_by, is_project, begins, begins_all, root, MachineSaid, sections_of, defined, evaluated_few}
+use Rattle.world.specs.DefinitionFiles.{most_bytes, refuse_line, tree_or_fault, spelled_by, statements_of_bytes}
+use Rattle.interp.specs.Evaluation.{begun_by, is_project, begins, begins_all, root, MachineSaid, sections_of, plan_of_definitions, evaluated_few}
 use Rattle.interp.specs.Evaluation.{evaluation}
 use Rattle.interp.specs.Laws.{StepsWithinCost}
 use Rattle.interp.proofs.Paths.{not_opened, is_definition}
@@ -115,7 +115,7 @@ module _ (files : Files) where
   refuse-cost : {A : Type 0} {c : ℕ} (line : ℕ) (r : Refusal) (detail : List ℕ) → Takes file_cost files c (refuse {A = A} line r detail)
   refuse-cost line r detail = more (omega arith) (chain (none _) (λ u. none _))
 
-  answered-cost : {A : Type 0} (line : ℕ) (r : Result A OperationRefusal) → Takes file_cost files 0 (answered line r)
+  answered-cost : {A : Type 0} (line : ℕ) (r : Result A OperationRefusal) → Takes file_cost files 0 (answer_at_line line r)
   answered-cost line (Ok a) = free _
   answered-cost line (Err refusal) = refuse-cost line _ []
 
@@ -128,7 +128,7 @@ module _ (files : Files) where
   paired_by-cost line (Err (literal_refusals.Twice key)) = refuse-cost line refusals.Duplicate (key_twice key)
   paired_by-cost line (Err (literal_refusals.Refused refusal)) = refuse-cost line _ []
 
-  known-cost : (line : ℕ) (name : List ℕ) (o : Option Data) → Takes file_cost files 0 (known line name o)
+  known-cost : (line : ℕ) (name : List ℕ) (o : Option Data) → Takes file_cost files 0 (known_value line name o)
   known-cost line name (Some d) = free _
   known-cost line name None = refuse-cost line refusals.UndefinedName name
 
@@ -147,7 +147,7 @@ module _ (files : Files) where
   part_text-cost line (between t) = free _
   part_text-cost line (place name) = first (variable-cost line name) (λ d. printed_plain-cost line _ d)
 
-  filled-cost : (line : ℕ) (made : List ℕ) (ss : List Segment) → Takes file_cost files 0 (filled line made ss)
+  filled-cost : (line : ℕ) (made : List ℕ) (ss : List Segment) → Takes file_cost files 0 (filled_format_string line made ss)
   filled-cost line made [] = answered-cost line _
   filled-cost line made (s ∷ ss) = first (part_text-cost line s) (λ t. filled-cost line (made ++ t) ss)
 
@@ -164,20 +164,20 @@ module _ (files : Files) where
   unless_decided-cost line (Some d) p = free _
   unless_decided-cost line None p = last p (λ e. answered-cost line (right_answer e))
 
-  combined-cost : {right : Plan Data} {c : ℕ} (line : ℕ) (m : Meaning) (d : Data) → Takes file_cost files c right → Takes file_cost files c (combined line m d right)
+  combined-cost : {right : Plan Data} {c : ℕ} (line : ℕ) (m : InfixOperator) (d : Data) → Takes file_cost files c right → Takes file_cost files c (operator_value line m d right)
   combined-cost line (Combines operator) d p = last p (λ e. answered-cost line (binary_answer operator d e))
   combined-cost line (Connects connective) d p = first (answered-cost line (left_answer connective d)) (λ whole. unless_decided-cost line whole p)
 
-  unchosen-cost : (line : ℕ) (b : Bool) → Takes file_cost files 0 (unchosen line b)
+  unchosen-cost : (line : ℕ) (b : Bool) → Takes file_cost files 0 (disabled_ternary line b)
   unchosen-cost line true = free _
   unchosen-cost line false = refuse-cost line refusals.Type []
 
-  chosen-cost : {one other : Plan Data} {c d : ℕ} (line : ℕ) (o : Option Bool) (disabled : Bool) → Takes file_cost files c one → Takes file_cost files d other → Takes file_cost files (c + d) (chosen line o disabled one other)
+  chosen-cost : {one other : Plan Data} {c d : ℕ} (line : ℕ) (o : Option Bool) (disabled : Bool) → Takes file_cost files c one → Takes file_cost files d other → Takes file_cost files (c + d) (ternary_value line o disabled one other)
   chosen-cost line (Some true) disabled p q = more (omega arith) p
   chosen-cost line (Some false) disabled p q = more (omega arith) q
   chosen-cost line None disabled p q = more (omega arith) (unchosen-cost line disabled)
 
-  needed-cost : (line : ℕ) (o : Option Data) → Takes file_cost files 0 (needed line o)
+  needed-cost : (line : ℕ) (o : Option Data) → Takes file_cost files 0 (needed_value line o)
   needed-cost line (Some d) = free _
   needed-cost line None = refuse-cost line refusals.Type []
 
@@ -192,7 +192,7 @@ module _ (files : Files) where
   function_at-cost : (line : ℕ) (name : List ℕ) → Takes file_cost files 0 (function_at line name)
   function_at-cost line name = known_function-cost line name (function_named name)
 
-  allowed-cost : (line : ℕ) (b : Bool) → Takes file_cost files 0 (allowed line b)
+  allowed-cost : (line : ℕ) (b : Bool) → Takes file_cost files 0 (allowed_call line b)
   allowed-cost line true = free _
   allowed-cost line false = refuse-cost line refusals.ProjectCall []
 
@@ -203,10 +203,10 @@ module _ (files : Files) where
   called_by-cost true line f a = free _
   called_by-cost false line f a = first (none _) (λ u. none _)
 
-  called-cost : (line : ℕ) (f : Function) (a : ArgumentsData) → Takes file_cost files 0 (called line f a)
+  called-cost : (line : ℕ) (f : Function) (a : ArgumentsData) → Takes file_cost files 0 (plan_of_call line f a)
   called-cost line f a = called_by-cost (is_turned_off f a) line f a
 
-  fitted-cost : (line : ℕ) (r : Result (Unit {0}) RefusedData) → Takes file_cost files 0 (fitted line r)
+  fitted-cost : (line : ℕ) (r : Result (Unit {0}) RefusedData) → Takes file_cost files 0 (check_at_line line r)
   fitted-cost line (Ok u) = free _
   fitted-cost line (Err refused) = refuse-cost line refused.refusal refused.detail
 
@@ -247,10 +247,10 @@ module _ (files : Files) where
   -- ---- statements
 
   assigned_by-cost : (b : Bool) (line : ℕ) (name : List ℕ) (d : Data) → Takes file_cost files 0 (assigned_by b line name d)
-  assigned_by-cost true line name d = refuse-cost line refusals.Arguments (broken call_rules.IsSettable name)
+  assigned_by-cost true line name d = refuse-cost line refusals.Arguments (breach_message call_rules.IsSettable name)
   assigned_by-cost false line name d = none _
 
-  assigned-cost : (line : ℕ) (name : List ℕ) (d : Data) → Takes file_cost files 0 (assigned line name d)
+  assigned-cost : (line : ℕ) (name : List ℕ) (d : Data) → Takes file_cost files 0 (variable_assignment line name d)
   assigned-cost line name d = assigned_by-cost (is_predefined name) line name d
 
   own_by-cost : (o : Option ℕ) (d : Data) → Takes file_cost files 0 (own_by o d)
@@ -274,7 +274,7 @@ module _ (files : Files) where
   by_choice-cost Others p q = more (omega arith) q
   by_choice-cost Skip p q = free _
 
-  bound-cost : (line : ℕ) (name : List ℕ) (second : Option (List ℕ)) (r : Round) → Takes file_cost files 0 (bound line name second r)
+  bound-cost : (line : ℕ) (name : List ℕ) (second : Option (List ℕ)) (r : Round) → Takes file_cost files 0 (assignment_of_round line name second r)
   bound-cost line name (Some second) (d, Some e) = first (assigned-cost line name d) (λ u. assigned-cost line second e)
   bound-cost line name (Some second) (d, None) = assigned-cost line name d
   bound-cost line name None (d, e) = assigned-cost line name d
@@ -301,7 +301,7 @@ module _ (files : Files) where
   rounds_few-cost line round c p rs false few = refuse-cost line refusals.Limit []
 
   rounds_within-cost : (line : ℕ) (round : Round → Plan Flow) (c : ℕ) → ((r : Round) → Takes file_cost files c (round r)) → (second : Option (List ℕ)) (d : Data)
-      → Takes file_cost files (65536 * (c + 1)) (rounds_within true line round (looped second d))
+      → Takes file_cost files (65536 * (c + 1)) (rounds_within true line round (loop_rounds second d))
   rounds_within-cost line round c p None (list ds) = rounds_few-cost line round c p (item_rounds ds) (nat_le (length (item_rounds ds)) 65536) refl
   rounds_within-cost line round c p (Some second) (dictionary es) = rounds_few-cost line round c p (entry_rounds es) (nat_le (length (entry_rounds es)) 65536) refl
   rounds_within-cost line round c p None (boolean b) = refuse-cost line refusals.Type []
@@ -381,13 +381,13 @@ module _ (files : Files) where
     named_call-cost : (line : ℕ) (name : List ℕ) (es : ArgumentTrees) → Takes file_cost files (arguments_cost es) (named_call into line name es)
     named_call-cost line name es = first (function_at-cost line name) (λ f. last (arguments-cost no_arguments es) (λ a. call_by_action-cost (action_of f) line f a))
 
-    added-cost : (line : ℕ) (name : List ℕ) (d e : Data) → Takes file_cost files 0 (added line name d e)
+    added-cost : (line : ℕ) (name : List ℕ) (d e : Data) → Takes file_cost files 0 (assignment_of_sum line name d e)
     added-cost line name d e = first (answered-cost line (binary_answer Add d e)) (λ sum. assigned-cost line name sum)
 
-    summed-cost : (line : ℕ) (name : List ℕ) (e : Data) → Takes file_cost files 0 (summed line name e)
+    summed-cost : (line : ℕ) (name : List ℕ) (e : Data) → Takes file_cost files 0 (plus_assignment_of line name e)
     summed-cost line name e = first (variable-cost line name) (λ d. added-cost line name d e)
 
-    appended-cost : (line : ℕ) (name : List ℕ) (value : ExpressionTree) → Takes file_cost files (value_cost value) (appended line name (ruled (value_of into value)))
+    appended-cost : (line : ℕ) (name : List ℕ) (value : ExpressionTree) → Takes file_cost files (value_cost value) (plus_assignment line name (ruled (value_of into value)))
     appended-cost line name value = first (variable-cost line name) (λ o. last (value-cost value) (λ e. summed-cost line name e))
 
     eval_statement-cost : {p : Plan Data} {c : ℕ} → Takes file_cost files c p
@@ -414,7 +414,7 @@ module _ (files : Files) where
       does-cost (ContinueTree line) = rules (none _)
       does-cost (IfTree line branches otherwise) = rules (branches-cost branches otherwise (all-cost otherwise))
       does-cost (ForeachTree line name second items items_line body) =
-          rules (chain (value-cost items) (rounds_within-cost line (λ r. next_plan (bound line name second r) (λ u. do_all into true body)) (statements_cost body) (λ r. first (bound-cost line name second r) (λ u. all-cost body)) second))
+          rules (chain (value-cost items) (rounds_within-cost line (λ r. next_plan (assignment_of_round line name second r) (λ u. do_all into true body)) (statements_cost body) (λ r. first (bound-cost line name second r) (λ u. all-cost body)) second))
 
       branches-cost : (bs : Branches) (otherwise : Statements) → Takes file_cost files (statements_cost otherwise) (do_all into true otherwise) → Takes file_cost files (branches_cost bs + statements_cost otherwise) (branches_of into true bs (do_all into true otherwise))
       branches-cost NoBranch otherwise p = more (omega arith) p
@@ -435,78 +435,78 @@ module _ (files : Files) where
   tree-paid (Ok tree) w = omega arith
   tree-paid (Err fault) w = omega arith
 
-  by-paid : (b : Bool) (bytes : List ℕ) (w : World) → paid worth (perform files (spelled_by b bytes) w) ≤ (if b then parsed_cost (parsed bytes) else 0)
+  by-paid : (b : Bool) (bytes : List ℕ) (w : World) → paid worth (perform files (spelled_by b bytes) w) ≤ (if b then parsed_cost (parsed_file bytes) else 0)
   unfolding spelled_by refuse_line
-  by-paid true bytes w = tree-paid (parsed bytes) w
+  by-paid true bytes w = tree-paid (parsed_file bytes) w
   by-paid false bytes w = omega arith
 
-  needed-paid : (c : Bool) (bytes : List ℕ) (w : World) → paid worth (perform files (andthen (need c refusals.Limit []) (λ u. spelled_by (is_utf8 bytes) bytes)) w) ≤ (if is_utf8 bytes then parsed_cost (parsed bytes) else 0)
+  needed-paid : (c : Bool) (bytes : List ℕ) (w : World) → paid worth (perform files (andthen (need c refusals.Limit []) (λ u. spelled_by (is_utf8 bytes) bytes)) w) ≤ (if is_utf8 bytes then parsed_cost (parsed_file bytes) else 0)
   unfolding need
   needed-paid true bytes w = omega (arith, paid-after worth [] (perform files (spelled_by (is_utf8 bytes) bytes) w), by-paid (is_utf8 bytes) bytes w)
   needed-paid false bytes w = omega arith
 
-  spelled-paid : (folder bytes : List ℕ) (w : World) → paid worth (perform files (spelled bytes) w) ≤ file_cost (definition_file folder, bytes)
-  unfolding spelled
+  spelled-paid : (folder bytes : List ℕ) (w : World) → paid worth (perform files (statements_of_bytes bytes) w) ≤ file_cost (definition_file folder, bytes)
+  unfolding statements_of_bytes
   spelled-paid folder bytes w =
-      let e : file_cost (definition_file folder, bytes) ≡ (if is_utf8 bytes then parsed_cost (parsed bytes) else 0) = ap (λ b. if b && is_utf8 bytes then parsed_cost (parsed bytes) else 0) (is_definition folder) in
+      let e : file_cost (definition_file folder, bytes) ≡ (if is_utf8 bytes then parsed_cost (parsed_file bytes) else 0) = ap (λ b. if b && is_utf8 bytes then parsed_cost (parsed_file bytes) else 0) (is_definition folder) in
       omega (arith, e, needed-paid (nat_le (length bytes) most_bytes) bytes w)
 
   -- a folder that was not entered pays for what its file does
   opened_by-paid : (folder : List ℕ) (o : Option (List ℕ)) (w : World) → is_opened w.entered (definition_file folder) ≡ false → file_at files (definition_file folder) ≡ o
-      → spent file_cost files (carry files (opened_by folder o) w) + paid worth (carry files (opened_by folder o) w) ≤ unopened file_cost files w.entered
+      → cost_of_run file_cost files (carry files (opened_by folder o) w) + paid worth (carry files (opened_by folder o) w) ≤ unopened_cost file_cost files w.entered
   opened_by-paid folder None w new is = omega arith
   opened_by-paid folder (Some bytes) w new is =
-      let w' : World = with_facts (entering w folder) (with_place (definition_file folder) folder 1 w.facts) in
-      let r : Run Statements = perform files (spelled bytes) w' in
+      let w' : World = with_facts (world_in_folder w folder) (with_place (definition_file folder) folder 1 w.facts) in
+      let r : Run Statements = perform files (statements_of_bytes bytes) w' in
       omega (
         arith,
         spent-after file_cost files [] (after [] r),
         spent-after file_cost files [] r,
         paid-after worth [] (after [] r),
         paid-after worth [] r,
-        (deed-costs file_cost files (spelled bytes)).within w',
+        (deed-costs file_cost files (statements_of_bytes bytes)).within w',
         spelled-paid folder bytes w',
         opens file_cost files w.entered folder bytes new is,
       )
 
   opened-paid : (folder : List ℕ) (w : World) → is_opened w.entered (definition_file folder) ≡ false
-      → spent file_cost files (carry files (opened folder) w) + paid worth (carry files (opened folder) w) ≤ unopened file_cost files w.entered
+      → cost_of_run file_cost files (carry files (statements_of_folder folder) w) + paid worth (carry files (statements_of_folder folder) w) ≤ unopened_cost file_cost files w.entered
   opened-paid folder w new =
-      let w' : World = looking w (definition_file folder) (is_some (file_at files (definition_file folder))) in
+      let w' : World = world_after_look w (definition_file folder) (is_some (file_at files (definition_file folder))) in
       let r : Run Statements = carry files (opened_by folder (file_at files (definition_file folder))) w' in
       omega (arith, spent-after file_cost files [] r, paid-after worth [] r, opened_by-paid folder (file_at files (definition_file folder)) w' new refl)
 
   -- and then what its statements do
   body-paid : {A : Type 0} (folder : List ℕ) (others : Statements → Plan A) → ((body : Statements) → Takes file_cost files (worth body) (others body)) → (w : World) → is_opened w.entered (definition_file folder) ≡ false
-      → spent file_cost files (carry files (next_plan (opened folder) others) w) ≤ unopened file_cost files w.entered
+      → cost_of_run file_cost files (carry files (next_plan (statements_of_folder folder) others) w) ≤ unopened_cost file_cost files w.entered
   body-paid folder others p w new =
-      omega (arith, opened-paid folder w new, spent-paid file_cost files worth (carry files (opened folder) w) (λ body. carry files (others body)) (λ body. (p body).costs))
+      omega (arith, opened-paid folder w new, spent-paid file_cost files worth (carry files (statements_of_folder folder) w) (λ body. carry files (others body)) (λ body. (p body).costs))
 
   abbrev fresh_as : List ℕ → List ℕ → Bool → Bool → Plan (List ℕ)
-  fresh_as t path b c = next_plan (deed (need (not b) refusals.Subdir (broken call_rules.IsNew t))) (λ u. next_plan (deed (need c refusals.Limit [])) (λ v. give path))
+  fresh_as t path b c = next_plan (deed (need (not b) refusals.Subdir (breach_message call_rules.IsNew t))) (λ u. next_plan (deed (need c refusals.Limit [])) (λ v. give path))
 
-  fresh_as-paid : (others : List ℕ → Plan Flow) (t path : List ℕ) (b c : Bool) (w : World) → (b ≡ false → spent file_cost files (carry files (others path) w) ≤ unopened file_cost files w.entered)
-      → spent file_cost files (carry files (next_plan (fresh_as t path b c) others) w) ≤ unopened file_cost files w.entered
+  fresh_as-paid : (others : List ℕ → Plan Flow) (t path : List ℕ) (b c : Bool) (w : World) → (b ≡ false → cost_of_run file_cost files (carry files (others path) w) ≤ unopened_cost file_cost files w.entered)
+      → cost_of_run file_cost files (carry files (next_plan (fresh_as t path b c) others) w) ≤ unopened_cost file_cost files w.entered
   unfolding need
   fresh_as-paid others t path true c w p = omega arith
   fresh_as-paid others t path false true w p = omega (arith, spent-after file_cost files [] (carry files (others path) w), p refl)
   fresh_as-paid others t path false false w p = omega arith
 
   fresh_by-paid : (others : List ℕ → Plan Flow) (t : List ℕ) (o : Option (List ℕ)) (w : World)
-      → ((path : List ℕ) → is_opened w.entered (definition_file path) ≡ false → spent file_cost files (carry files (others path) w) ≤ unopened file_cost files w.entered)
-      → spent file_cost files (carry files (next_plan (fresh_by t o w.entered) others) w) ≤ unopened file_cost files w.entered
+      → ((path : List ℕ) → is_opened w.entered (definition_file path) ≡ false → cost_of_run file_cost files (carry files (others path) w) ≤ unopened_cost file_cost files w.entered)
+      → cost_of_run file_cost files (carry files (next_plan (fresh_by t o w.entered) others) w) ≤ unopened_cost file_cost files w.entered
   fresh_by-paid others t None w p = omega arith
   fresh_by-paid others t (Some path) w p =
       fresh_as-paid others t path (list_any (bytes_eq path) w.entered) (nat_lt (length w.entered) 4096) w (λ h. p path (not_opened w.entered path ∙ h))
 
   fresh-paid : (others : List ℕ → Plan Flow) (t : List ℕ) (w : World)
-      → ((path : List ℕ) → is_opened w.entered (definition_file path) ≡ false → spent file_cost files (carry files (others path) w) ≤ unopened file_cost files w.entered)
-      → spent file_cost files (carry files (next_plan (fresh t) others) w) ≤ unopened file_cost files w.entered
+      → ((path : List ℕ) → is_opened w.entered (definition_file path) ≡ false → cost_of_run file_cost files (carry files (others path) w) ≤ unopened_cost file_cost files w.entered)
+      → cost_of_run file_cost files (carry files (next_plan (fresh t) others) w) ≤ unopened_cost file_cost files w.entered
   fresh-paid others t w p =
       let q = fresh_by-paid others t (folder_below w.facts.folder t) w p in
       omega (arith, q, fresh-as others (carry files (fresh_by t (folder_below w.facts.folder t) w.entered) w))
     where
-      fresh-as : (others : List ℕ → Plan Flow) (r : Run (List ℕ)) → spent file_cost files (follow (after [] (after [] r)) (λ a. carry files (others a))) ≡ spent file_cost files (follow r (λ a. carry files (others a)))
+      fresh-as : (others : List ℕ → Plan Flow) (r : Run (List ℕ)) → cost_of_run file_cost files (follow (after [] (after [] r)) (λ a. carry files (others a))) ≡ cost_of_run file_cost files (follow r (λ a. carry files (others a)))
       fresh-as others (ran (Done path) v ms) = refl
       fresh-as others (ran (Faulted f) v ms) = refl
 
@@ -521,10 +521,10 @@ module _ (files : Files) where
         costs = record {
           within = λ w. omega (
             arith,
-            fresh-paid (λ path. next_plan (deed read) (λ outer. next_plan (opened path) (others outer))) t w
+            fresh-paid (λ path. next_plan (deed read) (λ outer. next_plan (statements_of_folder path) (others outer))) t w
                 (λ path h. omega (
                   arith,
-                  spent-after file_cost files [] (carry files (next_plan (opened path) (others w.facts)) w),
+                  spent-after file_cost files [] (carry files (next_plan (statements_of_folder path) (others w.facts)) w),
                   body-paid path (others w.facts) (λ body. back-cost (do_all (folder_by true left) true body) w.facts (all-cost (folder_by true left) (folder-cost left) body)) w h,
                 )),
           );
@@ -553,21 +553,21 @@ module _ (files : Files) where
   root-cost : (ss : Statements) → Takes file_cost files (statements_cost ss) (root true ss)
   root-cost ss = first (begins_all-cost ss) (λ u. all-cost (folder_by true 63) (folder-cost 63) ss)
 
-  definitions-cost : (w : World) → is_opened w.entered (definition_file []) ≡ false → spent file_cost files (carry files (defined true) w) ≤ unopened file_cost files w.entered
+  definitions-cost : (w : World) → is_opened w.entered (definition_file []) ≡ false → cost_of_run file_cost files (carry files (plan_of_definitions true) w) ≤ unopened_cost file_cost files w.entered
   definitions-cost w new = body-paid [] (λ body. next_plan (ruled (root true body)) (λ u. give (tt {0}))) (λ body. last (rules (root-cost body)) (λ u. none _)) w new
 
-  begun_run : (said : MachineSaid) (w : World) → w.entered ≡ [] → spent file_cost files (carry files (evaluation true said) w) ≤ unopened file_cost files w.entered
+  begun_run : (said : MachineSaid) (w : World) → w.entered ≡ [] → cost_of_run file_cost files (carry files (evaluation true said) w) ≤ unopened_cost file_cost files w.entered
   unfolding refuse_about
   begun_run (Ok sections) w none_entered = definitions-cost w (ap (λ l. is_opened l (definition_file [])) none_entered)
   begun_run (Err fault) w none_entered = omega arith
 
-unopened-none : (files : Files) → unopened file_cost files [] ≡ tree_cost files
+unopened-none : (files : Files) → unopened_cost file_cost files [] ≡ tree_cost files
 unopened-none [] = refl
 unopened-none (f ∷ fs) = ap (λ n. file_cost f + n) (unopened-none fs)
 
 within_cost : (files : Files) (said : MachineSaid) (w : World) → w.entered ≡ [] → ends_of (marks_of (carry files (evaluation true said) w)) ≤ tree_cost files
 within_cost files said w none_entered =
-    omega (arith, begun_run files said w none_entered, ap (unopened file_cost files) none_entered, unopened-none files)
+    omega (arith, begun_run files said w none_entered, ap (unopened_cost file_cost files) none_entered, unopened-none files)
 
 pub steps_within_cost : StepsWithinCost
 unfolding evaluated_few

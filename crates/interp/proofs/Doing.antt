@@ -18,7 +18,7 @@ use Rattle.interp.specs.Bounds.{Bounds}
 use Rattle.interp.specs.Evaluates.{Comes, HaltsTo}
 use Rattle.interp.specs.Folders.{folder}
 use Rattle.interp.specs.Frames.{DoneHere, DoneTo, Parts, Rested, parts_by, round_by, tour_left, walk_left}
-use Rattle.interp.specs.FolderEntries.{inside}
+use Rattle.interp.specs.FolderEntries.{folder_in_expression}
 use Rattle.interp.specs.Statements.{after_round, do_all, does, on_next, rounds_of}
 use Rattle.expressions.specs.Rounds.{Round}
 use Rattle.interp.specs.declared.frames.LoopHead.{LoopHead}
@@ -56,7 +56,7 @@ done_none {files = files} {left = left} {plan = plan} {s0 = s0} {s1 = s1} is d =
 pub done_stops : {files : Files} {left : Bounds} {plan : Plan Flow} {s0 s1 : Stand} {halt : Halt} {stop : Stop} → halt ≡ halts.Stops stop → DoneHere files left plan s0 (Err halt) s1 → Given {B = Flow} (λ f. f) files plan s0 (Err stop) s1
 done_stops {files = files} {left = left} {plan = plan} {s0 = s0} {s1 = s1} is d = subst (λ (x : Halt). HaltsTo files left plan s0 x s1) is d.done
 
-pub done_enters : {files : Files} {left : Bounds} {plan : Plan Flow} {s0 s1 : Stand} {halt : Halt} {entry : Box FolderEntry Global} → halt ≡ halts.Enters entry → DoneHere files left plan s0 (Err halt) s1 → Leads files plan s0 (inside left entry.value) s1
+pub done_enters : {files : Files} {left : Bounds} {plan : Plan Flow} {s0 s1 : Stand} {halt : Halt} {entry : Box FolderEntry Global} → halt ≡ halts.Enters entry → DoneHere files left plan s0 (Err halt) s1 → Leads files plan s0 (folder_in_expression left entry.value) s1
 done_enters {files = files} {left = left} {plan = plan} {s0 = s0} {s1 = s1} is d = subst (λ (x : Halt). HaltsTo files left plan s0 x s1) is d.done
 
 -- ---- which need the stack

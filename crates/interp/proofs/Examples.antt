@@ -2,21 +2,21 @@
 use Rattle.std.proofs.Common.{◌≡◌, false, [], ◌∷◌, Some, None, codes, refl}
 use Rattle.std.specs.Str.{chars, is_utf8}
 use lib.Utf8.{encode}
-use Rattle.syntax.specs.lexer.Lexing.{format_at, lex, lexed, number_at, string_at, symbol_at, token_at, word_at}
+use Rattle.syntax.specs.lexer.Lexing.{format_at, lex, lexed_tokens, number_at, string_at, symbol_at, token_at, word_at}
 use Rattle.syntax.specs.ExpressionTree.{LiteralTree, ListTree, NameTree, NoExpression, MoreExpressions}
-use Rattle.syntax.specs.Parsed.{parsed}
+use Rattle.syntax.specs.Parsed.{parsed_file}
 use Rattle.syntax.specs.Tree.{AssignTree, BreakTree, ForeachTree, ValueTree, Statements, NoStatement, MoreStatements}
 use Rattle.syntax.specs.declared.tree.Literal.TheVariants as literals
 use Rattle.support.specs.declared.faults.refusal.Refusal.TheVariants as refusals
 use Rattle.values.specs.Data.{boolean}
-use Rattle.world.specs.DefinitionFiles.{refuse_line, spelled, spelled_by, tree_or_fault}
+use Rattle.world.specs.DefinitionFiles.{refuse_line, statements_of_bytes, spelled_by, tree_or_fault}
 use Rattle.world.specs.Deed.{Files, need}
 use Rattle.world.specs.Plan.{◌>>=◌, carry, give}
 use Rattle.world.specs.Run.{Run, Faulted, marks_of, outcome_of, world_after}
 use Rattle.world.specs.Settings.{SettingsData}
 use Rattle.world.specs.Start.{first_world}
 use Rattle.world.specs.Trace.{ends_of}
-use Rattle.world.specs.World.{World, entering}
+use Rattle.world.specs.World.{World, world_in_folder}
 use Rattle.interp.specs.Bounds.{bounds}
 use Rattle.interp.specs.Folders.{folder}
 use Rattle.expressions.specs.Folders.{go_to}
@@ -65,7 +65,7 @@ unfolding need
 absent = refl
 
 -- it was entered before
-again : outcome_of (carry [] (folder (bounds false 1) (codes "sub")) (entering begun (codes "sub")))
+again : outcome_of (carry [] (folder (bounds false 1) (codes "sub")) (world_in_folder begun (codes "sub")))
     ≡ Faulted (record { file = codes "meson.build"; line = 1; refusal = refusals.Subdir; detail = codes "folder 'sub': was entered before" })
 unfolding need
 again = refl
@@ -81,7 +81,7 @@ file_inside = (codes "sub/meson.build", codes "\n$\n") ∷ []
 
 inside : outcome_of (carry file_inside (folder (bounds false 1) (codes "sub")) begun)
     ≡ Faulted (record { file = codes "sub/meson.build"; line = 2; refusal = refusals.Token; detail = [] })
-unfolding need spelled spelled_by tree_or_fault refuse_line is_utf8 chars encode parsed lexed lex token_at word_at number_at string_at format_at symbol_at
+unfolding need statements_of_bytes spelled_by tree_or_fault refuse_line is_utf8 chars encode parsed_file lexed_tokens lex token_at word_at number_at string_at format_at symbol_at
 inside = refl
 
 -- a name that no variable has, in the second line of a folder's file

@@ -8,7 +8,7 @@ use Rattle.expressions.specs.Contexts.{Leads, Stand}
 use Rattle.interp.specs.Bounds.{Bounds}
 use Rattle.interp.specs.Evaluates.{HaltsTo}
 use Rattle.interp.specs.Frames.{Begun, BeginsTo, Moves, Rest, Stacked, Waits, behind_all}
-use Rattle.interp.specs.FolderEntries.{inside}
+use Rattle.interp.specs.FolderEntries.{folder_in_expression}
 use Rattle.interp.specs.declared.flow.Flow.{Flow}
 use Rattle.interp.specs.declared.frames.Frame.{Frame}
 use Rattle.interp.specs.declared.halt.Halt.{Halt}

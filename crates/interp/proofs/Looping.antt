@@ -6,7 +6,7 @@ use Rattle.std.proofs.lemmas.Bool.Decides.{nat_tests}
 use Rattle.values.specs.Data.{Data}
 use Rattle.support.specs.declared.faults.refusal.Refusal.{Refusal}
 use Rattle.world.specs.Plan.{Plan, refuse}
-use Rattle.expressions.specs.Rounds.{HasFewRounds, Loops, rounds_in, Round, looped}
+use Rattle.expressions.specs.Rounds.{HasFewRounds, Loops, rounds_in, Round, loop_rounds}
 use Rattle.interp.specs.Statements.{rounds_of, rounds_within, rounds_if}
 use Rattle.interp.specs.declared.flow.Flow.{Flow}
 
@@ -25,11 +25,11 @@ allowed true line round rs h = counted line round rs (nat_le (length rs) 65536) 
 
 -- so it is walked
 pub walks : {A : Type 0} (few has : Bool) (d : Data) (line : ℕ) (round : Round → Plan Flow) (f : A → List ℕ) (second : Option A) → has ≡ is_some second → Loops has d (Ok tt) → HasFewRounds d
-    → rounds_of round (rounds_in d) ≡ rounds_within few line round (looped (option_map f second) d)
+    → rounds_of round (rounds_in d) ≡ rounds_within few line round (loop_rounds (option_map f second) d)
 walks few has d line round f second is h small =
     allowed few line round (rounds_in d) small ∙ ap (rounds_within few line round) (sym (h (option_map f second) (is_some-map f second ∙ sym is)))
 
 -- or it is refused
 pub walks_not : {A : Type 0} (few has : Bool) (d : Data) (line : ℕ) (round : Round → Plan Flow) (f : A → List ℕ) (second : Option A) (refusal : Refusal) → has ≡ is_some second → Loops has d (Err refusal)
-    → refuse line refusal [] ≡ rounds_within few line round (looped (option_map f second) d)
+    → refuse line refusal [] ≡ rounds_within few line round (loop_rounds (option_map f second) d)
 walks_not few has d line round f second refusal is h = ap (rounds_within few line round) (sym (h (option_map f second) (is_some-map f second ∙ sym is)))

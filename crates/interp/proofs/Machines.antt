@@ -1,5 +1,5 @@
 -- What the bytes of a machine file say: one thing, and no other.
-use Rattle.machine.proofs.Saying.{same_said, some_said}
+use Rattle.machine_file.proofs.Saying.{same_said, some_said}
 use Rattle.interp.specs.Laws.{MachineFilesSay}
 
 pub machine_files_say : MachineFilesSay

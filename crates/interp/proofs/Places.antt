@@ -13,14 +13,14 @@ use Rattle.world.proofs.Follow.{begun, refused_later}
 use Rattle.world.proofs.Marks.{none_added}
 use Rattle.expressions.specs.Contexts.{Stand, Given, seen_of, Leads}
 use Rattle.interp.specs.Folders.{folder_by}
-use Rattle.expressions.specs.Folders.{fresh, go_back, opened}
+use Rattle.expressions.specs.Folders.{fresh, go_back, statements_of_folder}
 use Rattle.interp.specs.Statements.{do_all}
 use Rattle.interp.specs.declared.flow.Flow.{Flow}
 use Rattle.interp.specs.declared.flow.Flow.TheVariants.{Next}
 
 -- a folder that is fresh, at the place before
 abbrev pub entered_from : Bool → ℕ → List ℕ → Facts → Plan Flow
-entered_from few left path outer = next (opened path) (λ body. next (ruled (do_all (folder_by few left) few body)) (λ _. next (go_back outer) (λ _. give Next)))
+entered_from few left path outer = next (statements_of_folder path) (λ body. next (ruled (do_all (folder_by few left) few body)) (λ _. next (go_back outer) (λ _. give Next)))
 
 abbrev pub entered_fresh : Bool → ℕ → List ℕ → Plan Flow
 entered_fresh few zero path = deed (refuse refusals.Limit [])

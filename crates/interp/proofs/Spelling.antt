@@ -31,7 +31,7 @@ use Rattle.interp.specs.Expressions.{given_by, value_of}
 use Rattle.interp.specs.Frames.{Chooses, Made, above_branch, part_done}
 use Rattle.interp.specs.Parts.{above}
 use Rattle.expressions.specs.Rounds.{RoundAt, round_data, Round}
-use Rattle.expressions.specs.Assignments.{bound}
+use Rattle.expressions.specs.Assignments.{assignment_of_round}
 use Rattle.interp.specs.Statements.{do_all, expression_statement}
 use Rattle.expressions.specs.declared.loops.Round.{Round as Declared}
 use Rattle.interp.specs.declared.flow.Flow.{Flow}
@@ -129,10 +129,10 @@ round_none xs at o is h = let P : Option Declared → Type 0 = λ p. RoundAt xs 
 
 -- the variables of a round by the names as they were
 pub bound_as : {c : Code} {names table : List (List ℕ)} (m : Made c names table) (line first : ℕ) (second : Option ℕ) (r : Round) → IsTrue (nat_lt first c.names) → IsTrue (second_within c.names second)
-    → bound line (name_at names first) (option_map (name_at names) second) r ≡ bound line (name_at table first) (option_map (name_at table) second) r
+    → assignment_of_round line (name_at names first) (option_map (name_at names) second) r ≡ assignment_of_round line (name_at table first) (option_map (name_at table) second) r
 bound_as {names = names} {table = table} m line first second r h k =
-    ap (λ (n : List ℕ). bound line n (option_map (name_at names) second) r) (named m first h).1
-    ∙ ap (λ (o : Option (List ℕ)). bound line (name_at table first) o r) (second_named m second k).1
+    ap (λ (n : List ℕ). assignment_of_round line n (option_map (name_at names) second) r) (named m first h).1
+    ∙ ap (λ (o : Option (List ℕ)). assignment_of_round line (name_at table first) o r) (second_named m second k).1
 
 -- the next branch
 pub branch_next : (ts : List ExpressionTree) (ss : List StatementTree) (bs : List BranchNode) (i : ℕ) (b : BranchNode) → i < length bs → b ≡ get_or bs i b

@@ -9,7 +9,7 @@ use Rattle.world.specs.Deed.{Files}
 use Rattle.world.specs.Gives.{Gives, Holds, is_ended}
 use Rattle.world.specs.Plan.{Plan, next, ruled, carry, give, refuse}
 use Rattle.world.specs.Run.{Run, after, follow, with_end}
-use Rattle.world.specs.Trace.{Mark, seen}
+use Rattle.world.specs.Trace.{Mark, seen_from_parts}
 use Rattle.world.specs.World.{World}
 use Rattle.world.specs.declared.stop.Stop.{Stop}
 use Rattle.world.specs.declared.stop.Stop.TheVariants as stops
@@ -28,7 +28,7 @@ use Rattle.interp.specs.declared.frames.LoopRest.{LoopRest}
 use Rattle.interp.specs.declared.frames.Frame.{Frame}
 use Rattle.interp.specs.declared.frames.Frame.TheVariants as frames
 use Rattle.interp.specs.Frames.{Rest, Others, Rounds, End, Left, Refuses, one_round, gone_back, behind, behind_all, Made, Means, EachMeans}
-use Rattle.interp.specs.Frames.{Stacked, ends_in, pending, unwound, Moved, Moves, Stepped, others_by, round_by, rounds_left}
+use Rattle.interp.specs.Frames.{Stacked, ends_in, pending_rules, unwound_rules, Moved, Moves, Stepped, others_by, round_by, rounds_left}
 use Rattle.interp.specs.FolderEntries.{ended_all}
 use Rattle.expressions.proofs.Evaluating.{follow-after, with_end-after, given_give, given_none, given_rule, given_stop, leads_as, leads_end}
 use Rattle.expressions.proofs.Evaluating.{leads_further, leads_given, leads_next}
@@ -112,14 +112,14 @@ counted-sum (stops.Refused fault) m n = omega arith
 counted-sum stops.Device m n = refl
 counted-sum stops.Memory m n = refl
 
-counted-pending : (stop : Stop) (fs : List Frame) → unwound stop fs ≡ counted stop (pending fs)
+counted-pending : (stop : Stop) (fs : List Frame) → unwound_rules stop fs ≡ counted stop (pending_rules fs)
 counted-pending (stops.Refused fault) fs = refl
 counted-pending stops.Device fs = refl
 counted-pending stops.Memory fs = refl
 
 pub given_counting : {A B : Type 0} {view : B → A} {files : Files} {p : Plan A} {s0 s : Stand} {result : Result B Stop} (n : ℕ) → n ≡ s.ticks → Given view files p s0 result s → Given view files p s0 result (counting n s)
 given_counting {view = view} {files = files} {p = p} {s0 = s0} {s = s} {result = result} n e g = record {
-  gives = subst (λ k. Gives view (carry files p s0.world) result s.world (seen_of s0) (seen s.out k s.names)) (sym e) g.gives;
+  gives = subst (λ k. Gives view (carry files p s0.world) result s.world (seen_of s0) (seen_from_parts s.out k s.names)) (sym e) g.gives;
   holds = g.holds;
 }
 
@@ -146,7 +146,7 @@ means-ends names frames.End r m = sym (ap ends_of_rest m)
 means-ends names (frames.Left place) r m = sym (ap ends_of_rest m)
 means-ends names (frames.Refuses line) r m = sym (ap ends_of_rest m)
 
-stacked-ends : (names : List (List ℕ)) (fs : List Frame) (rs : List Rest) → EachMeans names fs rs → pending fs ≡ ends_of_all rs
+stacked-ends : (names : List (List ℕ)) (fs : List Frame) (rs : List Rest) → EachMeans names fs rs → pending_rules fs ≡ ends_of_all rs
 stacked-ends names [] [] h = refl
 stacked-ends names (f ∷ fs) (r ∷ rs) h = omega (arith, means-ends names f r h.0, stacked-ends names fs rs h.1)
 stacked-ends names [] (r ∷ rs) h = absurd h
@@ -244,7 +244,7 @@ pub moves_given : (fs : List Frame) (rs : List Rest) {files : Files} {p : Plan F
     → Stacked s0.names fs rs → Given (λ f. f) files p s0 result s1 → Moves files (behind_all rs p) s0 result fs s1
 moves_given fs rs (Ok flow) h g = record { moves = record { rests = rs; stacked = stacked_on fs rs g.gives.written.names h; leads = leads_under rs (leads_given g) } }
 moves_given fs rs {s0 = s0} {s1 = s1} (Err stop) h g =
-    record { moves = stops_under rs stop (s1.ticks + unwound stop fs) (ap (λ n. s1.ticks + n) (counted-pending stop fs ∙ ap (counted stop) (stacked-ends s0.names fs rs h.each))) g }
+    record { moves = stops_under rs stop (s1.ticks + unwound_rules stop fs) (ap (λ n. s1.ticks + n) (counted-pending stop fs ∙ ap (counted stop) (stacked-ends s0.names fs rs h.each))) g }
 
 -- want of memory
 pub moves_none : {files : Files} {whole rest : Plan Flow} {s0 s1 : Stand} (result : Result Flow Stop) (fs : List Frame)

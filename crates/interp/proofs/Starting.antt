@@ -12,8 +12,8 @@ use Rattle.code.proofs.CallerLemmas.{node_opens, statement_opens, statement_part
 use Rattle.code.proofs.Trees.{less}
 use Rattle.expressions.specs.Contexts.{Given, Stand}
 use Rattle.expressions.specs.Codes.{expressions_by, statements_by}
-use Rattle.machine.specs.machine_file.Fault.{told}
-use Rattle.machine.specs.machine_file.Files.{Section}
+use Rattle.machine_file.specs.Fault.{fault_of_machine_file}
+use Rattle.machine_file.specs.Files.{Section}
 use Rattle.world.specs.Details.{refuse_about}
 use Rattle.world.specs.Settings.{SettingsData}
 use Rattle.world.specs.Start.{first_world}
@@ -25,7 +25,7 @@ use Rattle.interp.proofs.Ticking.{evaluated_done, evaluated_none, evaluated_stop
 use Rattle.world.specs.Gives.{Ends, Gives}
 use Rattle.world.specs.Run.{Done, Run}
 use Rattle.world.specs.Plan.{Plan, carry}
-use Rattle.world.specs.Trace.{Seen, seen}
+use Rattle.world.specs.Trace.{Seen, seen_from_parts}
 use Rattle.world.specs.World.{World, with_facts, with_place}
 use Rattle.world.specs.declared.stop.Stop.{Stop}
 use Rattle.world.specs.declared.stop.Stop.TheVariants as stops
@@ -33,7 +33,7 @@ use Rattle.world.proofs.Follow.{begun, refused_later}
 use Rattle.syntax.specs.Tree.{StatementTree, AssignTree, AppendTree, ValueTree, BreakTree, ContinueTree, IfTree, ForeachTree, Statements}
 use Rattle.syntax.specs.Tree.{NoStatement, MoreStatements}
 use Rattle.interp.specs.FirstStatement.{Reads, RootGives, Starts, begun_at, line_before, line_unless, other_line}
-use Rattle.interp.specs.Evaluation.{MachineSaid, begins, begins_all, begun_by, defined, evaluation, is_project, sections_of}
+use Rattle.interp.specs.Evaluation.{MachineSaid, begins, begins_all, begun_by, plan_of_definitions, evaluation, is_project, sections_of}
 
 -- the tree of a statement that is there
 pub statement_is : (names : List (List ℕ)) (c : Code) (i : ℕ) (x n : StatementNode) → i < length c.statements.items → x ≡ get_or c.statements.items i x → x ≡ n
@@ -80,8 +80,8 @@ run_of few files s said = carry files (evaluation few said) (first_world s (sect
 
 -- the world in which the root file is evaluated, and the whole evaluation
 started : (few : Bool) (files : Files) (s : SettingsData) (said : MachineSaid) (kept : Kept) → Starts s said (Ok kept)
-    → carry files (defined few) (world_of kept) ≡ run_of few files s said
-started few files s (Ok sections) kept is = ap (carry files (defined few)) is
+    → carry files (plan_of_definitions few) (world_of kept) ≡ run_of few files s said
+started few files s (Ok sections) kept is = ap (carry files (plan_of_definitions few)) is
 started few files s (Err fault) kept is = absurd is
 
 -- what stops where the machine file is read stops the start
@@ -106,27 +106,27 @@ was_read view s (Err g) x k h e = absurd h
 
 -- a machine file that is refused, or no memory
 pub not_started : (few : Bool) (files : Files) (s : SettingsData) (said : MachineSaid) (e : Stop) (result : Result Kept Stop) (out : OutputState) (n : ℕ) → IsErrAnd result (λ r. r ≡ e)
-    → Starts s said (Err e) → Evaluated (run_of few files s said) result (seen out n []) (seen out n [])
+    → Starts s said (Err e) → Evaluated (run_of few files s said) result (seen_from_parts out n []) (seen_from_parts out n [])
 unfolding refuse_about
-not_started few files s said stops.Memory result out n is h = evaluated_none (run_of few files s said) (seen out n []) result is
+not_started few files s said stops.Memory result out n is h = evaluated_none (run_of few files s said) (seen_from_parts out n []) result is
 not_started few files s said stops.Device result out n is h = absurd h
 not_started few files s (Ok sections) (stops.Refused f) result out n is h = absurd h
 not_started few files s (Err fault) (stops.Refused f) result out n is h =
     let w = first_world s [] in
-    evaluated_stop (run_of few files s (Err fault)) (stops.Refused f) result w (seen out n []) (seen out n []) is
-    (refused_later (λ (u : Unit {0}). u) (told fault) (stops.Refused f) (with_facts w (with_place (codes "<machine file>") [] fault.line w.facts)) w (seen out n [])
-    (begun (run_of few files s (Err fault)) (seen out n [])) h refl)
+    evaluated_stop (run_of few files s (Err fault)) (stops.Refused f) result w (seen_from_parts out n []) (seen_from_parts out n []) is
+    (refused_later (λ (u : Unit {0}). u) (fault_of_machine_file fault) (stops.Refused f) (with_facts w (with_place (codes "<machine file>") [] fault.line w.facts)) w (seen_from_parts out n [])
+    (begun (run_of few files s (Err fault)) (seen_from_parts out n [])) h refl)
 
 -- the root file ended
 pub whole_done : (few : Bool) (files : Files) (s : SettingsData) (said : MachineSaid) (kept k : Kept) (old new : Seen) → Starts s said (Ok kept)
-    → Ends (carry files (defined few) (world_of kept)) (Done tt) (world_of k) old new → Evaluated (run_of few files s said) (Ok k) (unnamed old) (unnamed new)
+    → Ends (carry files (plan_of_definitions few) (world_of kept)) (Done tt) (world_of k) old new → Evaluated (run_of few files s said) (Ok k) (unnamed old) (unnamed new)
 whole_done few files s said kept k old new is g =
     evaluated_done (run_of few files s said) k old new
     (subst (λ r. Ends r (Done tt) (world_of k) old new) (started few files s said kept is) g)
 
 -- or it stopped
 pub whole_stopped : (few : Bool) (files : Files) (s : SettingsData) (said : MachineSaid) (kept : Kept) (w : World) (e : Stop) (result : Result Kept Stop) (old new : Seen) → Starts s said (Ok kept)
-    → IsErrAnd result (λ r. r ≡ e) → Gives {A = Unit {0}} {B = Unit {0}} (λ r. r) (carry files (defined few) (world_of kept)) (Err e) w old new
+    → IsErrAnd result (λ r. r ≡ e) → Gives {A = Unit {0}} {B = Unit {0}} (λ r. r) (carry files (plan_of_definitions few) (world_of kept)) (Err e) w old new
     → Evaluated (run_of few files s said) result (unnamed old) (unnamed new)
 whole_stopped few files s said kept w e result old new is stop g =
     evaluated_stop (run_of few files s said) e result w old new stop

@@ -4,7 +4,7 @@ use Rattle.world.specs.Counts.{EndsKeepUp, TicksAll, below, counts_from}
 use Rattle.world.specs.Gives.{Ends, Gives, failures_after}
 use Rattle.world.specs.Run.{Run, Done, marks_of}
 use Rattle.world.specs.Store.{Kept, world_of}
-use Rattle.world.specs.Trace.{Adds, Begins, Mark, Seen, ends_of, seen, steps_of}
+use Rattle.world.specs.Trace.{Adds, Begins, Mark, Seen, ends_of, seen_from_parts, steps_of}
 use Rattle.world.specs.World.{World}
 use Rattle.world.specs.declared.stop.Stop.{Stop}
 use Rattle.world.specs.declared.stop.Stop.TheVariants as stops
@@ -16,7 +16,7 @@ use Rattle.ports.specs.Tree.{TreeState}
 -- ---- without the names
 
 abbrev pub unnamed : Seen → Seen
-unnamed s = seen s.out s.ticks []
+unnamed s = seen_from_parts s.out s.ticks []
 
 adds_unnamed : (marks : List Mark) (old new : Seen) → Adds old marks new → Adds (unnamed old) marks (unnamed new)
 adds_unnamed marks old new a = record { sent = a.sent; ticks = a.ticks; names = same_front [] }

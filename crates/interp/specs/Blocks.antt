@@ -53,6 +53,7 @@ is_simple (flat.If node) = false
 is_simple (flat.Foreach node) = false
 is_simple (flat.Expression value line) = false
 
+-- Returns whether the statement with this number sets a variable or leaves its block.
 abbrev pub is_simple_at : Code → ℕ → Bool
 is_simple_at c i = is_simple (node_at c i)
 

@@ -3,12 +3,12 @@ use Rattle.std.specs.Prelude.{ℕ, Bool, true, false, List, Option, Some, None, 
 use Rattle.arguments.specs.Arguments.{ArgumentsData}
 use Rattle.arguments.specs.Disablers.{gives_disabler}
 use Rattle.arguments.specs.Rows.{any_values}
-use Rattle.calls.specs.language_calls.Turning.{is_turned_off}
+use Rattle.language_calls.specs.Turning.{is_turned_off}
 use Rattle.expressions.specs.Details.{method_detail}
 use Rattle.expressions.specs.Forms.{disabler_method}
 use Rattle.interp.specs.Functions.{call}
-use Rattle.objects.specs.Left.{is_left_out as is_left_out_method}
-use Rattle.objects.specs.Methods.{has_method as has_object_method, object_method}
+use Rattle.methods.specs.Left.{is_left_out as is_left_out_method}
+use Rattle.methods.specs.Methods.{has_method as has_object_method, object_method}
 use Rattle.operations.specs.methods.Methods.{answer as method_answer, has_name}
 use Rattle.operations.specs.operators.Operations.{disabler}
 use Rattle.support.specs.declared.faults.refusal.Refusal.{Refusal}
@@ -16,7 +16,7 @@ use Rattle.support.specs.declared.faults.refusal.Refusal.TheVariants as refusals
 use Rattle.values.specs.Data.{Data, is_disabler, object_in}
 use Rattle.values.specs.declared.language_names.functions.Function.{Function}
 use Rattle.values.specs.declared.object.Object.{Object}
-use Rattle.values.specs.declared.refusal.Refusal.{Refusal as OperationRefusal}
+use Rattle.values.specs.declared.refusal.OperationRefusal.{OperationRefusal as OperationRefusal}
 use Rattle.values.specs.language_names.Functions.{function_named}
 use Rattle.values.specs.language_names.Names.{is_left_out}
 use Rattle.world.specs.Deed.{Deed, give, refuse, ◌>>=◌}
@@ -26,23 +26,23 @@ use Rattle.world.specs.Operation.{of_operation}
 -- ---- what a name names
 
 -- Returns the refusal of a name that names nothing: E23 if the manual has it and it is left out, else E8.
-abbrev pub unnamed : Bool → Refusal
-unnamed true = refusals.LeftOut
-unnamed false = refusals.UnknownFunction
+abbrev pub refusal_of_name : Bool → Refusal
+refusal_of_name true = refusals.LeftOut
+refusal_of_name false = refusals.UnknownFunction
 
 -- Returns the function with a name.
 abbrev pub function_of : List ℕ → Result Function Refusal
-function_of name = ok_or (function_named name) (unnamed (is_left_out name))
+function_of name = ok_or (function_named name) (refusal_of_name (is_left_out name))
 
 -- Succeeds if there is a method with a name, or refuses the name, given whether it is left out.
-abbrev pub known : Bool → Bool → Result (Unit {0}) Refusal
-known true left_out = Ok tt
-known false left_out = Err (unnamed left_out)
+abbrev pub known_name : Bool → Bool → Result (Unit {0}) Refusal
+known_name true left_out = Ok tt
+known_name false left_out = Err (refusal_of_name left_out)
 
 -- Looks up a method of an object or of a plain value. No method of a plain value is left out.
 abbrev pub method_in : Option Object → Data → List ℕ → Result (Unit {0}) Refusal
-method_in (Some o) d name = known (has_object_method o name) (is_left_out_method o name)
-method_in None d name = known (has_name d name) false
+method_in (Some o) d name = known_name (has_object_method o name) (is_left_out_method o name)
+method_in None d name = known_name (has_name d name) false
 
 -- Looks up a method of a receiver, given whether that is a disabler.
 abbrev pub method_by : Bool → Data → List ℕ → Result (Unit {0}) Refusal
@@ -54,13 +54,13 @@ abbrev pub method_of : Data → List ℕ → Result (Unit {0}) Refusal
 method_of d name = method_by (is_disabler d) d name
 
 -- Returns a result without its value.
-abbrev pub done : {A : Type 0} → Result A Refusal → Result (Unit {0}) Refusal
-done (Ok a) = Ok tt
-done (Err refusal) = Err refusal
+abbrev pub result_without_value : {A : Type 0} → Result A Refusal → Result (Unit {0}) Refusal
+result_without_value (Ok a) = Ok tt
+result_without_value (Err refusal) = Err refusal
 
 -- Looks up a function, or a method of the receiver if there is one.
 abbrev pub lookup : Option Data → List ℕ → Result (Unit {0}) Refusal
-lookup None name = done (function_of name)
+lookup None name = result_without_value (function_of name)
 lookup (Some d) name = method_of d name
 
 -- ---- the call

@@ -21,9 +21,11 @@ Evaluated run (Err stops.Memory) old new = Begins (marks_of run) old new
 
 -- The run stopped: it ticked at most the cost, and once for each rule that ended before the last step that the outputs took.
 pub record TickedSome (marks : List Mark) (cost : ℕ) (old new : Seen) : Type 0 where
+  -- The marks up to the stop, and those after it.
   pub made : List Mark
   pub left : List Mark
   pub all : marks ≡ made ++ left
+  -- The outputs took exactly the steps of the marks up to the stop.
   pub sent : Sends old.out new.out (steps_of made) true
   pub most : new.ticks ≤ old.ticks + cost
   pub least : old.ticks + below (length (steps_of made)) (counts_from 0 marks) ≤ new.ticks

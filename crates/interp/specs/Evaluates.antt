@@ -16,14 +16,15 @@ use Rattle.interp.specs.declared.halt.Halt.{Halt}
 use Rattle.interp.specs.declared.halt.Halt.TheVariants as halts
 use Rattle.interp.specs.Bounds.{Bounds}
 use Rattle.interp.specs.Folders.{folder}
-use Rattle.interp.specs.FolderEntries.{failures_inside, inside}
+use Rattle.interp.specs.FolderEntries.{failures_inside, folder_in_expression}
 
 -- Holds if the call stopped as the plan does, or if it was left for a folder. Then the rest of the whole plan is what is done for that
 -- folder.
 abbrev pub HaltsTo : {A : Type 0} → Files → Bounds → Plan A → Stand → Halt → Stand → Type 0
 HaltsTo {A = A} files left plan old (halts.Stops stop) new = Given {B = A} (λ a. a) files plan old (Err stop) new
-HaltsTo files left plan old (halts.Enters entry) new = Leads files plan old (inside left entry.value) new
+HaltsTo files left plan old (halts.Enters entry) new = Leads files plan old (folder_in_expression left entry.value) new
 
+-- Holds if the call returned the value of the plan, or if it halted as `HaltsTo` defines.
 abbrev pub ComesTo : {A B : Type 0} → (B → A) → Files → Bounds → Plan A → Stand → Result B Halt → Stand → Type 0
 ComesTo view files left plan old (Ok x) new = Given view files plan old (Ok x) new
 ComesTo view files left plan old (Err halt) new = HaltsTo files left plan old halt new

@@ -5,15 +5,15 @@ use Rattle.syntax.specs.Tree.{StatementTree, AssignTree, AppendTree, ValueTree, 
 use Rattle.syntax.specs.Tree.{NoStatement, MoreStatements}
 use Rattle.support.specs.declared.faults.refusal.Refusal.TheVariants as refusals
 use Rattle.world.specs.Details.{refuse_about}
-pub use Rattle.machine.specs.machine_file.Answers.{IsSaid, MachineSaid}
-use Rattle.machine.specs.machine_file.Files.{Section}
+pub use Rattle.machine_file.specs.Answers.{IsSaid, MachineSaid}
+use Rattle.machine_file.specs.Files.{Section}
 use Rattle.world.specs.Deed.{Files}
 use Rattle.world.specs.Plan.{Plan, carry, deed, ruled, ◌>>=◌, give, refuse}
 use Rattle.world.specs.Run.{Run}
 use Rattle.world.specs.Settings.{SettingsData}
 use Rattle.world.specs.Start.{first_world}
 use Rattle.interp.specs.Bounds.{bounds}
-use Rattle.expressions.specs.Folders.{opened}
+use Rattle.expressions.specs.Folders.{statements_of_folder}
 use Rattle.interp.specs.Folders.{folder}
 use Rattle.interp.specs.declared.flow.Flow.{Flow}
 use Rattle.interp.specs.Statements.{do_all}
@@ -45,7 +45,7 @@ abbrev pub begins_all : Statements → Plan (Unit {0})
 begins_all NoStatement = begun_by 1 false
 begins_all (MoreStatements s ss) = begins s
 
--- Runs the statements of the root file. 63 folders may be nested below the root.
+-- Runs the statements of the root file. Folders may be nested 63 deep below the root.
 abbrev pub root : Bool → Statements → Plan Flow
 root few ss = do
   _ ← begins_all ss
@@ -57,25 +57,25 @@ sections_of (Ok sections) = sections
 sections_of (Err fault) = []
 
 -- Runs the definition files, from the root file on. `few`: a loop over more than 65,536 values is refused.
-abbrev pub defined : Bool → Plan (Unit {0})
-defined few = do
-  body ← opened []
+abbrev pub plan_of_definitions : Bool → Plan (Unit {0})
+plan_of_definitions few = do
+  body ← statements_of_folder []
   _ ← ruled (root few body)
   give tt
 
 -- Runs the definition files. Loops have no limit of their own.
 abbrev pub definitions : Plan (Unit {0})
-definitions = defined false
+definitions = plan_of_definitions false
 
 -- Runs the definition files if the machine file has sections. Otherwise it refuses: a fault of the machine file is at its line of `<machine
 -- file>`, with its details.
 abbrev pub evaluation : Bool → MachineSaid → Plan (Unit {0})
-evaluation few (Ok sections) = defined few
+evaluation few (Ok sections) = plan_of_definitions few
 evaluation few (Err fault) = deed (refuse_about (codes "<machine file>") fault.line fault.refusal fault.detail)
 
 -- Returns the whole evaluation of these files, with these settings and this reading of a machine file.
-unfoldable pub evaluated : Files → SettingsData → MachineSaid → Run (Unit {0})
-evaluated files s said = carry files (evaluation false said) (first_world s (sections_of said))
+unfoldable pub evaluated_files : Files → SettingsData → MachineSaid → Run (Unit {0})
+evaluated_files files s said = carry files (evaluation false said) (first_world s (sections_of said))
 
 -- Returns the same evaluation with loops over more than 65,536 values refused.
 unfoldable pub evaluated_few : Files → SettingsData → MachineSaid → Run (Unit {0})

@@ -12,13 +12,14 @@ use Rattle.operations.specs.methods.Methods.{has_name}
 use Rattle.arguments.specs.Arguments.{ArgumentsData, no_arguments, with_argument}
 use Rattle.arguments.specs.Disablers.{gives_disabler}
 use Rattle.interp.specs.Functions.{call}
-use Rattle.calls.specs.language_calls.Turning.{is_turned_off}
+use Rattle.language_calls.specs.Turning.{is_turned_off}
 use Rattle.values.specs.declared.language_names.functions.Function.{Function}
-use Rattle.objects.specs.Left.{is_left_out as is_left_out_method}
-use Rattle.objects.specs.Methods.{has_method as has_object_method, object_method}
+use Rattle.methods.specs.Left.{is_left_out as is_left_out_method}
+use Rattle.methods.specs.Methods.{has_method as has_object_method, object_method}
 use Rattle.world.specs.Plan.{Plan, deed, ruled, ◌>>=◌, give, at, refuse}
-use Rattle.expressions.specs.Forms.{asked_of, chosen, combined, disabler_method, function_inside, known_method, listed, literal_value}
-use Rattle.expressions.specs.Forms.{meaning_of, needed, paired, part_at, prefixed, refused_name, value_method, variable}
+use Rattle.expressions.specs.Forms.{asked_of, ternary_value, operator_value, disabler_method, function_inside, known_method, list_value}
+use Rattle.expressions.specs.Forms.{literal_value}
+use Rattle.expressions.specs.Forms.{meaning_of, needed_value, dictionary_value, part_at, prefix_value, refused_name, value_method, variable}
 use Rattle.interp.specs.declared.statement_calls.Action.{Action}
 use Rattle.interp.specs.declared.statement_calls.Action.TheVariants.{Call, Enter, Leave}
 use Rattle.interp.specs.declared.flow.Flow.{Flow}
@@ -34,8 +35,8 @@ called_by false line f a = do
   deed (call f a)
 
 -- Calls a function on evaluated arguments.
-abbrev pub called : ℕ → Function → ArgumentsData → Plan (Option Data)
-called line f a = called_by (is_turned_off f a) line f a
+abbrev pub plan_of_call : ℕ → Function → ArgumentsData → Plan (Option Data)
+plan_of_call line f a = called_by (is_turned_off f a) line f a
 
 -- ---- methods
 
@@ -102,42 +103,43 @@ module _ (into : List ℕ → Plan Flow) where
   abbrev pub inside_by : Action → ℕ → Function → ArgumentsData → Plan Data
   inside_by Enter line f a = entered_inside (gives_disabler a) line a
   inside_by Leave line f a = do
-    d ← called line f a
-    needed line d
+    d ← plan_of_call line f a
+    needed_value line d
   inside_by Call line f a = do
-    d ← called line f a
-    needed line d
+    d ← plan_of_call line f a
+    needed_value line d
 
   -- Calls a function inside an expression, on evaluated arguments. It must have a value.
   abbrev pub called_inside : ℕ → Function → ArgumentsData → Plan Data
   called_inside line f a = inside_by (action_of f) line f a
 
   abbrev mutual
+    -- Evaluates an expression, with its parts from left to right. `and`, `or` and a ternary evaluate only the parts that they need.
     pub value_of : ExpressionTree → Plan Data
     value_of (NameTree name line) = variable line name
     value_of (LiteralTree literal t line) = literal_value line literal t
     value_of (ListTree es line) = do
       ds ← values_of no_items es
-      listed line ds
+      list_value line ds
     value_of (DictionaryTree es line) = do
       ps ← entries_of [] es
-      paired line ps
+      dictionary_value line ps
     value_of (FunctionTree name es line) = do
       f ← function_inside line name
       a ← arguments_of no_arguments es
       called_inside line f a
     value_of (PostfixTree first ls line) = do
       o ← ruled (value_of first) >>= λ d. links_of line (Some d) ls
-      needed line o
+      needed_value line o
     value_of (PrefixTree prefix value line) = do
       d ← ruled (value_of value)
-      prefixed line prefix d
+      prefix_value line prefix d
     value_of (ChainTree first others line) = do
       d ← ruled (value_of first)
       chain_of line d others
     value_of (TernaryTree test one other line) = do
       d ← ruled (value_of test)
-      chosen line (boolean_in d) (is_disabler d) (ruled (value_of one)) (ruled (value_of other))
+      ternary_value line (boolean_in d) (is_disabler d) (ruled (value_of one)) (ruled (value_of other))
 
     -- The items so far, followed by those of the rest.
     pub values_of : Items → ExpressionTrees → Plan Items
@@ -146,6 +148,7 @@ module _ (into : List ℕ → Plan Flow) where
       d ← ruled (value_of e)
       values_of (items_append ds (item d no_items)) es
 
+    -- Evaluates the entries of a dictionary in order, each key before its value, and appends them to the pairs so far.
     pub entries_of : List (Data × Data) → EntryTrees → Plan (List (Data × Data))
     entries_of ps NoEntry = give ps
     entries_of ps (MoreEntries key value es) = do
@@ -153,6 +156,7 @@ module _ (into : List ℕ → Plan Flow) where
       d ← ruled (value_of value)
       entries_of (ps ++ (k, d) ∷ []) es
 
+    -- Evaluates the arguments of a call in order, and adds them to the arguments so far.
     pub arguments_of : ArgumentsData → ArgumentTrees → Plan ArgumentsData
     arguments_of a NoArgument = give a
     arguments_of a (MoreArguments name e es) = do
@@ -163,10 +167,11 @@ module _ (into : List ℕ → Plan Flow) where
     pub links_of : ℕ → Option Data → LinkTrees → Plan (Option Data)
     links_of line o NoLink = give o
     links_of line o (MoreLinks l ls) = do
-      d ← needed line o
+      d ← needed_value line o
       next ← link_of line d l
       links_of line next ls
 
+    -- Applies one method or one index to a value, after it has evaluated the arguments or the index.
     pub link_of : ℕ → Data → LinkTree → Plan (Option Data)
     link_of line d (MethodTree name es) = method_of line d name (arguments_of no_arguments es)
     link_of line d (IndexTree index) = do
@@ -177,7 +182,7 @@ module _ (into : List ℕ → Plan Flow) where
     pub chain_of : ℕ → Data → OperandTrees → Plan Data
     chain_of line d NoOperand = give d
     chain_of line d (MoreOperands operator e es) = do
-      x ← combined line (meaning_of operator) d (ruled (value_of e))
+      x ← operator_value line (meaning_of operator) d (ruled (value_of e))
       chain_of line x es
 
   -- Evaluates an expression that is a statement. Its last method may have no value.

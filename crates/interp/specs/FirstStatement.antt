@@ -4,8 +4,8 @@ use Rattle.syntax.specs.Tree.{StatementTree, AssignTree, AppendTree, ValueTree, 
 use Rattle.syntax.specs.Tree.{NoStatement, MoreStatements}
 use Rattle.support.specs.View.{fault_view}
 use Rattle.support.specs.declared.faults.refusal.Refusal.TheVariants as refusals
-use Rattle.machine.specs.machine_file.Fault.{told}
-use Rattle.machine.specs.machine_file.Files.{Section}
+use Rattle.machine_file.specs.Fault.{fault_of_machine_file}
+use Rattle.machine_file.specs.Files.{Section}
 use Rattle.ports.specs.Outputs.{OutputState}
 use Rattle.world.specs.Deed.{Files}
 use Rattle.world.specs.Gives.{Gives}
@@ -13,10 +13,10 @@ use Rattle.world.specs.Plan.{Plan, carry, give, refuse}
 use Rattle.world.specs.Settings.{SettingsData}
 use Rattle.world.specs.Start.{first_world}
 use Rattle.world.specs.Store.{Kept, world_of}
-use Rattle.world.specs.Trace.{seen}
+use Rattle.world.specs.Trace.{seen_from_parts}
 use Rattle.world.specs.declared.stop.Stop.{Stop}
 use Rattle.world.specs.declared.stop.Stop.TheVariants as stops
-use Rattle.interp.specs.Evaluation.{MachineSaid, defined, definitions, is_project}
+use Rattle.interp.specs.Evaluation.{MachineSaid, plan_of_definitions, definitions, is_project}
 
 -- Returns the line of a statement that is no call of `project`.
 abbrev pub line_unless : ℕ → Bool → Option ℕ
@@ -48,7 +48,7 @@ abbrev pub Reads : {A : Type 0} → (A → List Section) → MachineSaid → Res
 Reads view (Ok sections) (Ok x) = view x ≡ sections
 Reads view (Ok sections) (Err (stops.Refused fault)) = ⊥
 Reads view (Err f) (Ok x) = ⊥
-Reads view (Err f) (Err (stops.Refused fault)) = fault_view fault ≡ told f
+Reads view (Err f) (Err (stops.Refused fault)) = fault_view fault ≡ fault_of_machine_file f
 Reads view said (Err stops.Device) = ⊥
 Reads view said (Err stops.Memory) = Unit {0}
 
@@ -57,14 +57,15 @@ abbrev pub Starts : SettingsData → MachineSaid → Result Kept Stop → Type 0
 Starts s (Ok sections) (Ok kept) = world_of kept ≡ first_world s sections
 Starts s (Ok sections) (Err (stops.Refused fault)) = ⊥
 Starts s (Err f) (Ok kept) = ⊥
-Starts s (Err f) (Err (stops.Refused fault)) = fault_view fault ≡ told f
+Starts s (Err f) (Err (stops.Refused fault)) = fault_view fault ≡ fault_of_machine_file f
 Starts s said (Err stops.Device) = ⊥
 Starts s said (Err stops.Memory) = Unit {0}
 
 -- Over these files, a call did what the root file does, from one store to another. It also did so with long loops refused.
 pub record RootGives (files : Files) (old : Kept) (out : OutputState) (ticks : ℕ) (result : Result (Unit {0})
     Stop) (new : Kept) (out_now : OutputState) (ticks_now : ℕ) : Type 0 where
-  pub gives : Gives (λ u. u) (carry files definitions (world_of old)) result (world_of new) (seen out ticks old.names)
-      (seen out_now ticks_now new.names)
-  pub few : Gives (λ u. u) (carry files (defined true) (world_of old)) result (world_of new) (seen out ticks old.names)
-      (seen out_now ticks_now new.names)
+  pub gives : Gives (λ u. u) (carry files definitions (world_of old)) result (world_of new) (seen_from_parts out ticks old.names)
+      (seen_from_parts out_now ticks_now new.names)
+  pub few : Gives (λ u. u) (carry files (plan_of_definitions true) (world_of old)) result (world_of new)
+      (seen_from_parts out ticks old.names)
+      (seen_from_parts out_now ticks_now new.names)

@@ -19,9 +19,9 @@ ended_all (suc n) p = ruled (ended_all n p)
 abbrev pub enters : {A : Type 0} → Bounds → FolderEntry → Plan A
 enters left entry = folder left (string_bytes entry.text) >>= λ _. refuse entry.line refusals.Type []
 
--- Does so, and ends the rules of the expression.
-abbrev pub inside : {A : Type 0} → Bounds → FolderEntry → Plan A
-inside left entry = ended_all entry.rules (enters left entry)
+-- Enters the folder as `enters` does, and then ends the rules of the expression that the call is part of.
+abbrev pub folder_in_expression : {A : Type 0} → Bounds → FolderEntry → Plan A
+folder_in_expression left entry = ended_all entry.rules (enters left entry)
 
 -- ---- the ends of rules
 

@@ -3,7 +3,7 @@ use Rattle.std.specs.Prelude.{ℕ, Bool, zero, suc, List, []}
 use Rattle.support.specs.declared.faults.refusal.Refusal.TheVariants as refusals
 use Rattle.world.specs.Deed.{refuse, read}
 use Rattle.world.specs.Plan.{Plan, deed, ruled, ◌>>=◌, give}
-use Rattle.expressions.specs.Folders.{fresh, go_back, opened}
+use Rattle.expressions.specs.Folders.{fresh, go_back, statements_of_folder}
 use Rattle.interp.specs.declared.flow.Flow.{Flow}
 use Rattle.interp.specs.declared.flow.Flow.TheVariants.{Next}
 use Rattle.interp.specs.Bounds.{Bounds}
@@ -17,11 +17,11 @@ folder_by few zero text = do
 folder_by few (suc left) text = do
   path ← fresh text
   outer ← deed read
-  body ← opened path
+  body ← statements_of_folder path
   _ ← ruled (do_all (folder_by few left) few body)
   _ ← go_back outer
   give Next
 
--- Does so within these bounds.
+-- Enters the folder that a text names and runs its definition file, within these bounds.
 abbrev pub folder : Bounds → List ℕ → Plan Flow
 folder b = folder_by b.few b.left

@@ -40,14 +40,14 @@ use Rattle.expressions.specs.Contexts.{Stand, Given, Leads, stand_of}
 use Rattle.interp.specs.Evaluates.{Comes, HaltsTo, Reads}
 use Rattle.interp.specs.Bounds.{Bounds, bounds}
 use Rattle.interp.specs.Folders.{folder}
-use Rattle.interp.specs.FolderEntries.{inside}
+use Rattle.interp.specs.FolderEntries.{folder_in_expression}
 use Rattle.expressions.specs.Rounds.{rounds_in, Round}
 use Rattle.interp.specs.Statements.{after_round, branches_of, do_all, does, on_next, rounds_of}
-use Rattle.expressions.specs.Assignments.{bound}
+use Rattle.expressions.specs.Assignments.{assignment_of_round}
 
 -- ---- the rest
 
--- What is left to do of a frame.
+-- The rest of a frame is the part of it that is still to be done.
 pub data Rest : Type 0 where
   -- The other statements of a block, within these bounds.
   Others : Bounds → Statements → Rest
@@ -63,7 +63,7 @@ pub data Rest : Type 0 where
 -- Runs one iteration of a loop.
 abbrev pub one_round : Bounds → ℕ → List ℕ → Option (List ℕ) → Statements → Round → Plan Flow
 one_round left line first second body r = do
-  _ ← bound line first second r
+  _ ← assignment_of_round line first second r
   do_all (folder left) left.few body
 
 -- Returns to the earlier place. A file passes no flow on.
@@ -151,19 +151,19 @@ ends_in (frames.Left place) = 0
 ends_in (frames.Refuses line) = 0
 
 -- Returns how many rules of a stack are still to end.
-abbrev pub pending : List Frame → ℕ
-pending [] = 0
-pending (f ∷ fs) = ends_in f + pending fs
+abbrev pub pending_rules : List Frame → ℕ
+pending_rules [] = 0
+pending_rules (f ∷ fs) = ends_in f + pending_rules fs
 
 -- Returns how many rules a stop ends. A fault ends all of them.
-abbrev pub unwound : Stop → List Frame → ℕ
-unwound (stops.Refused fault) fs = pending fs
-unwound stops.Device fs = 0
-unwound stops.Memory fs = 0
+abbrev pub unwound_rules : Stop → List Frame → ℕ
+unwound_rules (stops.Refused fault) fs = pending_rules fs
+unwound_rules stops.Device fs = 0
+unwound_rules stops.Memory fs = 0
 
 -- Returns the state after the counter of rules was raised by n.
-abbrev pub ticked : ℕ → Stand → Stand
-ticked n s = record { world = s.world; names = s.names; tree = s.tree; out = s.out; ticks = s.ticks + n }
+abbrev pub state_after_ticks : ℕ → Stand → Stand
+state_after_ticks n s = record { world = s.world; names = s.names; tree = s.tree; out = s.out; ticks = s.ticks + n }
 
 -- ---- the effect of a step
 
@@ -176,7 +176,8 @@ pub record Moved (files : Files) (whole : Plan Flow) (old : Stand) (flow : Flow)
 -- Holds if the stack does the rest of the whole plan, or if the plan stopped after the rules on the stack ended.
 abbrev pub MovesTo : Files → Plan Flow → Stand → Result Flow Stop → List Frame → Stand → Type 0
 MovesTo files whole old (Ok flow) fs now = Moved files whole old flow fs now
-MovesTo files whole old (Err stop) fs now = Given {B = Flow} (λ f. f) files whole old (Err stop) (ticked (unwound stop fs) now)
+MovesTo files whole old (Err stop) fs now =
+    Given {B = Flow} (λ f. f) files whole old (Err stop) (state_after_ticks (unwound_rules stop fs) now)
 
 -- The stack does the rest of the whole plan, or the plan stopped after the rules on the stack ended.
 pub record Moves (files : Files) (whole : Plan Flow) (old : Stand) (result : Result Flow Stop) (fs : List Frame)
@@ -198,7 +199,7 @@ pub record Waits (files : Files) (left : Bounds) (whole : Plan Flow) (old : Stan
     : Type 0 where
   pub rests : List Rest
   pub stacked : Stacked now.names fs rests
-  pub leads : Leads files whole old (behind_all rests (inside left entry)) now
+  pub leads : Leads files whole old (behind_all rests (folder_in_expression left entry)) now
 
 -- Holds if the stack does the rest of the whole plan, or if the plan stopped or waits for a folder.
 abbrev pub BeginsTo : Files → Bounds → Plan Flow → Stand → Result Flow Halt → List Frame → Stand → Type 0
@@ -224,7 +225,7 @@ pub record DoneHere (files : Files) (left : Bounds) (plan : Plan Flow) (old : St
     (now : Stand) : Type 0 where
   pub done : DoneTo files left plan old result now
 
--- What a statement does, by its number, and what is left of a block from an index on.
+-- The plan of each statement, by its number, and the plan of the statements of a block from each index on.
 pub record Parts : Type 1 where
   pub begun : ℕ → Plan Flow
   pub rest : ℕ → Plan Flow
@@ -240,7 +241,7 @@ parts_by table c left block = record {
 abbrev pub walk_left : Parts → Bounds → BlockProgress → Plan Flow
 walk_left parts left (walks.Ends flow) = give flow
 walk_left parts left (walks.Begins number at) = ruled (parts.begun number) >>= λ flow. on_next flow (parts.rest at)
-walk_left parts left (walks.Enters entry at) = ruled (inside left entry.value) >>= λ flow. on_next flow (parts.rest at)
+walk_left parts left (walks.Enters entry at) = ruled (folder_in_expression left entry.value) >>= λ flow. on_next flow (parts.rest at)
 
 -- Holds if the rest of the whole plan is this one, or if it stopped.
 abbrev pub LeadsOr : {X : Type 0} → (X → Plan Flow) → Files → Plan Flow → Stand → Result X Stop → Stand → Type 0

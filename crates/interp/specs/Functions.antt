@@ -4,25 +4,25 @@ use Rattle.values.specs.Data.{Data}
 use Rattle.arguments.specs.Arguments.{ArgumentsData}
 use Rattle.arguments.specs.Disablers.{gives_disabler}
 use Rattle.support.specs.declared.faults.refusal.Refusal.TheVariants as refusals
-use Rattle.arguments.specs.declared.row.Kind.TheVariants.{Any, Boolean, Integer, Text}
+use Rattle.arguments.specs.declared.row.ArgumentKind.TheVariants.{Any, Boolean, Integer, Text}
 use Rattle.arguments.specs.Row.{RowData}
 use Rattle.arguments.specs.Rows.{any_values, some_texts, values}
-use Rattle.objects.specs.configuration_calls.ConfigureFile.{has_meson_format}
-use Rattle.objects.specs.configuration_calls.Rows.{other_format_row}
+use Rattle.configuration_calls.specs.ConfigureFile.{has_meson_format}
+use Rattle.configuration_calls.specs.Rows.{other_format_row}
 use Rattle.world.specs.Deed.{Deed, give, ◌>>=◌, need}
 use Rattle.world.specs.Fit.{fit}
-use Rattle.calls.specs.language_calls.Disablers.{give_disabler, tell_disabler}
-use Rattle.calls.specs.language_calls.JoinPaths.{join_paths}
-use Rattle.calls.specs.language_calls.Messages.{message, warning, error, assert}
+use Rattle.language_calls.specs.Disablers.{give_disabler, tell_disabler}
+use Rattle.language_calls.specs.JoinPaths.{join_paths}
+use Rattle.language_calls.specs.Messages.{message, warning, error, assert}
 use Rattle.interp.specs.ProjectFunctions.{project_function, project_function_row}
-use Rattle.calls.specs.project_calls.Project.{project}
-use Rattle.calls.specs.language_calls.Range.{range}
-use Rattle.calls.specs.project_calls.Rows.{project_row}
-use Rattle.calls.specs.language_calls.Rows.{subdir_row}
-use Rattle.calls.specs.language_calls.Variables.{set_variable, get_variable, is_variable, unset_variable}
+use Rattle.project_calls.specs.Project.{project}
+use Rattle.language_calls.specs.Range.{range}
+use Rattle.project_calls.specs.Rows.{project_row}
+use Rattle.language_calls.specs.Rows.{subdir_row}
+use Rattle.language_calls.specs.Variables.{set_variable, get_variable, is_variable, unset_variable}
 use Rattle.values.specs.declared.language_names.functions.Function.{Function}
 use Rattle.values.specs.declared.language_names.functions.Function.TheVariants as functions
-use Rattle.calls.specs.language_calls.Turning.{makes_file}
+use Rattle.language_calls.specs.Turning.{makes_file}
 
 -- Returns what arguments a function takes.
 abbrev pub row_of : Function → RowData
@@ -57,7 +57,7 @@ does (functions.OfProject f) a = project_function f a
 does functions.Project a = project a
 does functions.Range a = range a
 does functions.SetVariable a = set_variable a
--- Does nothing besides entering the folder, which is defined elsewhere.
+-- Does nothing but enter the folder, which is defined elsewhere.
 does functions.Subdir a = give None
 -- Does nothing as a part of an expression. As a statement it ends the file.
 does functions.SubdirDone a = give None

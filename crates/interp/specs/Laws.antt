@@ -14,8 +14,8 @@ use Rattle.world.specs.Trace.{ends_of}
 use Rattle.world.specs.World.{Asked, World}
 use Rattle.interp.specs.ByName.{call_by_name}
 use Rattle.interp.specs.Cost.{tree_cost}
-use Rattle.interp.specs.Expressions.{called, method_of}
-use Rattle.interp.specs.Evaluation.{IsSaid, MachineSaid, evaluated, evaluated_few, sections_of}
+use Rattle.interp.specs.Expressions.{plan_of_call, method_of}
+use Rattle.interp.specs.Evaluation.{IsSaid, MachineSaid, evaluated_files, evaluated_few, sections_of}
 
 -- Holds if two machine files agree on these questions: both have sections that give the same answers, or both have the same fault.
 abbrev pub SayAlike : MachineSaid → MachineSaid → List Asked → Type 0
@@ -29,19 +29,20 @@ SayAlike (Err fault) (Err other) asked = other ≡ fault
 -- that no question is about.
 abbrev pub DependsOnLooked : Type 0
 DependsOnLooked = (f g : Files) (settings : SettingsData) (said other : MachineSaid)
-    → Agree f g (world_after (evaluated f settings said)).looked → SayAlike said other (world_after (evaluated f settings said)).asked
-    → evaluated g settings other ≡ ran_over (sections_of other) (evaluated f settings said)
+    → Agree f g (world_after (evaluated_files f settings said)).looked
+    → SayAlike said other (world_after (evaluated_files f settings said)).asked
+    → evaluated_files g settings other ≡ ran_over (sections_of other) (evaluated_files f settings said)
 
 -- After an evaluation the project has noted the paths that were looked at: each once, in the order of the first look, as present or absent.
 pub record NotesWhatItLooksAt : Type 0 where
   pub looks : (files : Files) (settings : SettingsData) (said : MachineSaid)
-      → NotesLooks files (world_after (evaluated files settings said))
+      → NotesLooks files (world_after (evaluated_files files settings said))
   pub present : (files : Files) (settings : SettingsData) (said : MachineSaid)
-      → PresentAreFiles files (world_after (evaluated files settings said))
+      → PresentAreFiles files (world_after (evaluated_files files settings said))
 
 -- After a successful evaluation each output of `configure_file` has been closed.
 abbrev pub ClosesWhatItMakes : Type 0
-ClosesWhatItMakes = (files : Files) (settings : SettingsData) (said : MachineSaid) → ClosesOutputs (evaluated files settings said)
+ClosesWhatItMakes = (files : Files) (settings : SettingsData) (said : MachineSaid) → ClosesOutputs (evaluated_files files settings said)
 
 -- An evaluation in which no loop is over more than 65,536 values ends at most as many rules as its tree of files costs.
 abbrev pub StepsWithinCost : Type 0
@@ -55,11 +56,11 @@ pub record MachineFilesSay : Type 0 where
 
 -- Returns what evaluation does for a call at a line, inside an expression, with these argument values.
 abbrev pub evaluated_call : ℕ → Option Data → List ℕ → ArgumentsData → Plan (Option Data)
-evaluated_call line None name a = function_inside line name >>= λ f. called line f a
+evaluated_call line None name a = function_inside line name >>= λ f. plan_of_call line f a
 evaluated_call line (Some d) name a = method_of line d name (give a)
 
--- A call by a name, after `project` was called, is what evaluation does for that call at the present line: in outcome, in the world after
--- it, and in the marks.
+-- After `project` was called, a call by a name equals the evaluation of that call at the present line. The outcome, the world after it and
+-- the marks are the same.
 abbrev pub CallsAsEvaluated : Type 0
 CallsAsEvaluated = (files : Files) (w : World) (receiver : Option Data) (name : List ℕ) (a : ArgumentsData) → IsTrue w.facts.is_begun
     → perform files (call_by_name receiver name a) w ≡ carry files (evaluated_call w.facts.line receiver name a) w

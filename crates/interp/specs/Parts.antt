@@ -14,18 +14,23 @@ abbrev pub above : {X : Type 0} → (X → ℕ) → List X → ℕ
 above f [] = 0
 above f (x ∷ xs) = max (f x) (above f xs)
 
+-- Returns the least number above a node's number.
 abbrev pub above_number : ℕ → ℕ
 above_number i = suc i
 
+-- Returns the least number above those of the key and the value of a dictionary's entry.
 abbrev pub above_entry : EntryNode → ℕ
 above_entry e = max (suc e.key) (suc e.value)
 
+-- Returns the least number above that of an argument's value.
 abbrev pub above_argument : ArgumentNode → ℕ
 above_argument a = suc a.value
 
+-- Returns the least number above that of the value of an operand.
 abbrev pub above_operand : OperandNode → ℕ
 above_operand o = suc o.value
 
+-- Returns the least number above those of a method's arguments, or above that of an index. Without arguments it is 0.
 abbrev pub above_link : LinkNode → ℕ
 above_link (Method name items) = above above_argument items.items
 above_link (Index i) = suc i
@@ -60,5 +65,6 @@ is_rare (nodes.Prefix prefix value line) = true
 is_rare (nodes.Chain first others line) = false
 is_rare (nodes.Ternary test one other line) = true
 
+-- Returns whether `is_rare` is true of the node with this number; there always is one.
 abbrev pub is_rare_at : Code → ℕ → Bool
 is_rare_at c i = is_rare (slice_index_or c.nodes.items i (nodes.Name 0 0))

@@ -3,11 +3,11 @@ use Rattle.std.specs.Prelude.{Option}
 use Rattle.values.specs.Data.{Data}
 use Rattle.arguments.specs.Arguments.{ArgumentsData}
 use Rattle.arguments.specs.Row.{RowData}
-use Rattle.objects.specs.configuration_calls.ConfigurationData.{configuration_data}
-use Rattle.objects.specs.configuration_calls.ConfigureFile.{configure_file}
-use Rattle.objects.specs.configuration_calls.Rows.{configuration_data_row, configure_file_row}
-use Rattle.calls.specs.project_calls.GetOption.{get_option}
-use Rattle.calls.specs.project_calls.Rows.{get_option_row}
+use Rattle.configuration_calls.specs.ConfigurationData.{configuration_data}
+use Rattle.configuration_calls.specs.ConfigureFile.{configure_file}
+use Rattle.configuration_calls.specs.Rows.{configuration_data_row, configure_file_row}
+use Rattle.project_calls.specs.GetOption.{get_option}
+use Rattle.project_calls.specs.Rows.{get_option_row}
 use Rattle.resource_calls.specs.DeclareDependency.{declare_dependency}
 use Rattle.resource_calls.specs.Dependency.{dependency}
 use Rattle.resource_calls.specs.Installs.{install}
@@ -22,7 +22,7 @@ use Rattle.target_calls.specs.ProjectWords.{add_project_arguments, add_project_l
 use Rattle.target_calls.specs.Rows.{custom_target_row, files_row, include_directories_row, project_words_row, shared_library_row}
 use Rattle.target_calls.specs.Rows.{target_row}
 use Rattle.target_calls.specs.Targets.{declare, library}
-use Rattle.build.specs.declared.target.Kind.TheVariants as kinds
+use Rattle.build.specs.declared.target.TargetKind.TheVariants as kinds
 use Rattle.world.specs.Deed.{Deed}
 use Rattle.values.specs.declared.language_names.functions.ProjectFunction.{ProjectFunction}
 use Rattle.values.specs.declared.language_names.functions.ProjectFunction.TheVariants as functions

@@ -3,7 +3,7 @@ use Rattle.std.specs.Prelude.{ℕ, Bool, true, false, List, string_bytes}
 use Rattle.syntax.specs.ExpressionTree.{ArgumentTrees}
 use Rattle.arguments.specs.Arguments.{ArgumentsData, no_arguments}
 use Rattle.arguments.specs.Disablers.{gives_disabler}
-use Rattle.arguments.specs.Misfits.{checked}
+use Rattle.arguments.specs.Misfits.{arguments_check}
 use Rattle.interp.specs.Functions.{row_of}
 use Rattle.values.specs.declared.language_names.functions.Function.{Function}
 use Rattle.values.specs.declared.language_names.functions.Function.TheVariants as functions
@@ -15,8 +15,8 @@ use Rattle.interp.specs.declared.statement_calls.AfterCall.TheVariants as ways
 use Rattle.interp.specs.declared.flow.Flow.{Flow}
 use Rattle.interp.specs.declared.flow.Flow.TheVariants.{Next, Finished}
 use Rattle.interp.specs.Subdir.{AfterCallData, Ends, Enters, action_of, subdir_call}
-use Rattle.expressions.specs.Forms.{fitted, function_at}
-use Rattle.interp.specs.Expressions.{arguments_of, called}
+use Rattle.expressions.specs.Forms.{check_at_line, function_at}
+use Rattle.interp.specs.Expressions.{arguments_of, plan_of_call}
 
 -- Returns the way in which a statement ends, without its place in memory.
 abbrev pub after_call_view : AfterCall → AfterCallData
@@ -27,7 +27,7 @@ after_call_view (ways.Enters text) = Enters (string_bytes text)
 abbrev pub subdir_done_unless : Bool → ℕ → ArgumentsData → Plan AfterCallData
 subdir_done_unless true line a = give (Ends Next)
 subdir_done_unless false line a = do
-  _ ← fitted line (checked (row_of functions.SubdirDone) a)
+  _ ← check_at_line line (arguments_check (row_of functions.SubdirDone) a)
   give (Ends Finished)
 
 -- Runs `subdir_done`. A disabler among its arguments turns it off.
@@ -39,7 +39,7 @@ abbrev pub call_by_action : Action → ℕ → Function → ArgumentsData → Pl
 call_by_action Enter line f a = subdir_call line a
 call_by_action Leave line f a = subdir_done_call line a
 call_by_action Call line f a = do
-  _ ← called line f a
+  _ ← plan_of_call line f a
   give (Ends Next)
 
 -- Runs a function as a statement, on evaluated arguments.

@@ -7,9 +7,9 @@ use Rattle.values.specs.Data.{boolean_in, is_disabler}
 use Rattle.support.specs.declared.faults.refusal.Refusal.{Refusal}
 use Rattle.support.specs.declared.faults.refusal.Refusal.TheVariants as refusals
 use Rattle.world.specs.Plan.{Plan, ruled, ◌>>=◌, give, refuse}
-use Rattle.expressions.specs.Assignments.{appended, assigned, bound, own}
+use Rattle.expressions.specs.Assignments.{plus_assignment, variable_assignment, assignment_of_round, own}
 use Rattle.expressions.specs.Conditions.{choice_of}
-use Rattle.expressions.specs.Rounds.{Round, looped}
+use Rattle.expressions.specs.Rounds.{Round, loop_rounds}
 use Rattle.expressions.specs.declared.conditions.Choice.{Choice}
 use Rattle.expressions.specs.declared.conditions.Choice.TheVariants.{Body, Others, Skip}
 use Rattle.interp.specs.declared.flow.Flow.{Flow}
@@ -75,14 +75,15 @@ module _ (into : List ℕ → Plan Flow) where
 -- such refusal. With it, the rules that end can be counted before any run. No value has so many items, so a run of the program is both.
 module _ (into : List ℕ → Plan Flow) (few : Bool) where
   abbrev mutual
+    -- Runs a statement. It returns whether the next one follows, or whether the iteration, the loop or the file is left.
     pub does : StatementTree → Plan Flow
     does (AssignTree name line value) = do
       d ← ruled (value_of into value)
       e ← own d
-      _ ← assigned line name e
+      _ ← variable_assignment line name e
       give Next
     does (AppendTree name line value) = do
-      _ ← appended line name (ruled (value_of into value))
+      _ ← plus_assignment line name (ruled (value_of into value))
       give Next
     does (ValueTree e line) = expression_statement into e
     does (BreakTree line) = give Broken
@@ -90,8 +91,9 @@ module _ (into : List ℕ → Plan Flow) (few : Bool) where
     does (IfTree line branches otherwise) = branches_of branches (do_all otherwise)
     does (ForeachTree line first second items items_line body) = do
       d ← ruled (value_of into items)
-      rounds_within few line (λ r. bound line first second r >>= λ _. do_all body) (looped second d)
+      rounds_within few line (λ r. assignment_of_round line first second r >>= λ _. do_all body) (loop_rounds second d)
 
+    -- Runs the first branch whose condition is true, or else `otherwise`. If a condition is a disabler, it runs nothing.
     pub branches_of : Branches → Plan Flow → Plan Flow
     branches_of NoBranch otherwise = otherwise
     branches_of (MoreBranches test line body bs) otherwise = do
@@ -99,6 +101,7 @@ module _ (into : List ℕ → Plan Flow) (few : Bool) where
       choice ← choice_of line (boolean_in d) (is_disabler d)
       by_choice choice (do_all body) (branches_of bs otherwise)
 
+    -- Runs statements in order, up to the first after which the next one does not follow.
     pub do_all : Statements → Plan Flow
     do_all NoStatement = give Next
     do_all (MoreStatements s ss) = do

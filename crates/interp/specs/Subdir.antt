@@ -5,7 +5,7 @@ use Rattle.arguments.specs.Arguments.{ArgumentsData}
 use Rattle.arguments.specs.Dependencies.{are_found}
 use Rattle.arguments.specs.Disablers.{gives_disabler}
 use Rattle.arguments.specs.Given.{keyword, text_at}
-use Rattle.arguments.specs.Misfits.{checked}
+use Rattle.arguments.specs.Misfits.{arguments_check}
 use Rattle.interp.specs.Functions.{row_of}
 use Rattle.values.specs.declared.language_names.functions.Function.{Function}
 use Rattle.values.specs.declared.language_names.functions.Function.TheVariants as functions
@@ -14,7 +14,7 @@ use Rattle.interp.specs.declared.statement_calls.Action.{Action}
 use Rattle.interp.specs.declared.statement_calls.Action.TheVariants.{Call, Enter, Leave}
 use Rattle.interp.specs.declared.flow.Flow.{Flow}
 use Rattle.interp.specs.declared.flow.Flow.TheVariants.{Next}
-use Rattle.expressions.specs.Forms.{fitted}
+use Rattle.expressions.specs.Forms.{check_at_line}
 
 -- The statement has ended, or the folder that a text names is entered.
 pub data AfterCallData : Type 0 where
@@ -45,7 +45,7 @@ after_subdir false a = Ends Next
 abbrev pub subdir_unless : Bool → ℕ → ArgumentsData → Plan AfterCallData
 subdir_unless true line a = give (Ends Next)
 subdir_unless false line a = do
-  _ ← fitted line (checked (row_of functions.Subdir) a)
+  _ ← check_at_line line (arguments_check (row_of functions.Subdir) a)
   _ ← at line
   give (after_subdir (is_wanted a) a)
 

@@ -5,7 +5,7 @@ ghost use Rattle.code.specs.Nodes.{tree_at};
 ghost use Rattle.code.specs.Statements.{branch_at, name_at, statement_at};
 ghost use Rattle.world.specs.Prelude.{data_of};
 ghost use Rattle.world.specs.Plan.{give, next, ruled};
-ghost use Rattle.expressions.specs.Assignments.{appended, assigned, own};
+ghost use Rattle.expressions.specs.Assignments.{plus_assignment, variable_assignment, own};
 ghost use Rattle.expressions.specs.Codes.{block_by, expressions_by, statements_by};
 ghost use Rattle.syntax.specs.Tree.{branches};
 ghost use Rattle.interp.specs.Blocks.{BeginsDeep, DeepIfNone, branch_or, is_simple_at, node_at, statements_of};
@@ -211,7 +211,7 @@ impl<'a, T: Tree, O: Outputs, L: Ledger> Evaluator<'a, T, O, L> {
         ensures same { Same self.old.context self.new.context }
         ensures device { FailsInside T.seen O.seen self.old.context result self.new.context }
         ensures gives { name < length self.old.context.store.now.names → Evaluates T.seen O.seen (λ f. f) (λ into ts.
-            next (ruled (value_of into (tree_at ts value))) (λ d. next (own d) (λ e. next (assigned line
+            next (ruled (value_of into (tree_at ts value))) (λ d. next (own d) (λ e. next (variable_assignment line
             (name_at self.old.context.store.now.names name) e) (λ _. give Next)))) code.now self.old.context result self.new.context }
     {
         let value = self.eval(code, value)?;
@@ -234,7 +234,7 @@ impl<'a, T: Tree, O: Outputs, L: Ledger> Evaluator<'a, T, O, L> {
         ensures same { Same self.old.context self.new.context }
         ensures device { FailsInside T.seen O.seen self.old.context result self.new.context }
         ensures gives { name < length self.old.context.store.now.names → Evaluates T.seen O.seen (λ f. f) (λ into ts.
-            next (appended line (name_at self.old.context.store.now.names name) (ruled (value_of into (tree_at ts value))))
+            next (plus_assignment line (name_at self.old.context.store.now.names name) (ruled (value_of into (tree_at ts value))))
             (λ _. give Next)) code.now self.old.context result self.new.context }
     {
         let _ = self.context.variable(name, line)?;

@@ -1,18 +1,19 @@
 //! Looks up and calls functions and methods by their names.
 ghost use Rattle.std.specs.Prelude.{◌≡◌, IfErr, IfOk, None, OnErr, Some, map, option_map};
-ghost use Rattle.interp.specs.ByName.{call_by_name, done, function_call, function_called, function_of, known, lookup, method_answered};
-ghost use Rattle.interp.specs.ByName.{method_call, method_called, method_of, unnamed, value_method};
-ghost use Rattle.objects.specs.Left.{is_left_out as is_left_out_of};
-ghost use Rattle.objects.specs.Methods.{has_method as has_method_of};
+ghost use Rattle.interp.specs.ByName.{call_by_name, result_without_value, function_call, function_called, function_of, known_name, lookup};
+ghost use Rattle.interp.specs.ByName.{method_answered};
+ghost use Rattle.interp.specs.ByName.{method_call, method_called, method_of, refusal_of_name, value_method};
+ghost use Rattle.methods.specs.Left.{is_left_out as is_left_out_of};
+ghost use Rattle.methods.specs.Methods.{has_method as has_method_of};
 ghost use Rattle.values.specs.language_names.Functions.{function_named};
 ghost use Rattle.world.specs.Prelude.{Does, MayFail, Refuses, arguments_data, data_of, state_of, within_bytes, world_of};
 ghost use Rattle.world.specs.World.{fault_here};
 
 use crate::functions;
 use arguments::{Arguments, any_values, gives_disabler};
-use calls::language_calls::turning::is_turned_off;
 use expressions::{disabler_method, method_detail};
-use objects::{has_object_method, is_left_out_method, object_method};
+use language_calls::disabler_effect::is_turned_off;
+use methods::{has_object_method, is_left_out_method, object_method};
 use operations::methods::{has_method, method};
 use ports::{Outputs, Tree};
 use std::alloc::{AllocError, Global};
@@ -42,7 +43,10 @@ impl Model for CallName {
 
 impl CallName {
     /// Returns the name with this text. Fails with E22 if the text is longer than a text value can be.
-    pub fn new(alloc: Global, text: &str) -> Result<Result<CallName, values::Refusal>, AllocError>
+    pub fn new(
+        alloc: Global,
+        text: &str,
+    ) -> Result<Result<CallName, values::OperationRefusal>, AllocError>
         ensures { IfOk result (λ r. r ≡ within_bytes text.now) }
     {
         match Text::of_str(alloc, text)? {
@@ -79,7 +83,7 @@ impl CallName {
 
 // Returns the refusal of a name that names nothing.
 fn unnamed(is_left_out: bool) -> Refusal
-    ensures { result ≡ unnamed is_left_out }
+    ensures { result ≡ refusal_of_name is_left_out }
 {
     if is_left_out {
         Refusal::LeftOut
@@ -101,7 +105,7 @@ fn function_of(name: &CallName) -> Result<Function, Refusal>
 
 // Succeeds if there is a method. Fails with E23 if its name is left out, or else with E8.
 fn known(is_there: bool, is_left_out: bool) -> Result<(), Refusal>
-    ensures { result ≡ known is_there is_left_out }
+    ensures { result ≡ known_name is_there is_left_out }
 {
     if is_there {
         Ok(())
@@ -112,7 +116,7 @@ fn known(is_there: bool, is_left_out: bool) -> Result<(), Refusal>
 
 // Looks up a method of an object.
 fn object_method_of(object: &Object, name: &CallName) -> Result<(), Refusal>
-    ensures { result ≡ known (has_method_of object.now name.now) (is_left_out_of object.now name.now) }
+    ensures { result ≡ known_name (has_method_of object.now name.now) (is_left_out_of object.now name.now) }
 {
     let is_there = has_object_method(object, name.method());
     let is_left_out = is_left_out_method(object, name.as_str());
@@ -134,7 +138,7 @@ fn method_of(receiver: &Value, name: &CallName) -> Result<(), Refusal>
 
 // Looks up a function.
 fn function_known(name: &CallName) -> Result<(), Refusal>
-    ensures { result ≡ done (function_of name.now) }
+    ensures { result ≡ result_without_value (function_of name.now) }
 {
     match function_of(name) {
         Ok(_) => Ok(()),

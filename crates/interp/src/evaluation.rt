@@ -1,15 +1,15 @@
 //! Runs a whole evaluation.
 ghost use Rattle.std.specs.Prelude.{Bool, ◌≡◌, ℕ, [], IfOk, length};
 ghost use Rattle.std.specs.Rc.{rc_value};
-ghost use Rattle.machine.specs.machine_file.View.{machine_in};
+ghost use Rattle.machine_file.specs.View.{machine_in};
 ghost use Rattle.ports.specs.Endings.{HasRoom};
 ghost use Rattle.world.specs.Prelude.{Files, Holds, failures_after, settings_view};
-ghost use Rattle.world.specs.Trace.{seen};
+ghost use Rattle.world.specs.Trace.{seen_from_parts};
 ghost use Rattle.interp.specs.FirstStatement.{Reads, RootGives, Starts};
 ghost use Rattle.expressions.specs.Codes.{file_by};
 ghost use Rattle.interp.specs.Cost.{tree_cost};
 ghost use Rattle.interp.specs.Evaluated.{Evaluated, FailsOnce, Ticked};
-ghost use Rattle.interp.specs.Evaluation.{IsSaid, MachineSaid, defined, evaluated, root};
+ghost use Rattle.interp.specs.Evaluation.{IsSaid, MachineSaid, plan_of_definitions, evaluated_files, root};
 
 use crate::evaluator::Evaluator;
 use crate::first_statement::line_before_project;
@@ -17,7 +17,7 @@ use crate::flow::Flow;
 use arguments::no_arguments;
 use code::Code;
 use expressions::Context;
-use machine::machine_file::Machine;
+use machine_file::Machine;
 use ports::{Outputs, Tree};
 use std::alloc::Global;
 use std::rc::Rc;
@@ -25,7 +25,7 @@ use std::sync::ledger::Ledger;
 use support::faults::Refusal;
 use world::{Settings, Steps, Stop, Store, end_rule, ends_keep_up};
 
-/// Holds what an evaluation is given besides its devices.
+/// Holds the inputs of an evaluation, apart from its devices.
 #[derive(Clone, Copy)]
 pub struct Inputs<'a> {
     pub settings: &'a Settings,
@@ -57,7 +57,7 @@ impl<'a, T: Tree, O: Outputs, L: Ledger> Evaluator<'a, T, O, L> {
         requires room { HasRooms T.seen O.seen self.old.context }
         ensures same { Same self.old.context self.new.context }
         ensures device { Fails T.seen O.seen self.old.context result self.new.context }
-        ensures gives { (few : Bool) → Answers T.seen O.seen (λ u. u) (defined few) self.old.context result self.new.context }
+        ensures gives { (few : Bool) → Answers T.seen O.seen (λ u. u) (plan_of_definitions few) self.old.context result self.new.context }
     {
         let code = self.context.open("")?;
         let answer = self.root_statements(code);
@@ -128,11 +128,11 @@ pub fn evaluate<T: Tree, O: Outputs, L: Ledger>(
     requires tree { HasRoom (T.seen tree.old).failures }
     requires out { HasRoom (O.seen out.old).failures }
     ensures gives { (files : Files) (said : MachineSaid) → Holds (T.seen tree.old) files → IsSaid inputs.now.machine.now said
-        → Evaluated (evaluated files (settings_view inputs.now.settings.now) said) result
-        (seen (O.seen out.old) steps.old []) (seen (O.seen out.new) steps.new []) }
+        → Evaluated (evaluated_files files (settings_view inputs.now.settings.now) said) result
+        (seen_from_parts (O.seen out.old) steps.old []) (seen_from_parts (O.seen out.new) steps.new []) }
     ensures ticks { (files : Files) (said : MachineSaid) → Holds (T.seen tree.old) files → IsSaid inputs.now.machine.now said
-        → Ticked (evaluated files (settings_view inputs.now.settings.now) said) (tree_cost files) result
-        (seen (O.seen out.old) steps.old []) (seen (O.seen out.new) steps.new []) }
+        → Ticked (evaluated_files files (settings_view inputs.now.settings.now) said) (tree_cost files) result
+        (seen_from_parts (O.seen out.old) steps.old []) (seen_from_parts (O.seen out.new) steps.new []) }
     ensures device { FailsOnce (T.seen tree.old) (O.seen out.old) result (T.seen tree.new) (O.seen out.new) }
 {
     // This call proves the law that the clause `ticks` rests on. It does nothing.

@@ -4,10 +4,10 @@ ghost use Rattle.arguments.specs.Disablers.{gives_disabler};
 ghost use Rattle.world.specs.Prelude.{arguments_data, data_of};
 ghost use Rattle.world.specs.Plan.{next};
 ghost use Rattle.interp.specs.Bounds.{bounds};
-ghost use Rattle.interp.specs.Expressions.{called, called_inside, entered_inside};
-ghost use Rattle.expressions.specs.Forms.{needed};
+ghost use Rattle.interp.specs.Expressions.{plan_of_call, called_inside, entered_inside};
+ghost use Rattle.expressions.specs.Forms.{needed_value};
 ghost use Rattle.interp.specs.Frames.{Acts};
-ghost use Rattle.interp.specs.FolderEntries.{inside};
+ghost use Rattle.interp.specs.FolderEntries.{folder_in_expression};
 
 use crate::evaluator::Evaluator;
 use crate::flow::Flow;
@@ -56,7 +56,8 @@ impl<'a, T: Tree, O: Outputs, L: Ledger> Evaluator<'a, T, O, L> {
         requires room { HasRoom T.seen O.seen self.old.context }
         ensures same { Same self.old.context self.new.context }
         ensures device { FailsInside T.seen O.seen self.old.context result self.new.context }
-        ensures gives { Tries T.seen O.seen data_of (λ _. next (called line function (arguments_data arguments.now)) (needed line))
+        ensures gives { Tries T.seen O.seen data_of
+            (λ _. next (plan_of_call line function (arguments_data arguments.now)) (needed_value line))
             self.old.context result self.new.context }
     {
         let answer = self.call_function(line, function, arguments)?;
@@ -97,7 +98,7 @@ impl<'a, T: Tree, O: Outputs, L: Ledger> Evaluator<'a, T, O, L> {
         requires room { HasRoom T.seen O.seen self.old.context }
         ensures same { Same self.old.context self.new.context }
         ensures device { Fails T.seen O.seen self.old.context result self.new.context }
-        ensures gives { (few : Bool) → Acts T.seen O.seen (inside (bounds few left) entry.value)
+        ensures gives { (few : Bool) → Acts T.seen O.seen (folder_in_expression (bounds few left) entry.value)
             self.old.context stack.old.items result self.new.context stack.new.items }
     {
         let FolderEntry { text, line, rules } = Box::into_inner(entry);

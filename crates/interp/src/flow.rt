@@ -28,7 +28,7 @@ impl Flow {
         }
     }
 
-    /// Returns whether the next iteration of a loop follows, after an iteration that ended so.
+    /// Returns whether the loop continues after an iteration that ended in this way.
     pub fn goes_round(self) -> bool
         ensures { result ≡ goes_round self }
     {

@@ -6,17 +6,17 @@ ghost use Rattle.world.specs.Fit.{fit};
 ghost use Rattle.interp.specs.Functions.{call, does, has_unwanted_disabler, row_for, row_of, without_disabler};
 
 use crate::project_functions::{project_function, project_function_row};
-use arguments::{Arguments, Kind, Row, any_values, gives_disabler, some_texts, values};
-use calls::language_calls::disablers::{disabler, is_disabler};
-use calls::language_calls::messages::{assert, error, message, warning};
-use calls::language_calls::path_joining::join_paths;
-use calls::language_calls::ranges::range;
-use calls::language_calls::rows::subdir_row;
-use calls::language_calls::turning::makes_file;
-use calls::language_calls::variables::{get_variable, is_variable, set_variable, unset_variable};
-use calls::project_calls::{project, project_row};
-use objects::configuration_calls::{has_meson_format, other_format_row};
+use arguments::{ArgumentKind, Arguments, Row, any_values, gives_disabler, some_texts, values};
+use configuration_calls::{has_meson_format, other_format_row};
+use language_calls::disabler_effect::makes_file;
+use language_calls::disablers::{disabler, is_disabler};
+use language_calls::messages::{assert, error, message, warning};
+use language_calls::path_joining::join_paths;
+use language_calls::ranges::range;
+use language_calls::rows::subdir_row;
+use language_calls::variables::{get_variable, is_variable, set_variable, unset_variable};
 use ports::{Outputs, Tree};
+use project_calls::{project, project_row};
 use support::faults::Refusal;
 use values::Value;
 use values::language_names::Function;
@@ -27,17 +27,24 @@ pub fn row(function: Function) -> Row
     ensures { row_data result ≡ row_of function }
 {
     match function {
-        Function::Assert => values(&[Kind::Boolean, Kind::Text], 1),
+        Function::Assert => values(&[ArgumentKind::Boolean, ArgumentKind::Text], 1),
         Function::Disabler | Function::SubdirDone => values(&[], 0),
         Function::Error | Function::Message | Function::Warning => any_values(),
-        Function::GetVariable => values(&[Kind::Text, Kind::Any], 1),
-        Function::IsDisabler => values(&[Kind::Any], 1),
-        Function::IsVariable | Function::UnsetVariable => values(&[Kind::Text], 1),
+        Function::GetVariable => values(&[ArgumentKind::Text, ArgumentKind::Any], 1),
+        Function::IsDisabler => values(&[ArgumentKind::Any], 1),
+        Function::IsVariable | Function::UnsetVariable => values(&[ArgumentKind::Text], 1),
         Function::JoinPaths => some_texts(),
         Function::OfProject(function) => project_function_row(function),
         Function::Project => project_row(),
-        Function::Range => values(&[Kind::Integer, Kind::Integer, Kind::Integer], 1),
-        Function::SetVariable => values(&[Kind::Text, Kind::Any], 2),
+        Function::Range => values(
+            &[
+                ArgumentKind::Integer,
+                ArgumentKind::Integer,
+                ArgumentKind::Integer,
+            ],
+            1,
+        ),
+        Function::SetVariable => values(&[ArgumentKind::Text, ArgumentKind::Any], 2),
         Function::Subdir => subdir_row(),
     }
 }

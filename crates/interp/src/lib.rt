@@ -20,10 +20,10 @@
 mod block;
 mod block_statements;
 mod by_name;
-mod calling;
 mod evaluation;
 mod evaluator;
 mod expression_calls;
+mod file_run;
 mod first_statement;
 mod flow;
 mod folders;
@@ -36,10 +36,10 @@ mod loop_rounds;
 mod nodes;
 mod operation;
 mod project_functions;
-mod running;
 mod stack_statements;
 mod statement_calls;
 mod unwinding;
+mod value_calls;
 
 pub use by_name::{CallName, call, lookup};
 pub use evaluation::{Inputs, definitions, evaluate, read_machine};

@@ -14,7 +14,7 @@ use crate::halt::{Halt, end_rule_inside};
 use arguments::{Arguments, add_argument, no_arguments};
 use code::Code;
 use code::node::{ArgumentNode, CallNode, EntryNode, LinkNode, Node, OperandNode};
-use expressions::{Meaning, meaning_of};
+use expressions::{InfixOperator, meaning_of};
 use operations::operators::{Left, right_side};
 use ports::{Outputs, Tree};
 use std::mem;
@@ -197,7 +197,7 @@ impl<'a, T: Tree, O: Outputs, L: Ledger> Evaluator<'a, T, O, L> {
         Ok(evaluated)
     }
 
-    /// Returns the value of an expression after its methods and indexes. The last method may have none.
+    /// Returns the value of an expression after its methods and indexes. Returns `None` if the last method returns no value.
     #[cycle(eval)]
     pub fn ask_links(
         &mut self,
@@ -274,12 +274,12 @@ impl<'a, T: Tree, O: Outputs, L: Ledger> Evaluator<'a, T, O, L> {
         let mut value = self.eval(code, first)?;
         for operand in others {
             let connective = match meaning_of(operand.operator) {
-                Meaning::Combines(operator) => {
+                InfixOperator::Combines(operator) => {
                     let right = self.eval(code, operand.value)?;
                     value = self.combine(line, operator, value, right)?;
                     continue;
                 }
-                Meaning::Connects(connective) => connective,
+                InfixOperator::Connects(connective) => connective,
             };
             let said = self.decide(line, connective, value)?;
             match said {

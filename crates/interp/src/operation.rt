@@ -3,7 +3,7 @@ ghost use Rattle.std.specs.Prelude.{◌≡◌, ℕ};
 ghost use Rattle.operations.specs.operators.Logic.{left_answer};
 ghost use Rattle.operations.specs.operators.Operations.{binary_answer};
 ghost use Rattle.world.specs.Prelude.{data_of, failures_after};
-ghost use Rattle.world.specs.Plan.{answered};
+ghost use Rattle.world.specs.Plan.{answer_at_line};
 ghost use Rattle.interp.specs.Operations.{left_view};
 
 use crate::evaluator::Evaluator;
@@ -18,7 +18,7 @@ impl<'a, T: Tree, O: Outputs, L: Ledger> Evaluator<'a, T, O, L> {
 
     /// Returns what the left side of `and` or `or` decides.
     pub fn decide(&self, line: usize, connective: Connective, left: Value) -> Result<Left, Stop>
-        ensures gives { Answers T.seen O.seen left_view (answered line (left_answer connective (data_of left)))
+        ensures gives { Answers T.seen O.seen left_view (answer_at_line line (left_answer connective (data_of left)))
             self.now.context result self.now.context }
         ensures quiet { (n : ℕ) → failures_after n result ≡ n }
     {
@@ -36,7 +36,7 @@ impl<'a, T: Tree, O: Outputs, L: Ledger> Evaluator<'a, T, O, L> {
         left: Value,
         right: Value,
     ) -> Result<Value, Stop>
-        ensures gives { Answers T.seen O.seen data_of (answered line (binary_answer operator (data_of left) (data_of right)))
+        ensures gives { Answers T.seen O.seen data_of (answer_at_line line (binary_answer operator (data_of left) (data_of right)))
             self.now.context result self.now.context }
         ensures quiet { (n : ℕ) → failures_after n result ≡ n }
     {

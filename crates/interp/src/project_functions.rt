@@ -5,12 +5,12 @@ ghost use Rattle.world.specs.Prelude.{Does, MayFail, arguments_data, data_of};
 ghost use Rattle.interp.specs.ProjectFunctions.{project_function, project_function_row};
 
 use arguments::{Arguments, Row};
-use build::Kind;
-use calls::project_calls::{get_option, get_option_row};
-use objects::configuration_calls::{
+use build::TargetKind;
+use configuration_calls::{
     configuration_data, configuration_data_row, configure_file, configure_file_row,
 };
 use ports::{Outputs, Tree};
+use project_calls::{get_option, get_option_row};
 use resource_calls::{
     Sort, declare_dependency, declare_dependency_row, dependency, dependency_row, find_program,
     find_program_row, install, install_data_row, install_headers_row, install_man_row, test,
@@ -65,7 +65,7 @@ pub fn project_function<T: Tree, O: Outputs>(
         ProjectFunction::AddProjectArguments => add_project_arguments(caller, arguments),
         ProjectFunction::AddProjectLinkArguments => add_project_link_arguments(caller, arguments),
         ProjectFunction::CustomTarget => custom_target(caller, arguments),
-        ProjectFunction::Executable => declare(caller, Kind::Executable, arguments),
+        ProjectFunction::Executable => declare(caller, TargetKind::Executable, arguments),
         ProjectFunction::Files => files(caller, arguments),
         ProjectFunction::IncludeDirectories => include_directories(caller, arguments),
         ProjectFunction::ConfigurationData => configuration_data(caller, arguments),
@@ -79,7 +79,7 @@ pub fn project_function<T: Tree, O: Outputs>(
         ProjectFunction::InstallMan => install(caller, Sort::ManPage, arguments),
         ProjectFunction::Test => test(caller, arguments),
         ProjectFunction::Library => library(caller, arguments),
-        ProjectFunction::SharedLibrary => declare(caller, Kind::SharedLibrary, arguments),
-        ProjectFunction::StaticLibrary => declare(caller, Kind::StaticLibrary, arguments),
+        ProjectFunction::SharedLibrary => declare(caller, TargetKind::SharedLibrary, arguments),
+        ProjectFunction::StaticLibrary => declare(caller, TargetKind::StaticLibrary, arguments),
     }
 }

@@ -12,7 +12,7 @@ ghost use Rattle.interp.specs.Folders.{folder};
 ghost use Rattle.interp.specs.Frames.{Begins, ChoosesOf, above_branch, round_by};
 ghost use Rattle.interp.specs.Parts.{above};
 ghost use Rattle.interp.specs.Statements.{branches_of, do_all, does, expression_statement, rounds_within};
-ghost use Rattle.expressions.specs.Rounds.{looped};
+ghost use Rattle.expressions.specs.Rounds.{loop_rounds};
 ghost use Rattle.interp.specs.declared.block.Block.TheVariants.{Part};
 ghost use Rattle.interp.specs.declared.flow.Flow.TheVariants.{Next};
 
@@ -126,7 +126,7 @@ impl<'a, T: Tree, O: Outputs, L: Ledger> Evaluator<'a, T, O, L> {
         ensures gives { (few : Bool) → Begins T.seen O.seen (λ table. next
             (ruled (value_of (folder (bounds few left)) (tree_at (expressions_by table code.now.value) list)))
             (λ d. rounds_within few head.line (round_by table code.now.value (bounds few left) head)
-            (looped (option_map (name_at table) head.second) d))) (bounds few left)
+            (loop_rounds (option_map (name_at table) head.second) d))) (bounds few left)
             code.now.value self.old.context stack.old.items result self.new.context stack.new.items }
     {
         let whole = self.eval(code, list)?;

@@ -1,6 +1,6 @@
 //! Ends the rules on the stack after a fault.
 ghost use Rattle.std.specs.Prelude.{◌≡◌, ◌+◌};
-ghost use Rattle.interp.specs.Frames.{pending, unwound};
+ghost use Rattle.interp.specs.Frames.{pending_rules, unwound_rules};
 
 use crate::frames::Frame;
 use std::sync::ledger::Ledger;
@@ -8,7 +8,7 @@ use world::{Steps, Stop};
 
 // Ticks for each end of a rule on the stack.
 fn end_all<L: Ledger>(stack: &[Frame], steps: &mut Steps<L>)
-    ensures { steps.new ≡ steps.old + pending stack.now }
+    ensures { steps.new ≡ steps.old + pending_rules stack.now }
 {
     for frame in stack {
         match frame {
@@ -21,10 +21,10 @@ fn end_all<L: Ledger>(stack: &[Frame], steps: &mut Steps<L>)
     }
 }
 
-/// Returns the stop of a run, after ending the rules on its stack if it is a fault.
+/// Ends the rules on the stack if the stop is a fault, and returns the stop.
 pub fn unwind<L: Ledger>(stop: Stop, stack: &[Frame], steps: &mut Steps<L>) -> Stop
     ensures same { result ≡ stop }
-    ensures ticks { steps.new ≡ steps.old + unwound stop stack.now }
+    ensures ticks { steps.new ≡ steps.old + unwound_rules stop stack.now }
 {
     match stop {
         Stop::Refused(fault) => {

@@ -9,10 +9,10 @@ use Rattle.std.proofs.lemmas.Option.{get_or_from_slice_get, slice_get-get_or, sl
 use Rattle.std.proofs.lemmas.Slice.Eq.{bytes_eq-Decides}
 use Rattle.serde_json.specs.Data.{Data, null, number, unsigned}
 use Rattle.build.specs.edge.Texts.{Text}
-use Rattle.machine.specs.machine_file.Files.{Section as SectionSaid}
-use Rattle.machine.specs.machine_file.Lookups.{entries_at, entry_at}
-use Rattle.machine.specs.machine_file.Questions.{Aside, gives_options, options_at}
-use Rattle.machine.specs.machine_file.Values as written
+use Rattle.machine_file.specs.Files.{Section as SectionSaid}
+use Rattle.machine_file.specs.Lookups.{entries_at, entry_at}
+use Rattle.machine_file.specs.Questions.{Aside, gives_options, options_at}
+use Rattle.machine_file.specs.Values as written
 use Rattle.introspection.specs.Questions.{Line, Reply, Section, Value, aside_member, entry_member, in_order, label_of, line_of, option_line}
 use Rattle.introspection.specs.Questions.{shown_beside, shown_key, shown_reply, shown_value}
 use Rattle.introspection.proofs.Shape.{ArePlain, IsPlain, none, one, plain_boolean, plain_integer, plain_object, plain_string, plain_strings}

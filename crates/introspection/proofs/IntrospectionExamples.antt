@@ -5,7 +5,7 @@ use Rattle.std.specs.Fmt.{digits}
 use Rattle.serde_json.proofs.OnLiterals.{serde_json_on_literals}
 use Rattle.build.specs.Data.{FactsData, text, boolean, integer, texts, BuildData, CustomData, Build, Custom}
 use Rattle.build.specs.declared.facts.OptionType.TheVariants as types
-use Rattle.build.specs.declared.target.Kind.TheVariants.{SharedLibrary}
+use Rattle.build.specs.declared.target.TargetKind.TheVariants.{SharedLibrary}
 use Rattle.build.specs.project.World.{WorldData, new_world}
 use Rattle.introspection.specs.Document.{definition_file, document_of, document_text}
 

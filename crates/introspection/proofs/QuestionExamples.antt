@@ -2,7 +2,7 @@
 use Rattle.std.proofs.Common.{◌≡◌, true, None, Some, [], ◌∷◌, ◌++◌, codes, refl}
 use Rattle.std.specs.Fmt.{digits}
 use Rattle.serde_json.proofs.OnLiterals.{serde_json_on_literals}
-use Rattle.machine.specs.machine_file.Values.{Boolean, Text, Texts}
+use Rattle.machine_file.specs.Values.{Boolean, Text, Texts}
 use Rattle.introspection.specs.Questions.{Value, label_of, label_text, line_of, line_text}
 use Rattle.introspection.specs.Questions.{Section as Whole}
 

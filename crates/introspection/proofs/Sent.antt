@@ -12,7 +12,7 @@ use Rattle.serde_json.specs.Read.{of_items}
 use Rattle.serde_json.specs.View.{items_of}
 use Rattle.serde_json.specs.Written.{items_outline}
 use Rattle.introspection.specs.Document.{list, strings}
-use Rattle.introspection.specs.Questions.{in_order, ordered}
+use Rattle.introspection.specs.Questions.{in_order, ordered_object}
 use Rattle.introspection.specs.Sending.{Sends}
 
 -- ---- lists
@@ -66,7 +66,7 @@ order_sent show (x ∷ xs) first last new h e = (h.1.named, h.0, h.1.key, h.1.va
 -- an object of members in order, of which so many are told before
 pub ordered_sent : {X : Type 0} (show : X → Text × Data) (xs : List X) (n : ℕ) (old first last new : Log) → n ≡ length xs
     → Logs old first (map_begins (Some n)) → WritesEach (λ x. SendsMember (show x)) xs first last → Logs last new map_ends
-    → SendsValue (ordered (map show xs)) old new
+    → SendsValue (ordered_object (map show xs)) old new
 ordered_sent show xs n old first last new len begun each ended = (
   first,
   subst (λ m. Logs old first (map_begins (Some m))) (len ∙ sym (order_len show xs)) begun,

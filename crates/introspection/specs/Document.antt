@@ -12,8 +12,8 @@ use Rattle.support.specs.paths.Paths.{path_in}
 use Rattle.build.specs.Files.{file_path, output_paths}
 use Rattle.build.specs.declared.facts.OptionType.{OptionType}
 use Rattle.build.specs.declared.facts.OptionType.TheVariants as types
-use Rattle.build.specs.declared.target.Kind.{Kind}
-use Rattle.build.specs.declared.target.Kind.TheVariants.{Executable, StaticLibrary, SharedLibrary}
+use Rattle.build.specs.declared.target.TargetKind.{TargetKind}
+use Rattle.build.specs.declared.target.TargetKind.TheVariants.{Executable, StaticLibrary, SharedLibrary}
 use Rattle.build.specs.project.World.{WorldData, AnswerData, InstallData, TestData}
 
 -- ---- JSON
@@ -101,7 +101,7 @@ project_info w = project_entry w.surroundings.facts
 -- ---- the targets, in the order of their declaration
 
 -- Returns the name of a kind of build target.
-abbrev pub kind_name : Kind → Text
+abbrev pub kind_name : TargetKind → Text
 kind_name Executable = codes "executable"
 kind_name StaticLibrary = codes "static library"
 kind_name SharedLibrary = codes "shared library"

@@ -4,11 +4,11 @@ use Rattle.serde_json.specs.Data.{Data, null, boolean, number, string, object, u
 use Rattle.serde_json.specs.Find.{of_integer}
 use Rattle.serde_json.specs.Written.{compact_text}
 use Rattle.build.specs.edge.Texts.{Text}
-use Rattle.machine.specs.machine_file.Files.{Entry, Section as SectionSaid}
-use Rattle.machine.specs.machine_file.Lookups.{value_at}
-use Rattle.machine.specs.machine_file.Questions.{Answer, Aside, Question, Topic, Key, Whole, Options}
-use Rattle.machine.specs.machine_file.Questions.{entries_of_answer, options_of_answer, value_of_answer}
-use Rattle.machine.specs.machine_file.Values as written
+use Rattle.machine_file.specs.Files.{Entry, Section as SectionSaid}
+use Rattle.machine_file.specs.Lookups.{value_at}
+use Rattle.machine_file.specs.Questions.{Answer, Aside, Question, Topic, Key, Whole, Options}
+use Rattle.machine_file.specs.Questions.{entries_of_answer, options_of_answer, value_of_answer}
+use Rattle.machine_file.specs.Values as written
 use Rattle.introspection.specs.Document.{strings}
 
 -- ---- the contents of the lines
@@ -18,7 +18,7 @@ pub data Reply : Type 0 where
   Value : Option written.Value → Reply
   Section : Option (List Entry) → Reply
 
--- What is asked for, the answer, and what else the call stated. A question for a whole section has no key.
+-- A line of questions: the section and the key, the answer, and the other keywords of the call. A question for a whole section has no key.
 pub record Line : Type 0 where
   pub section : Text
   pub key : Option Text
@@ -40,7 +40,7 @@ topic_lines (Options built_in declared) answer asides =
     map (option_line (options_of_answer answer) asides (codes "built-in options")) built_in
     ++ map (option_line (options_of_answer answer) asides (codes "project options")) declared
 
--- Returns the lines of a question with this answer: one, or one for each option that is asked for.
+-- Returns the lines of a question with this answer: one, or one for each requested option.
 abbrev pub lines_of : Question → Answer → List Line
 lines_of question answer = topic_lines question.topic answer question.asides
 
@@ -52,8 +52,8 @@ in_order [] = no_members
 in_order (m ∷ ms) = member m.0 m.1 (in_order ms)
 
 -- Returns an object whose members are in this order.
-abbrev pub ordered : List (Text × Data) → Data
-ordered ms = object (in_order ms)
+abbrev pub ordered_object : List (Text × Data) → Data
+ordered_object ms = object (in_order ms)
 
 -- Returns a value as a text, a number, a truth value or a list of texts.
 abbrev pub shown_value : written.Value → Data
@@ -75,7 +75,7 @@ abbrev pub shown_reply : Reply → Data
 shown_reply (Value None) = null
 shown_reply (Value (Some v)) = shown_value v
 shown_reply (Section None) = null
-shown_reply (Section (Some entries)) = ordered (map entry_member entries)
+shown_reply (Section (Some entries)) = ordered_object (map entry_member entries)
 
 -- Returns the key, which is `null` for a whole section.
 abbrev pub shown_key : Option Text → Data
@@ -84,11 +84,11 @@ shown_key (Some key) = string key
 
 -- Returns what else the call stated.
 abbrev pub shown_beside : List Aside → Data
-shown_beside asides = ordered (map aside_member asides)
+shown_beside asides = ordered_object (map aside_member asides)
 
 -- Returns a line, asked in a definition file at one of its lines.
 unfoldable pub line_of : Line → Text → ℕ → Data
-line_of l file place = ordered (
+line_of l file place = ordered_object (
     (codes "section", string l.section)
     ∷ (codes "key", shown_key l.key)
     ∷ (codes "answer", shown_reply l.reply)
@@ -99,7 +99,7 @@ line_of l file place = ordered (
 
 -- Returns a line without its place.
 unfoldable pub label_of : Line → Data
-label_of l = ordered (
+label_of l = ordered_object (
     (codes "section", string l.section)
     ∷ (codes "key", shown_key l.key)
     ∷ (codes "answer", shown_reply l.reply)
@@ -110,6 +110,6 @@ label_of l = ordered (
 unfoldable pub line_text : Line → Text → ℕ → Text
 line_text l file place = compact_text (line_of l file place)
 
--- Returns the text without the place. Of the lines with the same label, only the first is printed.
+-- Returns the text without the place. Among lines with the same label, only the first is printed.
 unfoldable pub label_text : Line → Text
 label_text l = compact_text (label_of l)

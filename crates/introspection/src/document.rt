@@ -7,8 +7,8 @@ ghost use Rattle.introspection.specs.Document.{document_of, document_text, files
 ghost use Rattle.introspection.specs.Sending.{Sends};
 
 use crate::entries::Destinations;
-use crate::sending::{printed, send, send_list};
-use crate::shown::{Shown, list_of, put_texts};
+use crate::json_values::{Shown, list_of, put_texts};
+use crate::serialization::{printed, send, send_list};
 use build::project::Project;
 use serde::{Described, Serialize, Serializer};
 use serde_json::{Map, Value, put};

@@ -14,10 +14,11 @@ ghost use Rattle.introspection.specs.Document.{with_installed};
 ghost use Rattle.introspection.specs.Pieces.{entry_of};
 ghost use Rattle.introspection.specs.Sending.{Reads};
 
-use crate::shown::{Shown, put_text, put_texts, strings};
+use crate::json_values::{Shown, put_text, put_texts, strings};
 use build::project::{Answer, Install, Test};
 use build::{
-    BuildTarget, CustomTarget, Facts, Kind, Linked, OptionEntry, OptionType, OptionValue, Target,
+    BuildTarget, CustomTarget, DeclaredTarget, Facts, OptionEntry, OptionType, OptionValue, Target,
+    TargetKind,
 };
 use serde_json::{Map, Value, put};
 use std::alloc::{AllocError, Global};
@@ -127,13 +128,13 @@ impl Shown for Test {
     }
 }
 
-fn kind_name(kind: Kind) -> &'static str
+fn kind_name(kind: TargetKind) -> &'static str
     ensures { result.now ≡ kind_name kind }
 {
     match kind {
-        Kind::Executable => "executable",
-        Kind::StaticLibrary => "static library",
-        Kind::SharedLibrary => "shared library",
+        TargetKind::Executable => "executable",
+        TargetKind::StaticLibrary => "static library",
+        TargetKind::SharedLibrary => "shared library",
     }
 }
 
@@ -228,7 +229,7 @@ fn custom_value(alloc: Global, target: &CustomTarget, paths: &[String]) -> Resul
     entry_value(alloc, &entry)
 }
 
-impl Shown for Linked {
+impl Shown for DeclaredTarget {
     ghost shown = { λ l. target_entry (target_view l.target) };
 
     fn value(&self, alloc: Global) -> Result<Value, AllocError> {

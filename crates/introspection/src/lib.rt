@@ -7,9 +7,9 @@
 
 mod document;
 mod entries;
+mod json_values;
 mod questions;
-mod sending;
-mod shown;
+mod serialization;
 
 pub use document::{document_text, introspect};
 pub use questions::{QuestionLine, Reply, question_lines};

@@ -1,15 +1,15 @@
 //! Writes what a run asks a machine file, as lines of JSON.
 ghost use Rattle.std.specs.Prelude.{◌≡◌, ◌++◌, IfOk, OnOk, codes, map, option_map, string_bytes};
 ghost use Rattle.serde_json.specs.Events.{SendsValue};
-ghost use Rattle.machine.specs.machine_file.QuestionsView.{asides_in, question_in};
-ghost use Rattle.machine.specs.machine_file.Questions.{answer_to};
-ghost use Rattle.machine.specs.machine_file.View.{entries_of, machine_in, strings_in, value_in};
+ghost use Rattle.machine_file.specs.QuestionsView.{asides_in, question_in};
+ghost use Rattle.machine_file.specs.Questions.{answer_to};
+ghost use Rattle.machine_file.specs.View.{entries_of, machine_in, strings_in, value_in};
 ghost use Rattle.introspection.specs.Questions.{entry_member, label_of, label_text, line_of, line_text, lines_of, option_line};
-ghost use Rattle.introspection.specs.Questions.{ordered, shown_beside, shown_key, shown_reply, shown_value};
+ghost use Rattle.introspection.specs.Questions.{ordered_object, shown_beside, shown_key, shown_reply, shown_value};
 ghost use Rattle.introspection.specs.QuestionsView.{line_in, reply_in};
 
-use crate::sending::printed;
-use machine::machine_file::{Aside, Machine, MachineValue, Question, Section, Topic};
+use crate::serialization::printed;
+use machine_file::{Aside, Machine, MachineValue, Question, Section, Topic};
 use serde::{Described, Serialize, Serializer};
 use serde_json::Value;
 use std::alloc::{AllocError, Global};
@@ -23,11 +23,11 @@ pub enum Reply<'a> {
     Section(Option<&'a Section>),
 }
 
-/// Holds what is asked for, the answer, and what else the call stated.
+/// Holds the topic of a question, the answer, and what else the call stated.
 #[derive(Clone, Copy)]
 pub struct QuestionLine<'a> {
     pub section: &'a str,
-    /// The key, or `None` if the whole section is asked for.
+    /// The key, or `None` if the question is about the whole section.
     pub key: Option<&'a str>,
     pub reply: Reply<'a>,
     pub asides: &'a [Aside],
@@ -73,7 +73,7 @@ fn option_lines<'a>(
     Ok(lines)
 }
 
-/// Returns the lines of a question, with the answer of this machine file: one, or one for each option that is asked for.
+/// Returns the lines of a question, with the answer of this machine file: one, or one for each requested option.
 pub fn question_lines<'a>(
     alloc: Global,
     machine: &'a Machine,
@@ -122,7 +122,8 @@ fn send_value<S: Serializer>(value: &MachineValue, out: &mut S) -> Result<(), S:
 
 // Serializes the entries of a section, in the order of its lines.
 fn send_section<S: Serializer>(section: &Section, out: &mut S) -> Result<(), S::Error>
-    ensures { OnOk result (SendsValue (ordered (map entry_member (entries_of section.now))) (S.written out.old) (S.written out.new)) }
+    ensures { OnOk result
+        (SendsValue (ordered_object (map entry_member (entries_of section.now))) (S.written out.old) (S.written out.new)) }
 {
     out.begin_map(Some(section.len()))?;
     for i in 0..section.len() {

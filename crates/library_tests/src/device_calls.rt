@@ -1,4 +1,4 @@
-//! Devices, in memory and on a disk, call by call.
+//! Tests devices, in memory and on a disk, call by call.
 ghost use Rattle.ports.specs.Endings.{HasRoom};
 ghost use Rattle.ports.specs.memory.MemTree.{mem_tree_seen};
 ghost use Rattle.std.specs.Prelude.{◌≡◌, IfOk};
@@ -13,7 +13,7 @@ use std::alloc::{AllocError, Global};
 use std::test::Fail;
 use std::{env, fs, process};
 
-// The files `a`, with `hello`, and `b/c`, without bytes. Of two pairs of one path the first holds.
+// The files `a`, with `hello`, and `b/c`, without bytes. If two pairs have the same path, the first holds.
 fn small_tree(alloc: Global) -> Result<MemTree, AllocError>
     ensures { IfOk result (λ tree. (mem_tree_seen tree).failures ≡ 0) }
 {
@@ -101,7 +101,7 @@ fn outputs_in_memory_keep_each_event(rt: HostRuntime) -> Result<(), Fail> {
     Ok(())
 }
 
-// What doesn't fit is a device fault.
+// An event that doesn't fit is a device fault.
 #[test]
 fn outputs_in_memory_have_room_for_so_many_events(rt: HostRuntime) -> Result<(), Fail> {
     for room in 3..15 {

@@ -16,7 +16,7 @@ use std::test::Fail;
 // More events than any of these runs has.
 const ROOM: usize = 4_096;
 
-/// A run that has ended: its status, its outputs, and how many calls of devices failed.
+/// Holds a run that has ended: its status, its outputs, and how many calls of devices failed.
 #[derive(Drop)]
 pub struct Ran {
     pub status: Status,
@@ -35,7 +35,7 @@ impl Ran {
         self.out.event_count() < whole.out.event_count()
     }
 
-    /// Whether this run is another one, to the end.
+    /// Returns whether this run equals another one, to the end.
     pub fn is_same(&self, whole: &Ran) -> bool {
         let counts = (self.out.event_count(), self.failures);
         counts == (whole.out.event_count(), 0)
@@ -43,7 +43,7 @@ impl Ran {
             && self.is_front(whole)
     }
 
-    /// Whether this run has ended early with this status, after the first events of another one, and how often a device failed.
+    /// Returns whether this run ended early with this status and this number of failed calls, and its events begin those of another run.
     pub fn is_cut(&self, whole: &Ran, status: Status, failures: u64) -> bool {
         self.status == status
             && self.failures == failures
@@ -52,7 +52,7 @@ impl Ran {
     }
 }
 
-/// How the devices of a run behave: how many bytes a call takes or gives at most, and which call fails once.
+/// Says how the devices of a run behave: how many bytes a call takes or gives at most, and which call fails once.
 #[derive(Clone, Copy)]
 pub struct Plan {
     pub piece: usize,
@@ -61,7 +61,7 @@ pub struct Plan {
     pub ghost some: { 0 < piece },
 }
 
-/// The plan of devices that don't fail and take all bytes at once.
+/// Holds the plan of devices that don't fail and take all bytes at once.
 pub const WHOLE: Plan = Plan {
     piece: usize::MAX,
     tree: None,
@@ -96,8 +96,8 @@ impl Device {
 }
 
 impl Row {
-    // The files, as a tree.
-    fn tree(&self, alloc: Global) -> Result<MemTree, AllocError>
+    /// Returns the files, as a tree.
+    pub fn tree(&self, alloc: Global) -> Result<MemTree, AllocError>
         ensures { IfOk result (λ tree. (mem_tree_seen tree).failures ≡ 0) }
     {
         let mut files = Vec::new(alloc);
@@ -279,6 +279,26 @@ fn each_call_of_the_tree_fails_once(rt: HostRuntime) -> Result<(), Fail> {
             assert!(rt; calls.is_some(), "{} in pieces of {piece}", row.name);
         }
     }
+    Ok(())
+}
+
+// Counts 777 bytes of `build.ninja`, 1236 bytes of the document, and the begin and end of both; and one call for each byte of a fault line.
+#[test]
+fn each_event_is_counted(rt: HostRuntime) -> Result<(), Fail> {
+    for (row, events) in [(PROGRAM, 2017), (EMPTY, 39)] {
+        let whole = row.run(rt.alloc(), WHOLE)?;
+        assert_eq!(rt; whole.out.event_count(), events, "{}", row.name);
+    }
+    Ok(())
+}
+
+// Counts one `read_at` for each byte of the definition file, and one `size` for it and for each of the three other paths that the run looks
+// at.
+#[test]
+fn each_call_of_the_tree_is_counted(rt: HostRuntime) -> Result<(), Fail> {
+    let whole = PROGRAM.run(rt.alloc(), WHOLE)?;
+    let calls = PROGRAM.calls(rt.alloc(), Device::Tree, 1, &whole)?;
+    assert_eq!(rt; calls, Some(49));
     Ok(())
 }
 

@@ -1,9 +1,9 @@
-//! From the text of a definition file to its code.
+//! Tests the way from the text of a definition file to its code.
 use meson::code::node::{Node, OperandNode};
 use meson::code::{Code, Names, flatten};
 use meson::syntax::fault::{FaultKind, SyntaxError};
 use meson::syntax::lexer::text_of;
-use meson::syntax::token::{Kind, Token};
+use meson::syntax::token::{Token, TokenKind};
 use meson::syntax::tree::{Expression, File, Operator, Statement};
 use meson::syntax::{parse, tokens};
 use std::alloc::{AllocError, Global};
@@ -170,6 +170,6 @@ fn a_file_is_made_flat(rt: HostRuntime) -> Result<(), Fail> {
 fn a_keyword_is_no_name(rt: HostRuntime) -> Result<(), Fail> {
     let found = tokens(rt.alloc(), "endif endifs").ok().ok_or("tokens")?;
     assert_eq!(rt; found.len(), 2);
-    assert!(rt; found[0].is(Kind::EndIf) && found[1].is(Kind::Name));
+    assert!(rt; found[0].is(TokenKind::EndIf) && found[1].is(TokenKind::Name));
     Ok(())
 }

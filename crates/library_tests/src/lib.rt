@@ -1,9 +1,13 @@
-//! Tests of the library: every call that `docs/LIBRARY.md` lists, by its path below `meson`, and runs over devices that fail. The expected
+//! Tests the library: every call that `docs/LIBRARY.md` lists, by its path below `meson`, and runs over devices that fail. The expected
 //! values come from the Meson manual and from the definitions of `docs/PROVED.md`, never from what the program prints.
 #![tactic(auto)]
 
 #[cfg(test)]
+mod build_calls;
+#[cfg(test)]
 mod device_calls;
+#[cfg(test)]
+mod evaluation;
 #[cfg(test)]
 mod failing_runs;
 #[cfg(test)]
@@ -14,8 +18,6 @@ mod named_calls;
 mod ninja_calls;
 #[cfg(test)]
 mod option_calls;
-#[cfg(test)]
-mod project_calls;
 #[cfg(test)]
 mod refused_growths;
 #[cfg(test)]

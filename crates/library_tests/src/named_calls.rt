@@ -1,4 +1,4 @@
-//! Functions and methods that are looked up and called by their names.
+//! Tests functions and methods that are looked up and called by their names.
 use crate::shown::shown;
 use meson::Settings;
 use meson::arguments::no_arguments;

@@ -1,8 +1,8 @@
-//! The text of `build.ninja`, call by call.
-use crate::project_calls::{empty_project, executable};
+//! Tests the writing of `build.ninja`, call by call.
+use crate::build_calls::{empty_project, executable};
 use crate::rows::{HEAD, PROG};
 use crate::shown::shown;
-use meson::build::edge::{Edge, OwnParts, Rule, SharedParts};
+use meson::build::edge::{Edge, EdgeRule, OwnParts, SharedParts};
 use meson::build::project::{Project, edges};
 use meson::ninja::{
     can_hold_path, can_hold_value, write_edge, write_head, write_joined, write_path, write_tail,
@@ -149,7 +149,7 @@ const BLOCK: &str = "build q.p/a$ b$:c$$.c.o: c_compile ../a$ b$:c$$.c || o
 // An edge whose paths have a blank, a colon and a dollar.
 fn odd_edge(alloc: Global) -> Result<Edge, AllocError> {
     Ok(Edge {
-        rule: Rule::CCompile,
+        rule: EdgeRule::CCompile,
         outputs: strings(alloc, &["q.p/a b:c$.c.o"])?,
         inputs: strings(alloc, &["../a b:c$.c"])?,
         implicit: Vec::new(alloc),
@@ -174,7 +174,7 @@ fn an_edge_that_shares_its_first_words_is_written(rt: HostRuntime) -> Result<(),
     let first = strings(rt.alloc(), &["cc", "it's"])?;
     let order_only = strings(rt.alloc(), &["o"])?;
     let shared = SharedParts {
-        rule: Rule::CCompile,
+        rule: EdgeRule::CCompile,
         order_only: &order_only,
         words: &first,
     };

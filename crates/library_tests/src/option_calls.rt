@@ -1,6 +1,6 @@
-//! Option files, machine files, and the values that options have in the end.
+//! Tests option files, machine files, and the final values of options.
 use meson::options::{
-    Declared, Machine, MachineValue, OptionValue, Options, Place, ProjectDefault, Resolved,
+    Declared, Machine, MachineValue, OptionValue, Options, Origin, ProjectDefault, Resolved,
     declare, resolve,
 };
 use meson::support::text_lists::strings;
@@ -10,7 +10,7 @@ use std::test::Fail;
 
 const MODE: &str = "option('mode', type: 'combo', choices: ['fast', 'slow', 'safe'])\n";
 
-// What an option file declares, or the number and the line of its fault.
+// The declarations of an option file, or the number and the line of its fault.
 fn declared(alloc: Global, source: &str) -> Result<Result<Declared, (u8, usize)>, Fail> {
     let file = parse(alloc, source).ok().ok_or("a file")?;
     match declare(alloc, &file)? {
@@ -48,7 +48,7 @@ fn an_option_file_is_refused_at_its_statement(rt: HostRuntime) -> Result<(), Fai
     Ok(())
 }
 
-// What a machine file says, or the number and the line of its fault.
+// The content of a machine file, or the number and the line of its fault.
 fn read(alloc: Global, bytes: &[u8]) -> Result<Result<Machine, (u8, usize)>, Fail> {
     match Machine::read(alloc, bytes)? {
         Ok(machine) => Ok(Ok(machine)),
@@ -182,7 +182,7 @@ fn word_at_fault(alloc: Global, words: &[&str]) -> Result<Option<(usize, u8)>, F
     };
     let refusal = fault.refusal.number();
     match fault.place {
-        Place::CommandLine(number) => Ok(Some((number, refusal))),
+        Origin::CommandLine(number) => Ok(Some((number, refusal))),
         _ => Ok(None),
     }
 }

@@ -18,7 +18,7 @@ impl Row {
         is_right && whole.status == self.status
     }
 
-    // Whether two runs of the row go right, of which at most one meets a refused allocation.
+    // Returns whether two runs of the row go right, of which at most one meets a refused allocation.
     fn goes_right(&self, alloc: Global) -> bool {
         let first = self.run(alloc, WHOLE);
         let second = self.run(alloc, WHOLE);

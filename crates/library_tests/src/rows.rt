@@ -1,7 +1,7 @@
-//! Projects, each with all that a run of it writes.
+//! Holds projects, each with all that its run writes.
 use meson::Status;
 
-/// A project and how a run of it ends, in `/s`, built in `/s/build`.
+/// Holds a project in `/s`, and how its run in `/s/build` ends.
 #[derive(Clone, Copy)]
 pub struct Row {
     pub name: &'static str,
@@ -14,7 +14,7 @@ pub struct Row {
     pub events: &'static [&'static str],
 }
 
-/// The begin of `build.ninja`, with its mark.
+/// Holds the beginning of `build.ninja`, with its mark.
 pub const HEAD: &str = "⟦open build.ninja⟧ninja_required_version = 1.3
 
 rule c_compile
@@ -46,7 +46,7 @@ rule custom_dep
 
 ";
 
-/// The edges of a program `prog` of `main.c`, and the end of the file.
+/// Holds the edges of a program `prog` of `main.c`, and the end of the file.
 pub const PROG: &str = "build prog.p/main.c.o: c_compile ../main.c
  COMMAND = cc -I. -I.. -Wall -O0 -g -MD -MQ prog.p/main.c.o -MF prog.p/main.c.o.d -o prog.p/main.c.o -c ../main.c
  DESC = Compiling C object prog.p/main.c.o
@@ -101,7 +101,7 @@ const PROJECT: &str =
 
 const END: &str = "],\"tests\":[]}⟦close meson-info/introspect.json⟧";
 
-/// One program.
+/// Declares one program.
 pub const PROGRAM: Row = Row {
     name: "a program",
     files: &[
@@ -129,7 +129,7 @@ pub const PROGRAM: Row = Row {
     ],
 };
 
-/// A definition file without a statement.
+/// Has a definition file without a statement.
 pub const EMPTY: Row = Row {
     name: "an empty file",
     files: &[("meson.build", "")],
@@ -139,7 +139,7 @@ pub const EMPTY: Row = Row {
     events: &["⟦fault⟧meson.build:1: ERROR: E13 project call\n"],
 };
 
-/// A template with a name that has no value. The warning is logged between the bytes around the place of the name.
+/// Has a template with a name that has no value. The warning is logged between the bytes around the place of the name.
 pub const WARNED: Row = Row {
     name: "a warned template",
     files: &[
@@ -166,7 +166,7 @@ pub const WARNED: Row = Row {
     ],
 };
 
-/// A template that is refused in its third line. What was written before stays, the output before is closed, and this one is not.
+/// Has a template that is refused in its third line. The bytes written before stay, the earlier output is closed, and this one is not.
 pub const REFUSED: Row = Row {
     name: "a refused template",
     files: &[
@@ -224,7 +224,7 @@ build all: phony lib/libfoo.so.1.2.3 lib/libfoo.so.1 lib/libfoo.so app/run
 default all
 ";
 
-/// Two folders, with a shared library and a program that is linked with it.
+/// Has two folders, with a shared library and a program that is linked with it.
 pub const FOLDERS: Row = Row {
     name: "two folders",
     files: &[
@@ -264,7 +264,7 @@ pub const FOLDERS: Row = Row {
     ],
 };
 
-/// A custom target whose output is what its command prints.
+/// Has a custom target whose output is what its command prints.
 pub const CAPTURED: Row = Row {
     name: "a captured output",
     files: &[
@@ -294,7 +294,7 @@ pub const CAPTURED: Row = Row {
     ],
 };
 
-/// A dependency that a word of the command line disables, though the machine file has it.
+/// Has a dependency that an argument of the command line disables, though the machine file has it.
 pub const DISABLED: Row = Row {
     name: "a disabled feature",
     files: &[
@@ -321,4 +321,5 @@ pub const DISABLED: Row = Row {
     ],
 };
 
+/// Lists the projects above, in their order.
 pub const ROWS: &[Row] = &[PROGRAM, EMPTY, WARNED, REFUSED, FOLDERS, CAPTURED, DISABLED];

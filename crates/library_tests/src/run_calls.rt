@@ -1,4 +1,4 @@
-//! Whole runs, call by call: settings, `setup`, `questions`, `fault`, `perform` and the command line.
+//! Tests whole runs, call by call: settings, `setup`, `questions`, `fault`, `perform` and the command line.
 //!
 //! The laws are called too. Their contracts are proved where they are written, for all values, and a call has nothing to give them. So the
 //! tests show that a caller reaches them.
@@ -171,7 +171,7 @@ fn a_task_is_performed_as_its_own_call_does_it(rt: HostRuntime) -> Result<(), Fa
     Ok(())
 }
 
-// The words of a command line, divided by blanks.
+// The arguments of a command line, divided by blanks.
 fn words(alloc: Global, line: &str) -> Result<Vec<String>, Fail> {
     let mut words = Vec::new(alloc);
     for word in line.split(' ') {

@@ -1,4 +1,4 @@
-//! What outputs in memory took, as text that a test compares.
+//! Shows what outputs in memory took, as text that a test compares.
 use meson::ports::memory::{Event, MemOutputs};
 use std::alloc::{AllocError, Global};
 

@@ -1,4 +1,4 @@
-//! Configuration data, templates and headers.
+//! Tests configuration data, templates and headers.
 use crate::shown::shown;
 use meson::ports::Outputs;
 use meson::ports::memory::{MemOutputs, MemTree};

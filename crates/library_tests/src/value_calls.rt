@@ -1,9 +1,9 @@
-//! Values, and what operators and methods give for them.
+//! Tests values, operators and methods.
 use meson::operations::methods::{format_text, has_method, method};
 use meson::operations::operators::{Binary, Unary, binary, dictionary, index, unary};
 use meson::values::language_names::MethodName;
 use meson::values::texts::version_compare;
-use meson::values::{List, Object, Refusal, Text, Value};
+use meson::values::{List, Object, OperationRefusal, Text, Value};
 use std::alloc::Global;
 use std::test::Fail;
 
@@ -19,20 +19,20 @@ enum Given<'a> {
 }
 
 // The number of a refusal.
-fn number(refusal: Refusal) -> u8 {
+fn number(refusal: OperationRefusal) -> u8 {
     match refusal {
-        Refusal::Type => 6,
-        Refusal::Range => 7,
-        Refusal::UnknownMethod => 8,
-        Refusal::Arguments => 9,
-        Refusal::Absent => 10,
-        Refusal::Duplicate => 11,
-        Refusal::Limit => 22,
+        OperationRefusal::Type => 6,
+        OperationRefusal::Range => 7,
+        OperationRefusal::UnknownMethod => 8,
+        OperationRefusal::Arguments => 9,
+        OperationRefusal::Absent => 10,
+        OperationRefusal::Duplicate => 11,
+        OperationRefusal::Limit => 22,
     }
 }
 
 impl Given<'_> {
-    fn of(answer: &Result<Value, Refusal>) -> Given<'_> {
+    fn of(answer: &Result<Value, OperationRefusal>) -> Given<'_> {
         match answer {
             Ok(Value::Boolean(boolean)) => Given::Boolean(*boolean),
             Ok(Value::Integer(integer)) => Given::Integer(*integer),
@@ -411,7 +411,11 @@ fn a_type_has_its_methods_and_no_others(rt: HostRuntime) -> Result<(), Fail> {
 }
 
 // What a text gives with values at its places.
-fn formatted(alloc: Global, text: &str, values: &[Value]) -> Result<Result<Value, Refusal>, Fail> {
+fn formatted(
+    alloc: Global,
+    text: &str,
+    values: &[Value],
+) -> Result<Result<Value, OperationRefusal>, Fail> {
     match format_text(alloc, text, values)? {
         Ok(text) => Ok(Ok(Value::Text(text))),
         Err(refusal) => Ok(Err(refusal)),

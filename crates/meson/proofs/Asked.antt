@@ -2,8 +2,8 @@
 use Rattle.std.proofs.Common.{◌≡◌, ◌≢◌, ℕ, zero, suc, ◌+◌, ◌≤◌, List, [], Result, Ok, Err, IsErrAnd, refl, sym, ap, subst, ◌∙◌, arith}
 use Rattle.support.specs.Faults.{FaultData}
 use Rattle.world.specs.Details.{refuse_about}
-use Rattle.machine.specs.machine_file.Fault.{MachineFaultData, told}
-use Rattle.machine.specs.machine_file.Files.{Section}
+use Rattle.machine_file.specs.Fault.{MachineFaultData, fault_of_machine_file}
+use Rattle.machine_file.specs.Files.{Section}
 use Rattle.world.specs.Deed.{Files}
 use Rattle.world.specs.Gives.{Gives, failures_after}
 use Rattle.world.specs.Plan.{carry}
@@ -15,7 +15,7 @@ use Rattle.world.specs.World.{Asked, World}
 use Rattle.world.specs.declared.stop.Stop.{Stop}
 use Rattle.world.specs.declared.stop.Stop.TheVariants as stops
 use Rattle.interp.specs.FirstStatement.{Reads}
-use Rattle.interp.specs.Evaluation.{MachineSaid, definitions, evaluated, sections_of}
+use Rattle.interp.specs.Evaluation.{MachineSaid, definitions, evaluated_files, sections_of}
 use Rattle.meson.specs.Laws.{asked_by}
 use Rattle.meson.specs.Questions.{fault_of, questions_text}
 use Rattle.meson.specs.QuestionLines.{Asks, AsksOver, Ended, text_of}
@@ -36,15 +36,15 @@ fails_none (Err e) t is = subst (λ x. t ≡ failures_after {B = Asking} t (Err 
 
 -- a machine file with a fault: nothing was asked
 faulty_asked : (files : Files) (s : SettingsData) (f : MachineFaultData) → run_text files s (Err f) ≡ []
-unfolding evaluated refuse_about
+unfolding evaluated_files refuse_about
 faulty_asked files s f = refl
 
-faulty_ended : (files : Files) (s : SettingsData) (f : MachineFaultData) → outcome_of (evaluated files s (Err f)) ≡ Faulted (told f)
-unfolding evaluated refuse_about
+faulty_ended : (files : Files) (s : SettingsData) (f : MachineFaultData) → outcome_of (evaluated_files files s (Err f)) ≡ Faulted (fault_of_machine_file f)
+unfolding evaluated_files refuse_about
 faulty_ended files s f = refl
 
 unread : {A : Type 0} (view : A → List Section) (files : Files) (s : SettingsData) (said : MachineSaid) (e : Stop) → Reads view said (Err e)
-    → Asks (evaluated files s said) (run_text files s said) (Err e)
+    → Asks (evaluated_files files s said) (run_text files s said) (Err e)
 unread view files s (Ok sections) (stops.Refused f) h = absurd h
 unread view files s (Err g) (stops.Refused f) h = (faulty_asked files s g, faulty_ended files s g ∙ ap (λ (d : FaultData). Faulted d) (sym h))
 unread view files s (Ok sections) stops.Device h = absurd h
@@ -52,9 +52,9 @@ unread view files s (Err g) stops.Device h = absurd h
 unread view files s said stops.Memory h = tt
 
 pub asks_unread : {A : Type 0} (view : A → List Section) (files : Files) (s : SettingsData) (said : MachineSaid) (e : Stop) (result : Result Asking Stop)
-    → IsErrAnd result (λ r. r ≡ e) → Reads view said (Err e) → Asks (evaluated files s said) (run_text files s said) result
+    → IsErrAnd result (λ r. r ≡ e) → Reads view said (Err e) → Asks (evaluated_files files s said) (run_text files s said) result
 asks_unread view files s said e (Ok a) is h = absurd is
-asks_unread view files s said e (Err d) is h = subst (λ x. Asks (evaluated files s said) (run_text files s said) (Err x)) (sym is) (unread view files s said e h)
+asks_unread view files s said e (Err d) is h = subst (λ x. Asks (evaluated_files files s said) (run_text files s said) (Err x)) (sym is) (unread view files s said e h)
 
 -- a world that begins so was asked
 pub over_read : (files : Files) (s : SettingsData) (machine sections : List Section) (k : World) (result : Result Asking Stop) → machine ≡ sections → k ≡ first_world s sections
@@ -68,8 +68,8 @@ over_none files s sections result is = asks_none (carry files definitions (first
 
 -- what was asked over the sections that were read is what the run asks
 pub asks_read : {A : Type 0} (view : A → List Section) (files : Files) (s : SettingsData) (said : MachineSaid) (x : A) (result : Result Asking Stop) → Reads view said (Ok x)
-    → AsksOver files s (view x) result → Asks (evaluated files s said) (run_text files s said) result
-unfolding evaluated
+    → AsksOver files s (view x) result → Asks (evaluated_files files s said) (run_text files s said) result
+unfolding evaluated_files
 asks_read view files s (Ok sections) x result read h = subst (λ ss. AsksOver files s ss result) read h
 asks_read view files s (Err g) x result read h = absurd read
 

@@ -1,14 +1,14 @@
 -- How the fault of a run is told, and what it is about.
 use Rattle.std.proofs.Common.{◌≡◌, ◌≢◌, ℕ, ◌+◌, true, false, List, None, Result, Ok, Err, refl, sym, ap, subst, arith}
 use Rattle.std.proofs.lemmas.Bool.{false≢true}
-use Rattle.ports.specs.Endings.{HasRoom, ended}
+use Rattle.ports.specs.Endings.{HasRoom, ending_of_result}
 use Rattle.ports.specs.Outputs.{OutputState, Writes}
 use Rattle.ports.specs.declared.fault.DeviceFault.{DeviceFault}
 use Rattle.ports.proofs.Sending.{sends_none, sends_nothing, sends_stop, sends_then}
 use Rattle.support.specs.Faults.{FaultData}
-use Rattle.outputs.specs.build_file.Concluding.{Agrees, failed_devices, faulted_with}
-use Rattle.outputs.specs.declared.build_file.concluding.Status.{Status}
-use Rattle.outputs.specs.declared.build_file.concluding.Status.TheVariants as statuses
+use Rattle.backend.specs.Concluding.{Agrees, failed_devices, faulted_with}
+use Rattle.backend.specs.declared.run_end.Status.{Status}
+use Rattle.backend.specs.declared.run_end.Status.TheVariants as statuses
 use Rattle.world.specs.Gives.{failures_after}
 use Rattle.world.specs.Run.{Run, outcome_of}
 use Rattle.world.specs.declared.stop.Stop.{Stop}
@@ -22,17 +22,17 @@ use Rattle.meson.proofs.Runs.{unfinished}
 use Rattle.meson.proofs.Tellings.{kept_fails}
 
 -- the log took the detail
-pub logged : (f : FaultData) (old new : OutputState) (r : Result (Unit {0}) DeviceFault) (u : Unit {0}) → r ≡ Ok u → Writes old (detail_told f).steps (ended r) new
+pub logged : (f : FaultData) (old new : OutputState) (r : Result (Unit {0}) DeviceFault) (u : Unit {0}) → r ≡ Ok u → Writes old (detail_told f).steps (ending_of_result r) new
     → Concludes (detail_told f) statuses.Fault old new
 logged f old new r u is w =
-    let whole = subst (λ x. Writes old (detail_told f).steps (ended x) new) is w in
+    let whole = subst (λ x. Writes old (detail_told f).steps (ending_of_result x) new) is w in
     record { agrees = record { status = λ h. refl; events = whole.sends }; failures = omega (arith, whole.failures) }
 
 -- or it failed
-pub unlogged : (f : FaultData) (old new : OutputState) (r : Result (Unit {0}) DeviceFault) (e : DeviceFault) → r ≡ Err e → Writes old (detail_told f).steps (ended r) new
+pub unlogged : (f : FaultData) (old new : OutputState) (r : Result (Unit {0}) DeviceFault) (e : DeviceFault) → r ≡ Err e → Writes old (detail_told f).steps (ending_of_result r) new
     → Concludes (detail_told f) statuses.Device old new
 unlogged f old new r e is w =
-    let failed = subst (λ x. Writes old (detail_told f).steps (ended x) new) is w in
+    let failed = subst (λ x. Writes old (detail_told f).steps (ending_of_result x) new) is w in
     record { agrees = record { status = λ h. absurd (false≢true h); events = failed.sends }; failures = failed.failures }
 
 -- the line of a fault was told, and behind it the detail

@@ -9,12 +9,12 @@ use Rattle.ninja.specs.Reading.{BuildEdge}
 use Rattle.build.specs.project.Laws.{all_held}
 use Rattle.build.specs.project.World.{known_in}
 use Rattle.build.proofs.EdgeOrder.{both, holds_append, holds_left, holds_right, list_all-weaker, or_cases, split_and}
-use Rattle.outputs.specs.build_file.FileEdges.{are_made, made_by, needed_by}
-use Rattle.outputs.specs.build_file.Means.{edges_read}
+use Rattle.backend.specs.FileEdges.{are_made, made_by, needed_by}
+use Rattle.backend.specs.Means.{edges_read}
 use Rattle.world.specs.Made.{ClosesOutputs, closed_by}
 use Rattle.world.specs.Run.{Run, ran, Done, Faulted, marks_of, outcome_of, world_after}
 use Rattle.world.specs.Trace.{steps_of}
-use Rattle.interp.specs.Evaluation.{evaluated}
+use Rattle.interp.specs.Evaluation.{evaluated_files}
 use Rattle.interp.specs.Laws.{ClosesWhatItMakes}
 use Rattle.meson.specs.Laws.{ListsWhatItLooksAt, NeedsAreThere, closed_in, files_seen}
 use Rattle.meson.specs.Setup.{project_of}
@@ -47,7 +47,7 @@ there lists closes f s said is means before =
     let w = project_of f s said in
     let closed = closed_in f s said before in
     let seen : map (source_path w.surroundings.facts.depth) w.present ≡ files_seen f s said = ap (map (source_path w.surroundings.facts.depth)) (lists.present f s said) in
-    let held = outputs_closed (evaluated f s said) before is (closes f s said) in
+    let held = outputs_closed (evaluated_files f s said) before is (closes f s said) in
     made_grown (known_in w) (files_seen f s said ++ closed)
     (λ p h. cases p (map (source_path w.surroundings.facts.depth) w.present) w.outputs h (λ e. holds_left p (files_seen f s said) closed (ap (holds p) (sym seen) ∙ e))
     (λ e. holds_right p (files_seen f s said) closed (held_one closed w.outputs held p e)))

@@ -6,10 +6,10 @@ use Rattle.ports.specs.Outputs.{OutputState, Step, Sends, faults}
 use Rattle.ports.proofs.Sending.{sends_part, sends_stop, sends_then}
 use Rattle.support.specs.Faults.{FaultData, fault_line}
 use Rattle.support.specs.View.{fault_view}
-use Rattle.outputs.specs.build_file.Means.{Means}
-use Rattle.outputs.specs.build_file.Concluding.{Agrees, Whole, failed_devices, faulted_with, is_finished, outputs_steps, told_before}
-use Rattle.outputs.specs.declared.build_file.concluding.Status.{Status}
-use Rattle.outputs.specs.declared.build_file.concluding.Status.TheVariants as statuses
+use Rattle.backend.specs.Means.{Means}
+use Rattle.backend.specs.Concluding.{Agrees, Whole, failed_devices, faulted_with, is_finished, outputs_steps, told_before}
+use Rattle.backend.specs.declared.run_end.Status.{Status}
+use Rattle.backend.specs.declared.run_end.Status.TheVariants as statuses
 use Rattle.world.specs.Gives.{failures_after}
 use Rattle.world.specs.Look.{ran_over}
 use Rattle.world.specs.Run.{Outcome, Run, ran, Done, Faulted, marks_of, outcome_of, world_after}

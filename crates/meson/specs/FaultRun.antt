@@ -3,15 +3,15 @@ use Rattle.std.specs.Prelude.{◌++◌, [], codes, option_map, Option, Some, Non
 use Rattle.ports.specs.Outputs.{OutputState, faults, logs}
 use Rattle.support.specs.Faults.{FaultData, fault_line}
 use Rattle.support.specs.View.{fault_view}
-use Rattle.outputs.specs.build_file.Concluding.{Whole, told_before}
-use Rattle.outputs.specs.declared.build_file.concluding.Status.{Status}
-use Rattle.outputs.specs.declared.build_file.concluding.Status.TheVariants as statuses
+use Rattle.backend.specs.Concluding.{Whole, told_before}
+use Rattle.backend.specs.declared.run_end.Status.{Status}
+use Rattle.backend.specs.declared.run_end.Status.TheVariants as statuses
 use Rattle.world.specs.Deed.{Files}
 use Rattle.world.specs.Run.{outcome_of}
 use Rattle.world.specs.Settings.{SettingsData}
 use Rattle.world.specs.declared.stop.Stop.{Stop}
 use Rattle.world.specs.declared.stop.Stop.TheVariants as stops
-use Rattle.interp.specs.Evaluation.{MachineSaid, evaluated}
+use Rattle.interp.specs.Evaluation.{MachineSaid, evaluated_files}
 use Rattle.meson.specs.Questions.{fault_of}
 use Rattle.meson.specs.Setup.{Concludes, Keeps}
 use Rattle.meson.specs.declared.question_run.Asking.{Asking}
@@ -24,6 +24,7 @@ detail_told f = record { steps = logs f.detail ++ logs (codes "\n"); status = st
 abbrev pub told_whole : FaultData → Whole
 told_whole f = told_before (faults (fault_line f)) (detail_told f)
 
+-- Returns the run that prints the fault, or one that writes nothing and ends with the status `Done` if there is no fault.
 abbrev pub ending_told : Option FaultData → Whole
 ending_told None = record { steps = []; status = statuses.Done }
 ending_told (Some f) = told_whole f
@@ -31,7 +32,7 @@ ending_told (Some f) = told_whole f
 -- Returns what `meson fault` prints for these files, settings and reading of a machine file: the fault's line, and its details in the log.
 -- Nothing else is written.
 abbrev pub fault_told : Files → SettingsData → MachineSaid → Whole
-fault_told files s said = ending_told (fault_of (outcome_of (evaluated files s said)))
+fault_told files s said = ending_told (fault_of (outcome_of (evaluated_files files s said)))
 
 -- ---- the same for the values of the code
 

@@ -3,8 +3,8 @@ use Rattle.std.specs.Prelude.{◌≡◌, ℕ, true, List, ◌++◌, Option, filt
 use Rattle.std.specs.List.{list_all}
 use Rattle.build.specs.edge.Paths.{source_path}
 use Rattle.build.specs.edge.Texts.{Path, first_kept}
-use Rattle.outputs.specs.build_file.FileEdges.{are_made}
-use Rattle.outputs.specs.build_file.Means.{Means, edges_read}
+use Rattle.backend.specs.FileEdges.{are_made}
+use Rattle.backend.specs.Means.{Means, edges_read}
 use Rattle.world.specs.Deed.{Files}
 use Rattle.world.specs.Look.{Agree}
 use Rattle.world.specs.Made.{closed_by}
@@ -13,17 +13,17 @@ use Rattle.world.specs.Run.{Done, marks_of, outcome_of, world_after}
 use Rattle.world.specs.Settings.{SettingsData}
 use Rattle.world.specs.Trace.{steps_of}
 use Rattle.world.specs.World.{Asked}
-use Rattle.interp.specs.Evaluation.{MachineSaid, evaluated}
+use Rattle.interp.specs.Evaluation.{MachineSaid, evaluated_files}
 use Rattle.interp.specs.Laws.{SayAlike}
 use Rattle.meson.specs.Setup.{project_of, run_of}
 
 -- Returns the paths that the run of these files, settings and reading of a machine file looks at.
 abbrev pub looked_at : Files → SettingsData → MachineSaid → List (List ℕ)
-looked_at files s said = (world_after (evaluated files s said)).looked
+looked_at files s said = (world_after (evaluated_files files s said)).looked
 
 -- Returns the questions that the run asks of the machine file.
 abbrev pub asked_by : Files → SettingsData → MachineSaid → List Asked
-asked_by files s said = (world_after (evaluated files s said)).asked
+asked_by files s said = (world_after (evaluated_files files s said)).asked
 
 -- The document lists the paths that were looked at as read, each once, in the order of the first look. Paths with a file of the tree are
 -- present, the others absent. So each file of the tree that an edge needs is listed.
@@ -41,9 +41,9 @@ files_seen f s said =
 
 -- Returns the outputs that the evaluation of these files closes, if `before` is open at its start.
 abbrev pub closed_in : Files → SettingsData → MachineSaid → Option Path → List Path
-closed_in f s said before = closed_by before (steps_of (marks_of (evaluated f s said)))
+closed_in f s said before = closed_by before (steps_of (marks_of (evaluated_files f s said)))
 
--- Each path that an edge of `build.ninja` needs is one of these:
+-- Holds if each path that an edge of `build.ninja` needs is one of these:
 -- - an output of an earlier edge;
 -- - a file of the tree that the run looked at, as seen from the build directory;
 -- - an output that was closed before `build.ninja` is begun. Its `Close` is an event by then, whichever output was open before the run.
@@ -51,10 +51,10 @@ abbrev pub AreThere : Files → SettingsData → MachineSaid → Type 0
 AreThere f s said = (before : Option Path)
     → are_made (files_seen f s said ++ closed_in f s said before) (edges_read (project_of f s said)) ≡ true
 
--- It is so for each successful run whose project means what `Means` says.
+-- Holds if `AreThere` holds of each successful run whose project has the meaning that `Means` defines.
 abbrev pub NeedsAreThere : Type 0
 NeedsAreThere = (f : Files) (s : SettingsData) (said : MachineSaid)
-    → outcome_of (evaluated f s said) ≡ Done tt → Means (project_of f s said) → AreThere f s said
+    → outcome_of (evaluated_files f s said) ≡ Done tt → Means (project_of f s said) → AreThere f s said
 
 -- Take two trees that agree on the paths that the run of the first looks at: the same bytes, or no file in both. Take two machine files
 -- that agree on the questions that it asks: the same answers, or the same fault. Then both runs are equal, in the steps that the outputs

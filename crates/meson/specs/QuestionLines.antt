@@ -2,8 +2,8 @@
 use Rattle.std.specs.Prelude.{◌≡◌, ◌≢◌, ℕ, List, [], ◌++◌, Some, None, option_map, string_bytes, Result, Ok, Err}
 use Rattle.support.specs.View.{fault_view}
 use Rattle.ports.specs.Outputs.{OutputState}
-use Rattle.outputs.specs.declared.build_file.concluding.Status.{Status}
-use Rattle.machine.specs.machine_file.Files.{Section}
+use Rattle.backend.specs.declared.run_end.Status.{Status}
+use Rattle.machine_file.specs.Files.{Section}
 use Rattle.world.specs.Deed.{Files}
 use Rattle.world.specs.Plan.{carry}
 use Rattle.world.specs.Run.{Run, Faulted, outcome_of, world_after}
@@ -17,7 +17,7 @@ use Rattle.meson.specs.Setup.{Concludes, Stops}
 use Rattle.meson.specs.declared.question_run.Asking.{Asking}
 use Rattle.meson.specs.declared.question_lines.Telling.{Telling}
 
--- These lines were added: whatever is added later, the whole text is the one that the definition gives.
+-- Holds if these lines were added. Whatever is added later, the whole text is then the one that the definition gives.
 abbrev pub Tells : Telling → List (List ℕ × List ℕ) → Telling → Type 0
 Tells old lines new = (rest : List (List ℕ × List ℕ))
     → string_bytes new.text ++ first_told new.labels rest ≡ string_bytes old.text ++ first_told old.labels (lines ++ rest)

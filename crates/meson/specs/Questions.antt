@@ -4,25 +4,25 @@ use Rattle.std.specs.List.{flat_map, list_any}
 use Rattle.std.specs.Str.{bytes_eq}
 use Rattle.ports.specs.Outputs.{logs}
 use Rattle.support.specs.Faults.{FaultData}
-use Rattle.machine.specs.machine_file.Files.{Section}
-use Rattle.machine.specs.machine_file.Questions.{answer_to}
-use Rattle.outputs.specs.build_file.Concluding.{Whole, faulted_with, told_before}
-use Rattle.outputs.specs.declared.build_file.concluding.Status.TheVariants as statuses
+use Rattle.machine_file.specs.Files.{Section}
+use Rattle.machine_file.specs.Questions.{answer_to}
+use Rattle.backend.specs.Concluding.{Whole, faulted_with, told_before}
+use Rattle.backend.specs.declared.run_end.Status.TheVariants as statuses
 use Rattle.introspection.specs.Questions.{Line, label_text, line_text, lines_of}
 use Rattle.world.specs.Deed.{Files}
 use Rattle.world.specs.Run.{Outcome, Done, Faulted, outcome_of}
 use Rattle.world.specs.Settings.{SettingsData}
 use Rattle.world.specs.World.{Asked}
-use Rattle.interp.specs.Evaluation.{MachineSaid, evaluated, sections_of}
+use Rattle.interp.specs.Evaluation.{MachineSaid, evaluated_files, sections_of}
 use Rattle.meson.specs.Laws.{asked_by}
 
 -- Returns a line of a question twice: without its place, and whole, with the place of the call that asked.
-abbrev pub shown : Asked → Line → List ℕ × List ℕ
-shown a l = (label_text l, line_text l a.file a.line)
+abbrev pub line_texts : Asked → Line → List ℕ × List ℕ
+line_texts a l = (label_text l, line_text l a.file a.line)
 
 -- Returns the lines of a question that was asked, with the answer of these sections.
 abbrev pub lines_asked : List Section → Asked → List (List ℕ × List ℕ)
-lines_asked sections a = map (shown a) (lines_of a.question (answer_to sections a.question.topic))
+lines_asked sections a = map (line_texts a) (lines_of a.question (answer_to sections a.question.topic))
 
 -- Keeps the first of the lines that differ only in their places, each with a newline. `told` holds the labels that occurred before.
 abbrev pub first_told : List (List ℕ) → List (List ℕ × List ℕ) → List ℕ
@@ -52,4 +52,4 @@ lines_then text fault = told_before (logs text) (ending_with fault)
 -- then the line of the run's fault. Nothing else is written.
 abbrev pub questions_of : Files → SettingsData → MachineSaid → Whole
 questions_of files s said =
-    lines_then (questions_text (sections_of said) (asked_by files s said)) (fault_of (outcome_of (evaluated files s said)))
+    lines_then (questions_text (sections_of said) (asked_by files s said)) (fault_of (outcome_of (evaluated_files files s said)))

@@ -3,9 +3,9 @@ use Rattle.std.specs.Prelude.{◌≡◌, ◌≤◌, ℕ, ◌+◌, Result, Ok, Er
 use Rattle.ports.specs.Outputs.{OutputState}
 use Rattle.support.specs.View.{fault_view}
 use Rattle.build.specs.project.World.{WorldData}
-use Rattle.outputs.specs.build_file.Concluding.{Agrees, Whole, done_with, failed_devices, faulted_with, told_before}
-use Rattle.outputs.specs.declared.build_file.concluding.Status.{Status}
-use Rattle.outputs.specs.declared.build_file.concluding.Status.TheVariants as statuses
+use Rattle.backend.specs.Concluding.{Agrees, Whole, done_with, failed_devices, faulted_with, told_before}
+use Rattle.backend.specs.declared.run_end.Status.{Status}
+use Rattle.backend.specs.declared.run_end.Status.TheVariants as statuses
 use Rattle.world.specs.Deed.{Files}
 use Rattle.world.specs.Run.{Run, ran, Done, Faulted, world_after}
 use Rattle.world.specs.Settings.{SettingsData}
@@ -13,7 +13,7 @@ use Rattle.world.specs.Store.{Kept}
 use Rattle.world.specs.Trace.{steps_of}
 use Rattle.world.specs.declared.stop.Stop.{Stop}
 use Rattle.world.specs.declared.stop.Stop.TheVariants as stops
-use Rattle.interp.specs.Evaluation.{MachineSaid, evaluated}
+use Rattle.interp.specs.Evaluation.{MachineSaid, evaluated_files}
 
 -- Returns what the evaluation wrote, followed by all outputs of the project on success, or else by the line of its fault.
 abbrev pub whole_of : Run (Unit {0}) → Whole
@@ -22,11 +22,11 @@ whole_of (ran (Faulted f) w ms) = told_before (steps_of ms) (faulted_with f)
 
 -- Returns the run of these files, settings and reading of a machine file.
 abbrev pub run_of : Files → SettingsData → MachineSaid → Whole
-run_of files s said = whole_of (evaluated files s said)
+run_of files s said = whole_of (evaluated_files files s said)
 
 -- Returns the project that the definitions of these files describe.
 abbrev pub project_of : Files → SettingsData → MachineSaid → WorldData
-project_of files s said = (world_after (evaluated files s said)).facts.project
+project_of files s said = (world_after (evaluated_files files s said)).facts.project
 
 -- Holds if all outputs of the run are written and `p` holds. Other statuses promise nothing.
 abbrev pub OnDone : Status → Type 0 → Type 0

@@ -1,7 +1,7 @@
 -- Defines the result of each task.
-use Rattle.outputs.specs.build_file.Concluding.{Whole}
-use Rattle.command.specs.declared.line.Task.{Task}
-use Rattle.command.specs.declared.line.Task.TheVariants.{Setup, Questions, Fault}
+use Rattle.backend.specs.Concluding.{Whole}
+use Rattle.command_line.specs.declared.line.Task.{Task}
+use Rattle.command_line.specs.declared.line.Task.TheVariants.{Setup, Questions, Fault}
 use Rattle.world.specs.Deed.{Files}
 use Rattle.world.specs.Settings.{SettingsData}
 use Rattle.interp.specs.Evaluation.{MachineSaid}

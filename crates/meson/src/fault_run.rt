@@ -1,16 +1,16 @@
 //! Answers `meson fault`: runs the evaluation and prints the fault in which it ends and the details of that fault.
 ghost use Rattle.std.specs.Prelude.{◌++◌, ◌<◌, codes, option_map};
-ghost use Rattle.ports.specs.Endings.{HasRoom, ended};
+ghost use Rattle.ports.specs.Endings.{HasRoom, ending_of_result};
 ghost use Rattle.ports.specs.Outputs.{Writes, logs};
 ghost use Rattle.support.specs.View.{fault_view};
-ghost use Rattle.outputs.specs.build_file.Concluding.{Agrees};
+ghost use Rattle.backend.specs.Concluding.{Agrees};
 ghost use Rattle.interp.specs.Evaluation.{IsSaid, MachineSaid};
 ghost use Rattle.world.specs.Prelude.{Files, Holds, settings_view};
 ghost use Rattle.meson.specs.FaultRun.{TellsFault, TellsStop, detail_told, ending_told, fault_told, told_whole};
 ghost use Rattle.meson.specs.Setup.{Concludes, FailsOnce};
 
 use crate::question_run::{Asking, ask_run};
-use outputs::build_file::{Status, refuse};
+use backend::{Status, refuse};
 use ports::{DeviceFault, Outputs, Tree, log_all};
 use std::alloc::Global;
 use support::faults::Fault;
@@ -19,7 +19,7 @@ use world::{Settings, Stop};
 #[tactic(auto, using(ports::proofs::Sending::sending))]
 fn log_line<O: Outputs>(text: &str, out: &mut O) -> Result<(), DeviceFault>
     requires { HasRoom (O.seen out.old).failures }
-    ensures { Writes (O.seen out.old) (logs text.now ++ logs (codes "\n")) (ended result) (O.seen out.new) }
+    ensures { Writes (O.seen out.old) (logs text.now ++ logs (codes "\n")) (ending_of_result result) (O.seen out.new) }
 {
     log_all(out, text.as_bytes())?;
     log_all(out, b"\n")

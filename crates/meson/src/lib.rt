@@ -4,17 +4,11 @@
 //! asks the machine file. [`fault`] prints the fault in which that run ends. [`depends_on_looked`], [`lists_what_it_looks_at`],
 //! [`needs_are_there`] and [`machine_files_say`] are laws of every run: calls that do nothing, whose contracts hold.
 //!
-//! This crate re-exports the crates of all layers. A user who depends on `meson` alone can also call a parser, the order of versions, a
-//! template pass or a Ninja writer, for example `meson::syntax::parse`.
+//! This crate re-exports the crates of all layers, and the items of `command_line`. A user who depends on `meson` alone can also call a
+//! parser, the order of versions, a template pass or a Ninja writer, for example `meson::syntax::parse`.
 #![tactic(auto)]
 
-#[cfg(test)]
-mod device_failures;
-#[cfg(test)]
-mod expected;
 mod fault_run;
-#[cfg(test)]
-mod given;
 mod law;
 mod question_lines;
 mod question_run;
@@ -22,29 +16,32 @@ mod setup_run;
 mod task;
 
 pub use arguments;
+pub use backend;
+pub use backend::Status;
 pub use build;
-pub use calls;
 pub use code;
-pub use command;
-pub use command::{Line, LineFault, Task, command_line};
+pub use command_line::{Line, LineFault, Task, command_line};
+pub use configuration_calls;
 pub use expressions;
 pub use fault_run::fault;
 pub use interp;
 pub use interp::Inputs;
 pub use introspection;
+pub use language_calls;
 pub use law::{depends_on_looked, lists_what_it_looks_at, machine_files_say, needs_are_there};
-pub use machine;
-pub use named_sources;
+pub use machine_file;
+pub use methods;
 pub use ninja;
-pub use objects;
 pub use operations;
+pub use option_values;
 pub use options;
-pub use outputs;
-pub use outputs::build_file::Status;
 pub use ports;
+pub use project_calls;
 pub use question_run::questions;
 pub use resource_calls;
+pub use resources;
 pub use setup_run::setup;
+pub use sources;
 pub use support;
 pub use syntax;
 pub use target_calls;

@@ -1,14 +1,14 @@
 //! Collects the lines of the questions of a run, each once.
 ghost use Rattle.std.specs.Prelude.{◌≡◌, ◌∷◌, [], IfOk, OnOk, string_bytes};
 ghost use Rattle.introspection.specs.QuestionsView.{line_in};
-ghost use Rattle.machine.specs.machine_file.View.{machine_in};
+ghost use Rattle.machine_file.specs.View.{machine_in};
 ghost use Rattle.world.specs.AskedView.{all_asked_in, asked_in};
-ghost use Rattle.meson.specs.Questions.{lines_asked, questions_text, shown};
+ghost use Rattle.meson.specs.Questions.{lines_asked, questions_text, line_texts};
 ghost use Rattle.meson.specs.QuestionLines.{Tells};
 
 use code::Names;
 use introspection::{QuestionLine, question_lines};
-use machine::machine_file::Machine;
+use machine_file::Machine;
 use std::alloc::{AllocError, Global};
 use world::Asked;
 
@@ -37,7 +37,7 @@ impl Telling {
         line: &QuestionLine<'_>,
         asked: &Asked,
     ) -> Result<(), AllocError>
-        ensures { OnOk result (Tells self.old (shown (asked_in asked.now) (line_in line.now) ∷ []) self.new) }
+        ensures { OnOk result (Tells self.old (line_texts (asked_in asked.now) (line_in line.now) ∷ []) self.new) }
     {
         let label = line.label(alloc)?;
         let count = self.labels.len();

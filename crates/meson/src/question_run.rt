@@ -3,9 +3,9 @@ ghost use Rattle.std.specs.Prelude.{◌≡◌, ◌<◌, [], IfOk, option_map, st
 ghost use Rattle.std.specs.Rc.{rc_value};
 ghost use Rattle.ports.specs.Endings.{HasRoom};
 ghost use Rattle.support.specs.View.{fault_view};
-ghost use Rattle.outputs.specs.build_file.Concluding.{Agrees};
-ghost use Rattle.interp.specs.Evaluation.{IsSaid, MachineSaid, definitions, evaluated, sections_of};
-ghost use Rattle.machine.specs.machine_file.View.{machine_in};
+ghost use Rattle.backend.specs.Concluding.{Agrees};
+ghost use Rattle.interp.specs.Evaluation.{IsSaid, MachineSaid, definitions, evaluated_files, sections_of};
+ghost use Rattle.machine_file.specs.View.{machine_in};
 ghost use Rattle.world.specs.AskedView.{all_asked_in};
 ghost use Rattle.world.specs.Prelude.{Files, Holds, failures_after, settings_view, world_of};
 ghost use Rattle.world.specs.Plan.{carry};
@@ -16,9 +16,9 @@ ghost use Rattle.meson.specs.QuestionLines.{Asks, AsksOver, Ended, Told, text_of
 
 use crate::question_lines::questions_text;
 use crate::setup_run::tell_fault;
+use backend::{Status, refuse};
 use interp::{Inputs, definitions, read_machine};
-use machine::machine_file::Machine;
-use outputs::build_file::{Status, refuse};
+use machine_file::Machine;
 use ports::{NoOutputs, Outputs, Tree, log_all};
 use std::alloc::{AllocError, Global};
 use std::marker::Brand;
@@ -141,7 +141,7 @@ fn ask<T: Tree, L: Ledger>(
 ) -> Result<Asking, Stop>
     requires { HasRoom (T.seen tree.old).failures }
     ensures asks { (files : Files) (said : MachineSaid) → Holds (T.seen tree.old) files → IsSaid inputs.now.machine.now said
-        → Asks (evaluated files (settings_view inputs.now.settings.now) said)
+        → Asks (evaluated_files files (settings_view inputs.now.settings.now) said)
         (questions_text (sections_of said) (asked_by files (settings_view inputs.now.settings.now) said)) result }
     ensures device { (T.seen tree.new).failures ≡ failures_after (T.seen tree.old).failures result }
 {
@@ -161,7 +161,7 @@ fn ask_with<T: Tree, L: Ledger>(
     requires parts { blank.parts ≡ L.parts }
     requires some { 0 < blank.parts }
     ensures asks { (files : Files) (said : MachineSaid) → Holds (T.seen tree.old) files → IsSaid inputs.now.machine.now said
-        → Asks (evaluated files (settings_view inputs.now.settings.now) said)
+        → Asks (evaluated_files files (settings_view inputs.now.settings.now) said)
         (questions_text (sections_of said) (asked_by files (settings_view inputs.now.settings.now) said)) result }
     ensures device { (T.seen tree.new).failures ≡ failures_after (T.seen tree.old).failures result }
 {
@@ -178,7 +178,7 @@ pub(crate) fn ask_run<T: Tree>(
 ) -> Result<Asking, Stop>
     requires { HasRoom (T.seen tree.old).failures }
     ensures asks { (files : Files) (said : MachineSaid) → Holds (T.seen tree.old) files → IsSaid machine.now said
-        → Asks (evaluated files (settings_view settings.now) said)
+        → Asks (evaluated_files files (settings_view settings.now) said)
         (questions_text (sections_of said) (asked_by files (settings_view settings.now) said)) result }
     ensures device { (T.seen tree.new).failures ≡ failures_after (T.seen tree.old).failures result }
 {

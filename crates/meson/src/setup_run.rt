@@ -1,16 +1,16 @@
 //! Runs `setup`: from the bytes of a tree to the events of the outputs.
 ghost use Rattle.std.specs.Prelude.{◌≡◌, ◌<◌};
 ghost use Rattle.ports.specs.Endings.{HasRoom};
-ghost use Rattle.outputs.specs.build_file.Means.{Means};
-ghost use Rattle.outputs.specs.build_file.Concluding.{Agrees};
+ghost use Rattle.backend.specs.Means.{Means};
+ghost use Rattle.backend.specs.Concluding.{Agrees};
 ghost use Rattle.interp.specs.Evaluation.{IsSaid, MachineSaid};
 ghost use Rattle.world.specs.Prelude.{Files, Holds, settings_view};
 ghost use Rattle.meson.specs.Laws.{AreThere};
 ghost use Rattle.meson.specs.Setup.{FailsOnce, OnDone, OnEnd, OnFault, OnProject, Settles, Stops, project_of, run_of};
 
 use crate::law::needs_are_there;
+use backend::{Status, conclude, refuse};
 use interp::{Inputs, evaluate};
-use outputs::build_file::{Status, conclude, refuse};
 use ports::{Outputs, Tree};
 use std::alloc::Global;
 use std::marker::Brand;
@@ -101,8 +101,8 @@ pub fn setup<T: Tree, O: Outputs>(
     ensures meaning { (files : Files) (said : MachineSaid) → Holds (T.seen tree.old) files → IsSaid machine.now said
         → OnDone result (Means (project_of files (settings_view settings.now) said)) }
 
-    // Each path that an edge needs is one of these: an output of an earlier edge, a file of the tree that was looked at, or an output that
-    // this run closed.
+    // Each path that an edge needs is an output of an earlier edge, a file of the tree at which the run looked, or an output that the run
+    // closed.
     ensures there { (files : Files) (said : MachineSaid) → Holds (T.seen tree.old) files → IsSaid machine.now said
         → OnDone result (AreThere files (settings_view settings.now) said) }
 

@@ -1,6 +1,6 @@
 //! Does what a command line asks for, over any devices.
 ghost use Rattle.ports.specs.Endings.{HasRoom};
-ghost use Rattle.outputs.specs.build_file.Concluding.{Agrees};
+ghost use Rattle.backend.specs.Concluding.{Agrees};
 ghost use Rattle.interp.specs.Evaluation.{IsSaid, MachineSaid};
 ghost use Rattle.world.specs.Prelude.{Files, Holds, settings_view};
 ghost use Rattle.meson.specs.Setup.{FailsOnce};
@@ -9,9 +9,9 @@ ghost use Rattle.meson.specs.Tasks.{run_by};
 use crate::fault_run::fault;
 use crate::question_run::questions;
 use crate::setup_run::setup;
-use command::Task;
+use backend::Status;
+use command_line::Task;
 use interp::Inputs;
-use outputs::build_file::Status;
 use ports::{Outputs, Tree};
 use std::alloc::Global;
 

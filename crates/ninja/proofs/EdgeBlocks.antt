@@ -7,8 +7,8 @@ use Rattle.ninja.specs.Lines.{without_blanks, plain_name, Token, Path, Colon, Ba
 use Rattle.ninja.specs.Reading.{◌>>=◌, Empty, Let, BuildHead, statement_of, paths_at, paths_behind_bar, paths_behind_bars}
 use Rattle.ninja.specs.Reading.{build_line, BuildLine, State, Manifest, Block, NoBlock, EdgeBlock, file_scope, block_scope}
 use Rattle.ninja.specs.Reading.{expansions, edge_of, reads_from}
-use Rattle.build.specs.declared.edge.rule.Rule.{Rule as RuleName}
-use Rattle.build.specs.declared.edge.rule.Rule.TheVariants.{CCompile, Ar, CLink, Symlink, Custom, CustomDep}
+use Rattle.build.specs.declared.edge.rule.EdgeRule.{EdgeRule as RuleName}
+use Rattle.build.specs.declared.edge.rule.EdgeRule.TheVariants.{CCompile, Ar, CLink, Symlink, Custom, CustomDep}
 use Rattle.ninja.specs.Writing.{rule_text, paths_text, signed_paths_text, build_text, binding_text, depfile_line, edge_text}
 use Rattle.ninja.specs.Escapes.{path_text, value_text}
 use Rattle.std.specs.List.{list_all}

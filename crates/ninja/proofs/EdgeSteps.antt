@@ -5,12 +5,12 @@ use Rattle.ports.specs.Outputs.{puts}
 use Rattle.build.specs.edge.Data.{EdgeData}
 use Rattle.build.specs.edge.Holding.{is_some_list}
 use Rattle.build.specs.edge.Own.{lent_view, own_view, shared_view}
-use Rattle.build.specs.edge.Parts.{OwnData, joined}
+use Rattle.build.specs.edge.Parts.{OwnData, edge_of_parts}
 use Rattle.build.specs.edge.Texts.{texts}
 use Rattle.build.specs.declared.edge.parts.LentEdge.{LentEdge}
 use Rattle.build.specs.declared.edge.parts.OwnParts.{OwnParts}
 use Rattle.build.specs.declared.edge.parts.SharedParts.{SharedParts}
-use Rattle.build.specs.declared.edge.rule.Rule.{Rule}
+use Rattle.build.specs.declared.edge.rule.EdgeRule.{EdgeRule}
 use Rattle.ninja.specs.Escapes.{path_text, value_rest_text, value_text}
 use Rattle.ninja.specs.Parts.{bindings_text, end_text, own_bindings_text, own_build_text, shared_text}
 use Rattle.ninja.specs.Steps.{bindings_steps, build_steps, end_steps, last_words_steps, own_bindings_steps, own_build_steps, paths_steps}
@@ -89,14 +89,14 @@ own_bindings_are o =
     (join (codes "\n DEPFILE = ") _ refl
     (join (value_text o.depfile.now) (codes "\n\n") refl refl))))
 
-joined_texts : (rule : Rule) (order_only words : List (List ℕ)) (own : OwnData) → is_some_list words ≡ true
+joined_texts : (rule : EdgeRule) (order_only words : List (List ℕ)) (own : OwnData) → is_some_list words ≡ true
     → own_build_text rule own ++ (shared_text order_only words ++ own_bindings_text own)
-    ≡ edge_text (joined (record { rule = rule; order_only = order_only; words = words }) own)
+    ≡ edge_text (edge_of_parts (record { rule = rule; order_only = order_only; words = words }) own)
 joined_texts rule order_only [] own h = absurd cc
 joined_texts rule order_only (w ∷ ws) own h = joined_is rule order_only w ws own
 
 pub joined_block_is : (s : SharedParts) (o : OwnParts) → is_some_list (texts s.words.now) ≡ true
-    → own_build_steps s o ++ (shared_steps s ++ own_bindings_steps o) ≡ puts (edge_text (joined (shared_view s) (own_view o)))
+    → own_build_steps s o ++ (shared_steps s ++ own_bindings_steps o) ≡ puts (edge_text (edge_of_parts (shared_view s) (own_view o)))
 joined_block_is s o h =
     let shared = shared_text (texts s.order_only.now) (texts s.words.now) in
     join (own_build_text s.rule (own_view o)) (shared ++ own_bindings_text (own_view o)) (own_build_is s o)

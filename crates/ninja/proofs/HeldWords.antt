@@ -6,7 +6,7 @@ use Rattle.ninja.specs.Shell.{is_no_first_word}
 use Rattle.build.specs.edge.Data.{EdgeData}
 use Rattle.build.specs.edge.Holding.{value_byte_held, value_held, value_held_if, is_path, is_some_list, is_writable, paths_writable}
 use Rattle.build.specs.edge.Holding.{values_writable}
-use Rattle.ninja.specs.Words.{is_bare, quoted_byte, quoted_bytes, quoted, word_text, first_word_text, later_word_text}
+use Rattle.ninja.specs.Words.{is_bare, quoted_byte, quoted_bytes, single_quoted_word, word_text, first_word_text, later_word_text}
 use Rattle.ninja.specs.Words.{later_words_text, redirect_text, words_text}
 
 and-true : (b : Bool) → (b && true) ≡ b
@@ -28,7 +28,7 @@ held-quoted_bytes : (w : List ℕ) → value_held (quoted_bytes w) ≡ value_hel
 held-quoted_bytes [] = refl
 held-quoted_bytes (b ∷ bs) = held-append (quoted_byte b) (quoted_bytes bs) ∙ ap (λ v. v && value_held (quoted_bytes bs)) (held-quoted_byte b) ∙ ap (λ v. value_byte_held b && v) (held-quoted_bytes bs)
 
-held-quoted : (w : List ℕ) → value_held (quoted w) ≡ value_held w
+held-quoted : (w : List ℕ) → value_held (single_quoted_word w) ≡ value_held w
 held-quoted w = held-append (quoted_bytes w) (39 ∷ []) ∙ and-true (value_held (quoted_bytes w)) ∙ held-quoted_bytes w
 
 held-word_text : (w : List ℕ) → value_held (word_text w) ≡ value_held w

@@ -7,7 +7,7 @@ use Rattle.ninja.specs.Machine.{before, output_from}
 use Rattle.ninja.specs.Shell.{is_bare_byte, is_reserved, has_equals, is_no_first_word}
 use Rattle.ninja.specs.Posix.{is_literal, is_reserved_word, is_no_command_name}
 use Rattle.ninja.specs.Commands.{ShellToken, Word, Redirect, BetweenWords, Bare, Single, shell, command_of, shell_command}
-use Rattle.ninja.specs.Words.{is_all_bare, is_bare, quoted_byte, quoted_bytes, quoted, word_text, first_word_text, later_words_text}
+use Rattle.ninja.specs.Words.{is_all_bare, is_bare, quoted_byte, quoted_bytes, single_quoted_word, word_text, first_word_text, later_words_text}
 use Rattle.ninja.specs.Words.{redirect_text, words_text}
 use Rattle.ninja.proofs.Machines.{Passes, passes_none, passes_both, passes_first, passes_to, passes_on, passes_all}
 
@@ -97,7 +97,7 @@ single_bytes bare text (b ∷ bs) =
     passes_to shell (Single bare text) (quoted_bytes (b ∷ bs)) [] (Single bare ((text ++ b ∷ []) ++ bs)) (Single bare (text ++ b ∷ bs)) (rw (append_assoc text (b ∷ []) bs) refl)
     (passes_both shell (Single bare text) (quoted_byte b) [] (Single bare (text ++ b ∷ [])) (quoted_bytes bs) [] (Single bare ((text ++ b ∷ []) ++ bs)) (single_byte bare text b) (single_bytes bare (text ++ b ∷ []) bs))
 
-quoted_word : (w : List ℕ) → Passes shell BetweenWords (quoted w) [] (Bare [] w)
+quoted_word : (w : List ℕ) → Passes shell BetweenWords (single_quoted_word w) [] (Bare [] w)
 quoted_word w =
     passes_first shell BetweenWords 39 [] (Single [] []) (quoted_bytes w ++ 39 ∷ []) [] (Bare [] w) refl refl
     (passes_both shell (Single [] []) (quoted_bytes w) [] (Single [] w) (39 ∷ []) [] (Bare [] w) (single_bytes [] [] w) (record { state = refl; given = refl }))

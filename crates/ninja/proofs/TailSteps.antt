@@ -9,9 +9,9 @@ use Rattle.build.specs.edge.Texts.{Path, texts}
 use Rattle.build.specs.Data.{TargetData}
 use Rattle.build.specs.Files.{default_paths}
 use Rattle.build.specs.Libraries.{linked_of}
-use Rattle.build.specs.LinkedViews.{linked_views}
+use Rattle.build.specs.DeclaredTargetViews.{declared_target_views}
 use Rattle.build.specs.View.{target_view}
-use Rattle.build.specs.declared.linked_target.Linked.{Linked}
+use Rattle.build.specs.declared.declared_target.DeclaredTarget.{DeclaredTarget}
 use Rattle.build.proofs.LinkedLists.{kept_targets}
 use Rattle.ninja.specs.Defaults.{defaults_of, is_default}
 use Rattle.ninja.specs.Steps.{paths_steps}
@@ -26,10 +26,10 @@ chosen : (b : Bool) (kept : List (String Global)) (paths : List Path) → texts 
 chosen true kept paths e = paths_is kept ∙ ap (λ ps. puts (paths_text ps)) e
 chosen false kept paths e = sym puts-nil
 
-abbrev kept_defaults : Linked → List Path
+abbrev kept_defaults : DeclaredTarget → List Path
 kept_defaults l = defaults_of (target_view l.target)
 
-defaults_are : (ls : List Linked) → flat_map default_steps ls ≡ puts (paths_text (flat_map kept_defaults ls))
+defaults_are : (ls : List DeclaredTarget) → flat_map default_steps ls ≡ puts (paths_text (flat_map kept_defaults ls))
 defaults_are [] = sym puts-nil
 defaults_are (l ∷ ls) =
     join (paths_text (kept_defaults l)) (paths_text (flat_map kept_defaults ls))
@@ -37,10 +37,10 @@ defaults_are (l ∷ ls) =
     ∙ ap puts (sym (flat_map-append spaced_path_text (kept_defaults l) (flat_map kept_defaults ls)))
 
 -- the targets, as they are kept
-asked_are : (kept : List Linked) (ts : List TargetData) → linked_views kept ≡ linked_of ts → flat_map kept_defaults kept ≡ flat_map defaults_of ts
-asked_are kept ts e = sym (flat_map-map defaults_of (λ (l : Linked). target_view l.target) kept) ∙ ap (flat_map defaults_of) (kept_targets kept ts e)
+asked_are : (kept : List DeclaredTarget) (ts : List TargetData) → declared_target_views kept ≡ linked_of ts → flat_map kept_defaults kept ≡ flat_map defaults_of ts
+asked_are kept ts e = sym (flat_map-map defaults_of (λ (l : DeclaredTarget). target_view l.target) kept) ∙ ap (flat_map defaults_of) (kept_targets kept ts e)
 
-pub all_is : (kept : List Linked) (ts : List TargetData) → linked_views kept ≡ linked_of ts
+pub all_is : (kept : List DeclaredTarget) (ts : List TargetData) → declared_target_views kept ≡ linked_of ts
     → all_steps kept ≡ puts (tail_text (flat_map defaults_of ts))
 all_is kept ts e =
     let names = flat_map kept_defaults kept in

@@ -6,10 +6,10 @@ use Rattle.ninja.specs.Machine.{before}
 use Rattle.ninja.specs.Pieces.{Piece, Outside, escapes, pieces_of}
 use Rattle.ninja.specs.Lines.{lines_of}
 use Rattle.ninja.specs.Reading.{◌>>=◌, State, Manifest, BuildEdge, after_lines, reads_from, nothing_read, manifest_of, value_of}
-use Rattle.ninja.specs.Reading.{value_at, rule_named, closed}
+use Rattle.ninja.specs.Reading.{value_at, rule_named, manifest_after_block}
 use Rattle.ninja.specs.Commands.{shell_command}
-use Rattle.build.specs.declared.edge.rule.Rule.{Rule as RuleName}
-use Rattle.build.specs.declared.edge.rule.Rule.TheVariants.{CCompile, Ar, CLink, Symlink, Custom, CustomDep}
+use Rattle.build.specs.declared.edge.rule.EdgeRule.{EdgeRule as RuleName}
+use Rattle.build.specs.declared.edge.rule.EdgeRule.TheVariants.{CCompile, Ar, CLink, Symlink, Custom, CustomDep}
 use Rattle.ninja.specs.Writing.{rule_text, edge_text, head_text, edges_text, tail_text, file_text}
 use Rattle.ninja.specs.Words.{words_text}
 use Rattle.std.specs.List.{list_all}
@@ -72,7 +72,7 @@ tail_read m names h =
 
 pub file_read : (es : List EdgeData) (names : List (List ℕ)) → are_writable es ≡ true → list_all is_path names ≡ true → manifest_of (file_text es names) ≡ Some (file_seen es names)
 file_read es names h k =
-    ap (λ v. v >>= λ s. Some (closed s.read s.block))
+    ap (λ v. v >>= λ s. Some (manifest_after_block s.read s.block))
     (head_read (edges_text es ++ tail_text names) ∙ edges_read head_seen es (tail_text names) h ∙ tail_read (with_edges head_seen (edges_seen es)) names k)
 
 -- ---- the commands

@@ -6,14 +6,14 @@ use Rattle.ports.specs.Outputs.{puts}
 use Rattle.build.specs.edge.Texts.{texts}
 use Rattle.ninja.specs.Escapes.{value_byte_text, value_rest_text}
 use Rattle.ninja.specs.Places.{byte_text}
-use Rattle.ninja.specs.Words.{first_word_text, later_word_text, later_words_text, lone_redirect_text, quoted, redirect_text, word_text}
+use Rattle.ninja.specs.Words.{first_word_text, later_word_text, later_words_text, lone_redirect_text, single_quoted_word, redirect_text, word_text}
 use Rattle.ninja.specs.Steps.{last_words_steps, later_word_steps, later_words_steps, lone_redirect_steps, quoted_steps, redirect_steps}
 use Rattle.ninja.specs.Steps.{words_steps}
-use Rattle.ninja.specs.declared.escapes.Place.TheVariants.{InQuotes}
+use Rattle.ninja.specs.declared.escapes.EscapeMode.TheVariants.{InQuotes}
 use Rattle.ninja.proofs.Puts.{join, puts-append, puts-nil}
 use Rattle.ninja.proofs.WordTexts.{quoted_value}
 
-pub quoted_is : (w : List ℕ) → quoted_steps w ≡ puts (value_rest_text (quoted w))
+pub quoted_is : (w : List ℕ) → quoted_steps w ≡ puts (value_rest_text (single_quoted_word w))
 quoted_is w =
     let inside = flat_map (byte_text InQuotes) w in
     join (codes "'") (inside ++ codes "'") refl (join inside (codes "'") refl refl) ∙ ap puts (sym (quoted_value w))

@@ -8,10 +8,10 @@ use Rattle.std.proofs.lemmas.List.Concat.{flat_map-append}
 use Rattle.build.specs.edge.Texts.{texts}
 use Rattle.ninja.specs.Shell.{is_bare_byte, is_no_first_word}
 use Rattle.ninja.specs.Escapes.{value_byte_text, value_rest_text, value_text}
-use Rattle.ninja.specs.Words.{is_all_bare, is_bare, quoted_byte, quoted_bytes, quoted, first_word_text, later_word_text}
+use Rattle.ninja.specs.Words.{is_all_bare, is_bare, quoted_byte, quoted_bytes, single_quoted_word, first_word_text, later_word_text}
 use Rattle.ninja.specs.Words.{later_words_text, redirect_text, lone_redirect_text, words_text}
 use Rattle.ninja.specs.Places.{byte_text}
-use Rattle.ninja.specs.declared.escapes.Place.TheVariants.{InQuotes}
+use Rattle.ninja.specs.declared.escapes.EscapeMode.TheVariants.{InQuotes}
 use Rattle.ninja.proofs.ShellWords.{other_than}
 
 pub is_bare-some : (w : List ℕ) → eqb (length w) 0 ≡ false → is_all_bare w ≡ is_bare w
@@ -33,7 +33,7 @@ flat_map-flat_map : {A : Type 0} (f : ℕ → List ℕ) (h : A → List ℕ) (xs
 flat_map-flat_map f h [] = refl
 flat_map-flat_map f h (x ∷ xs) = flat_map-append f (h x) (flat_map h xs) ∙ ap (λ v. flat_map f (h x) ++ v) (flat_map-flat_map f h xs)
 
-pub quoted_value : (w : List ℕ) → value_rest_text (quoted w) ≡ 39 ∷ (flat_map (byte_text InQuotes) w ++ 39 ∷ [])
+pub quoted_value : (w : List ℕ) → value_rest_text (single_quoted_word w) ≡ 39 ∷ (flat_map (byte_text InQuotes) w ++ 39 ∷ [])
 quoted_value w =
     ap (λ v. 39 ∷ v) (flat_map-append value_byte_text (quoted_bytes w) (39 ∷ []) ∙ ap (λ v. v ++ 39 ∷ []) (flat_map-flat_map value_byte_text quoted_byte w))
 

@@ -8,16 +8,23 @@ use Rattle.ninja.specs.Reading.{◌>>=◌}
 pub data ShellToken : Type 0 where
   -- A word: its bytes outside quotes, and all of its bytes.
   Word : (bare text : List ℕ) → ShellToken
+  -- The sign `>`, with the file that receives the output after it.
   Redirect : ShellToken
 
 -- The state of a shell that reads a command: between words, in a word and its quotes, or after a `>`. `Unread` is a text that no command
 -- has.
 pub data Quoting : Type 0 where
+  -- No word is open.
   BetweenWords : Quoting
+  -- A word is open, outside quotes: its bytes outside quotes so far, and all of its bytes so far.
   Bare : (bare text : List ℕ) → Quoting
+  -- A word is open, in single quotes.
   Single : (bare text : List ℕ) → Quoting
+  -- A word is open, in double quotes.
   Double : (bare text : List ℕ) → Quoting
+  -- A `>` was read.
   Arrow : Quoting
+  -- A byte was read that no command has in its place.
   Unread : Quoting
 
 -- Returns whether the byte has a meaning in double quotes: `$`, the backquote, the backslash.

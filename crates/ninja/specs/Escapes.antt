@@ -26,6 +26,7 @@ value_byte_text b = cond (b == 36) (36 ∷ 36 ∷ []) (b ∷ [])
 abbrev pub value_rest_text : List ℕ → List ℕ
 value_rest_text bytes = flat_map value_byte_text bytes
 
+-- Returns whether the first byte is a space. It is false for no bytes.
 abbrev pub starts_with_space : List ℕ → Bool
 starts_with_space [] = false
 starts_with_space (b ∷ bs) = b == 32

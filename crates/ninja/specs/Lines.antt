@@ -73,36 +73,43 @@ plain_name ps = whole_name (name_at ps)
 
 -- A part of a line: a path, or one of the signs `:`, `|` and `||`.
 pub data Token : Type 0 where
+  -- A path, not expanded yet.
   Path : (pieces : List Piece) → Token
+  -- The sign `:`, which begins the rule and the inputs.
   Colon : Token
+  -- The sign `|`, which begins implicit paths.
   Bar : Token
+  -- The sign `||`, which begins order-only paths.
   Bars : Token
 
 -- The state of a reader of a line: between parts, in a path, or after one bar.
 pub data Place : Type 0 where
+  -- No part is open.
   Between : Place
+  -- A path is open, with these pieces so far.
   Within : (pieces : List Piece) → Place
-  -- After one bar.
+  -- One bar was read, which may be the first of two.
   Barred : Place
 
--- What a piece of a line is: a space, a colon, a bar, or a part of a path.
+-- The kind of a piece of a line: a space, a colon, a bar, or a part of a path.
 pub data Kind : Type 0 where
   IsBlank : Kind
   IsColon : Kind
   IsBar : Kind
   IsPart : Kind
 
+-- Returns the kind of a piece. A space, a colon or a bar after a `$` is a part of a path, and so is a variable.
 abbrev pub kind_of : Piece → Kind
 kind_of (Plain b) = cond (b == 32) IsBlank (cond (b == 58) IsColon (cond (b == 124) IsBar IsPart))
 kind_of (Escaped b) = IsPart
 kind_of (Variable name) = IsPart
 
 -- Returns the state after a piece between parts.
-abbrev pub begun : Piece → Kind → Place
-begun p IsBlank = Between
-begun p IsColon = Between
-begun p IsBar = Barred
-begun p IsPart = Within (p ∷ [])
+abbrev pub place_after_piece : Piece → Kind → Place
+place_after_piece p IsBlank = Between
+place_after_piece p IsColon = Between
+place_after_piece p IsBar = Barred
+place_after_piece p IsPart = Within (p ∷ [])
 
 -- Returns the token of a piece between parts.
 abbrev pub begun_token : Kind → List Token
@@ -141,7 +148,7 @@ given_barred IsPart = Bar ∷ []
 
 -- Returns the state after a piece.
 abbrev pub next_place : Place → Piece → Place
-next_place Between p = begun p (kind_of p)
+next_place Between p = place_after_piece p (kind_of p)
 next_place (Within pieces) p = next_within pieces p (kind_of p)
 next_place Barred p = next_barred p (kind_of p)
 

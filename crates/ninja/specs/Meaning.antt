@@ -11,7 +11,7 @@ use Rattle.ninja.specs.Words.{words_text}
 abbrev pub after_reading : Manifest → State
 after_reading m = record { read = m; block = NoBlock }
 
--- Returns what is said, with one more edge.
+-- Returns the manifest with one more edge, after the others.
 abbrev pub with_edge : Manifest → BuildEdge → Manifest
 with_edge m edge = record m { edges = m.edges ++ edge ∷ [] }
 
@@ -32,12 +32,12 @@ abbrev pub depfile_bindings : Option (List ℕ) → List (List ℕ × List ℕ)
 depfile_bindings None = []
 depfile_bindings (Some path) = (codes "DEPFILE", path) ∷ []
 
--- Returns what a reader is to read of an edge.
+-- Returns the edge that a reader reads from an edge's block, with its variables `COMMAND`, `DESC` and `DEPFILE`.
 abbrev pub edge_seen : EdgeData → BuildEdge
 edge_seen e = edge_read (rule_text e.rule) e.outputs e.inputs e.implicit e.order_only
     ((codes "COMMAND", words_text e.words e.redirect) ∷ (codes "DESC", e.description) ∷ depfile_bindings e.depfile)
 
--- Returns what a reader is to read of edges.
+-- Returns the edges that a reader reads from the blocks of edges, in order.
 abbrev pub edges_seen : List EdgeData → List BuildEdge
 edges_seen [] = []
 edges_seen (e ∷ es) = edge_seen e ∷ edges_seen es
@@ -69,7 +69,7 @@ six_rules =
     }
     ∷ []
 
--- Returns what a reader is to read of the head of `build.ninja`.
+-- Returns the manifest that a reader reads from the head of `build.ninja`: the required version and the six rules.
 abbrev pub head_seen : Manifest
 head_seen = record { variables = (codes "ninja_required_version", codes "1.3") ∷ []; rules = six_rules; edges = []; defaults = [] }
 
@@ -77,7 +77,7 @@ head_seen = record { variables = (codes "ninja_required_version", codes "1.3") �
 abbrev pub all_seen : List (List ℕ) → BuildEdge
 all_seen names = edge_read (codes "phony") (codes "all" ∷ []) names [] [] []
 
--- Returns the six rules, the edges, the edge `all` and the default `all`.
+-- Returns the manifest that a reader reads from `build.ninja`: the six rules, the edges, the edge `all`, and the default `all`.
 abbrev pub file_seen : List EdgeData → List (List ℕ) → Manifest
 file_seen es names = record {
   variables = (codes "ninja_required_version", codes "1.3") ∷ [];

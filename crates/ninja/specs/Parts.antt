@@ -2,7 +2,7 @@
 use Rattle.std.specs.Prelude.{ℕ, List, ◌++◌, Option, Some, None, codes}
 use Rattle.build.specs.edge.Data.{EdgeData}
 use Rattle.build.specs.edge.Parts.{OwnData}
-use Rattle.build.specs.declared.edge.rule.Rule.{Rule}
+use Rattle.build.specs.declared.edge.rule.EdgeRule.{EdgeRule}
 use Rattle.ninja.specs.Escapes.{value_rest_text, value_text}
 use Rattle.ninja.specs.Words.{later_words_text, words_text}
 use Rattle.ninja.specs.Writing.{rule_text, signed_paths_text, spaced_path_text}
@@ -26,12 +26,12 @@ abbrev pub shared_text : (order_only words : List (List ℕ)) → List ℕ
 shared_text order_only words =
     signed_paths_text (codes " ||") order_only ++ (codes "\n COMMAND = " ++ value_text (words_text words None))
 
--- Returns the text before it.
-abbrev pub own_build_text : Rule → OwnData → List ℕ
+-- Returns the text of an edge before the shared text: its output, its rule and its input.
+abbrev pub own_build_text : EdgeRule → OwnData → List ℕ
 own_build_text rule own =
     codes "build" ++ (spaced_path_text own.output ++ (codes ": " ++ (rule_text rule ++ spaced_path_text own.input)))
 
--- Returns the text after it.
+-- Returns the text of an edge after the shared text: its last words, its description and its depfile, and an empty line.
 abbrev pub own_bindings_text : OwnData → List ℕ
 own_bindings_text own =
     value_rest_text (later_words_text own.words)

@@ -31,6 +31,7 @@ reserved_words =
     codes "!" ∷ codes "{" ∷ codes "}" ∷ codes "case" ∷ codes "do" ∷ codes "done" ∷ codes "elif" ∷ codes "else" ∷ codes "esac" ∷ codes "fi"
     ∷ codes "for" ∷ codes "if" ∷ codes "in" ∷ codes "then" ∷ codes "until" ∷ codes "while" ∷ []
 
+-- Returns whether a word is one of the shell's reserved words.
 abbrev pub is_reserved_word : List ℕ → Bool
 is_reserved_word word = is_one_of reserved_words word
 

@@ -6,6 +6,7 @@ use Rattle.ninja.specs.Bytes.{same_bytes}
 use Rattle.ninja.specs.Lines.{is_plain, lines_of, without_blanks, begins_blank, name_at, plain_name, is_name}
 use Rattle.ninja.specs.Lines.{Token, Path, Colon, Bar, Bars, tokens_of}
 
+-- Returns the result of `f` for a value, and none if there is no value.
 infixl 10 ◌>>=◌
 abbrev pub ◌>>=◌ : {A B : Type 0} → Option A → (A → Option B) → Option B
 None >>= f = None
@@ -15,11 +16,16 @@ None >>= f = None
 
 -- A `build` line, whose paths are not expanded yet.
 pub record BuildLine : Type 0 where
+  -- The explicit outputs, which `$out` names.
   pub outputs : List (List Piece)
+  -- The implicit outputs, after `|` and before the colon.
   pub implicit_outputs : List (List Piece)
   pub rule : List ℕ
+  -- The explicit dependencies, which `$in` names.
   pub inputs : List (List Piece)
+  -- The implicit dependencies, after `|`.
   pub implicit : List (List Piece)
+  -- The order-only dependencies, after `||`.
   pub order_only : List (List Piece)
 
 -- Returns paths with a token before them, if that is a path.
@@ -65,7 +71,7 @@ abbrev pub with_path : {A : Type 0} → List (List Piece) → Option A → Optio
 with_path [] x = None
 with_path (p ∷ ps) x = x
 
--- ` PATHS | PATHS: RULE PATHS | PATHS || PATHS`
+-- Returns the `build` line of the tokens after its word: PATHS [| PATHS]: RULE [PATHS] [| PATHS] [|| PATHS]. Returns none for other tokens.
 unfoldable pub build_line : List Token → Option BuildLine
 build_line ts =
     let outs = paths_at ts in
@@ -89,12 +95,16 @@ default_line ts = let paths = paths_at ts in with_path paths.0 (at_end paths.1 p
 
 -- ---- one line
 
--- What a line says. A `Let` gives a name a value, and is indented in a block.
+-- A statement of one line. A `Let` gives a name a value, and is indented in a block.
 pub data Statement : Type 0 where
+  -- The line is empty, or has spaces alone.
   Empty : Statement
   Let : (indented : Bool) (name : List ℕ) (value : List Piece) → Statement
+  -- The line is `rule NAME`, which begins a rule.
   RuleHead : (name : List ℕ) → Statement
+  -- The line is `build OUTPUTS: RULE INPUTS`, which begins an edge.
   BuildHead : (line : BuildLine) → Statement
+  -- The line is `default PATHS`.
   Default : (paths : List (List Piece)) → Statement
 
 -- Returns the statement of `= value` after a name.
@@ -156,7 +166,7 @@ pub record BuildEdge : Type 0 where
   pub order_only : List (List ℕ)
   pub bindings : List (List ℕ × List ℕ)
 
--- What a Ninja file says: variables, rules, edges and the targets that are made by default.
+-- The content of a Ninja file: variables, rules, edges, and the targets that are made by default.
 pub record Manifest : Type 0 where
   pub variables : List (List ℕ × List ℕ)
   pub rules : List Rule
@@ -165,11 +175,14 @@ pub record Manifest : Type 0 where
 
 -- The block to which indented lines belong.
 pub data Block : Type 0 where
+  -- No block is open, so an indented line with a value is refused.
   NoBlock : Block
+  -- A `rule` line was read, and the indented lines after it so far.
   RuleBlock : (rule : Rule) → Block
+  -- A `build` line was read, and the values of the indented lines after it so far.
   EdgeBlock : (line : BuildLine) (bindings : List (List ℕ × List ℕ)) → Block
 
--- What was read, and the block that is open.
+-- The state of a reader of lines: the content so far, and the block that is open.
 pub record State : Type 0 where
   pub read : Manifest
   pub block : Block
@@ -209,35 +222,36 @@ edge_of scope line bindings = record {
   bindings = bindings;
 }
 
--- Returns what is read after a block. The paths of a `build` line are expanded once its whole block is read.
-abbrev pub closed : Manifest → Block → Manifest
-closed m NoBlock = m
-closed m (RuleBlock rule) = record m { rules = m.rules ++ rule ∷ [] }
-closed m (EdgeBlock line bindings) = record m { edges = m.edges ++ edge_of (block_scope m bindings) line bindings ∷ [] }
+-- Returns the manifest after a block. The paths of a `build` line are expanded once its whole block is read.
+abbrev pub manifest_after_block : Manifest → Block → Manifest
+manifest_after_block m NoBlock = m
+manifest_after_block m (RuleBlock rule) = record m { rules = m.rules ++ rule ∷ [] }
+manifest_after_block m (EdgeBlock line bindings) = record m { edges = m.edges ++ edge_of (block_scope m bindings) line bindings ∷ [] }
 
 -- Binds a value in a block. A value of a `build` line is expanded at once, in the scope outside the block, and a rule's when it is used.
-abbrev pub bound : Scope → List ℕ → List Piece → Block → Option Block
-bound scope name value NoBlock = None
-bound scope name value (RuleBlock rule) = Some (RuleBlock (record rule { bindings = rule.bindings ++ (name, value) ∷ [] }))
-bound scope name value (EdgeBlock line bindings) = Some (EdgeBlock line (bindings ++ (name, expansion scope value) ∷ []))
+abbrev pub block_with_binding : Scope → List ℕ → List Piece → Block → Option Block
+block_with_binding scope name value NoBlock = None
+block_with_binding scope name value (RuleBlock rule) = Some (RuleBlock (record rule { bindings = rule.bindings ++ (name, value) ∷ [] }))
+block_with_binding scope name value (EdgeBlock line bindings) = Some (EdgeBlock line (bindings ++ (name, expansion scope value) ∷ []))
 
 -- Returns the state after a statement, or `None` if it is not allowed here.
 abbrev pub after_statement : State → Statement → Option State
-after_statement s Empty = Some (record { read = closed s.read s.block; block = NoBlock })
-after_statement s (Let true name value) = bound (file_scope s.read) name value s.block >>= λ b. Some (record { read = s.read; block = b })
+after_statement s Empty = Some (record { read = manifest_after_block s.read s.block; block = NoBlock })
+after_statement s (Let true name value) = block_with_binding (file_scope s.read) name value s.block
+    >>= λ b. Some (record { read = s.read; block = b })
 after_statement s (Let false name value) =
-    let m = closed s.read s.block in
+    let m = manifest_after_block s.read s.block in
     Some (record { read = record m { variables = m.variables ++ (name, expansion (file_scope m) value) ∷ [] }; block = NoBlock })
 after_statement s (RuleHead name) = Some (record {
-  read = closed s.read s.block;
+  read = manifest_after_block s.read s.block;
   block = RuleBlock (record { name = name; bindings = [] });
 })
 after_statement s (BuildHead line) = Some (record {
-  read = closed s.read s.block;
+  read = manifest_after_block s.read s.block;
   block = EdgeBlock line [];
 })
 after_statement s (Default paths) =
-    let m = closed s.read s.block in
+    let m = manifest_after_block s.read s.block in
     Some (record { read = record m { defaults = m.defaults ++ expansions (file_scope m) paths }; block = NoBlock })
 
 -- Reads further lines from a state.
@@ -249,13 +263,13 @@ after_lines s (line ∷ lines) = statement_of line >>= λ statement. after_state
 abbrev pub reads_from : State → List ℕ → Option State
 reads_from s text = pieces_of text >>= λ ps. after_lines s (lines_of ps)
 
--- Returns what an empty file says.
+-- Returns the manifest of an empty file.
 abbrev pub nothing_read : Manifest
 nothing_read = record { variables = []; rules = []; edges = []; defaults = [] }
 
--- Returns what a Ninja file says.
+-- Returns the manifest of a Ninja file's text, or none if it has a `$` or a line without a meaning.
 abbrev pub manifest_of : List ℕ → Option Manifest
-manifest_of text = reads_from (record { read = nothing_read; block = NoBlock }) text >>= λ s. Some (closed s.read s.block)
+manifest_of text = reads_from (record { read = nothing_read; block = NoBlock }) text >>= λ s. Some (manifest_after_block s.read s.block)
 
 -- ---- the value of a rule's variable for an edge
 
@@ -276,9 +290,9 @@ piece_used scope (Escaped b) = Some (b ∷ [])
 piece_used scope (Variable name) = scope name
 
 -- Returns the text of pieces, in a scope that may lack values.
-abbrev pub used : (List ℕ → Option (List ℕ)) → List Piece → Option (List ℕ)
-used scope [] = Some []
-used scope (p ∷ ps) = piece_used scope p >>= λ front. put_before front (used scope ps)
+abbrev pub text_in_scope : (List ℕ → Option (List ℕ)) → List Piece → Option (List ℕ)
+text_in_scope scope [] = Some []
+text_in_scope scope (p ∷ ps) = piece_used scope p >>= λ front. put_before front (text_in_scope scope ps)
 
 -- Returns the value of a rule's variable, expanded, or else the other value.
 abbrev pub rule_value : (List Piece → Option (List ℕ)) → Option (List Piece) → List ℕ → Option (List ℕ)
@@ -298,7 +312,7 @@ value_at (suc depth) m rule edge name =
     elim (same_bytes name (codes "in") || same_bytes name (codes "out")) [
       | true ↦ None
       | false ↦ first_value (value_in edge.bindings name)
-          (rule_value (used (value_at depth m rule edge)) (value_in rule.bindings name) (file_scope m name))
+          (rule_value (text_in_scope (value_at depth m rule edge)) (value_in rule.bindings name) (file_scope m name))
     ]
 
 -- Returns the value of a variable of the edge's rule for the edge.

@@ -3,6 +3,7 @@ use Rattle.std.specs.Prelude.{ℕ, Bool, false, cond, ◌==◌, ◌&&◌, not, L
 use Rattle.std.specs.List.{list_all, flat_map}
 use Rattle.ninja.specs.Shell.{is_bare_byte, is_no_first_word}
 
+-- Returns whether each of the bytes needs no quotes. It is true for no bytes.
 abbrev pub is_all_bare : List ℕ → Bool
 is_all_bare bytes = list_all is_bare_byte bytes
 
@@ -15,25 +16,27 @@ is_bare (b ∷ bs) = is_bare_byte b && is_all_bare bs
 abbrev pub quoted_byte : ℕ → List ℕ
 quoted_byte b = cond (b == 39) (39 ∷ 34 ∷ 39 ∷ 34 ∷ 39 ∷ []) (b ∷ [])
 
+-- Returns the text of bytes inside single quotes, without the quotes around them.
 abbrev pub quoted_bytes : List ℕ → List ℕ
 quoted_bytes bytes = flat_map quoted_byte bytes
 
 -- Returns the word in single quotes.
-abbrev pub quoted : List ℕ → List ℕ
-quoted word = 39 ∷ (quoted_bytes word ++ 39 ∷ [])
+abbrev pub single_quoted_word : List ℕ → List ℕ
+single_quoted_word word = 39 ∷ (quoted_bytes word ++ 39 ∷ [])
 
 -- Returns the text of a word, in quotes if it needs them.
 abbrev pub word_text : List ℕ → List ℕ
-word_text word = cond (is_bare word) word (quoted word)
+word_text word = cond (is_bare word) word (single_quoted_word word)
 
 -- Returns the text of the first word, in quotes if it needs them there.
 abbrev pub first_word_text : List ℕ → List ℕ
-first_word_text word = cond (is_bare word && not (is_no_first_word word)) word (quoted word)
+first_word_text word = cond (is_bare word && not (is_no_first_word word)) word (single_quoted_word word)
 
 -- Returns a space and the text of a word.
 abbrev pub later_word_text : List ℕ → List ℕ
 later_word_text word = 32 ∷ word_text word
 
+-- Returns the text of words, each after a space.
 abbrev pub later_words_text : List (List ℕ) → List ℕ
 later_words_text words = flat_map later_word_text words
 

@@ -1,8 +1,8 @@
 -- Defines the text of `build.ninja`: a head with the rules, a block for each edge, and a tail with what is made by default.
 use Rattle.std.specs.Prelude.{ℕ, List, [], ◌∷◌, ◌++◌, Option, Some, None, codes}
 use Rattle.std.specs.List.{flat_map}
-use Rattle.build.specs.declared.edge.rule.Rule.{Rule}
-use Rattle.build.specs.declared.edge.rule.Rule.TheVariants.{CCompile, Ar, CLink, Symlink, Custom, CustomDep}
+use Rattle.build.specs.declared.edge.rule.EdgeRule.{EdgeRule}
+use Rattle.build.specs.declared.edge.rule.EdgeRule.TheVariants.{CCompile, Ar, CLink, Symlink, Custom, CustomDep}
 use Rattle.build.specs.edge.Data.{EdgeData}
 use Rattle.ninja.specs.Escapes.{path_text, value_text}
 use Rattle.ninja.specs.Words.{words_text}
@@ -13,9 +13,11 @@ line text rest = text ++ 10 ∷ rest
 
 -- ---- the line of an edge
 
+-- Returns a space and the text of a path, with a `$` before each dollar sign, space and colon of the path.
 abbrev pub spaced_path_text : List ℕ → List ℕ
 spaced_path_text path = 32 ∷ path_text path
 
+-- Returns the text of paths, each after a space.
 abbrev pub paths_text : List (List ℕ) → List ℕ
 paths_text paths = flat_map spaced_path_text paths
 
@@ -24,7 +26,8 @@ abbrev pub signed_paths_text : List ℕ → List (List ℕ) → List ℕ
 signed_paths_text sign [] = []
 signed_paths_text sign (p ∷ ps) = sign ++ paths_text (p ∷ ps)
 
-abbrev pub rule_text : Rule → List ℕ
+-- Returns the name of a rule in `build.ninja`.
+abbrev pub rule_text : EdgeRule → List ℕ
 rule_text CCompile = codes "c_compile"
 rule_text Ar = codes "ar"
 rule_text CLink = codes "c_link"
@@ -53,6 +56,7 @@ abbrev pub depfile_line : Option (List ℕ) → List ℕ → List ℕ
 depfile_line None rest = rest
 depfile_line (Some path) rest = line (binding_text (codes "DEPFILE") path) rest
 
+-- Returns the `build` line of an edge, without its newline.
 abbrev pub build_line : EdgeData → List ℕ
 build_line e = build_text (rule_text e.rule) e.outputs e.inputs e.implicit e.order_only
 
@@ -79,6 +83,7 @@ head_text =
     (rule_head_text (codes "custom") (line []
     (rule_head_text (codes "custom_dep") (line (codes " depfile = $DEPFILE") (line [] []))))))))))))))))
 
+-- Returns the blocks of edges, in order.
 abbrev pub edges_text : List EdgeData → List ℕ
 edges_text edges = flat_map edge_text edges
 

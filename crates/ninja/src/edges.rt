@@ -1,10 +1,10 @@
 //! Writes the blocks of edges.
 ghost use Rattle.std.specs.Prelude.{◌≡◌, true, ℕ, List, ◌++◌, option_map};
-ghost use Rattle.ports.specs.Endings.{ended};
+ghost use Rattle.ports.specs.Endings.{ending_of_result};
 ghost use Rattle.ports.specs.Outputs.{IsOpen, Writes, puts};
 ghost use Rattle.build.specs.edge.Holding.{is_some_list, is_writable};
 ghost use Rattle.build.specs.edge.Own.{lent_view, own_view, shared_view};
-ghost use Rattle.build.specs.edge.Parts.{joined};
+ghost use Rattle.build.specs.edge.Parts.{edge_of_parts};
 ghost use Rattle.build.specs.edge.Texts.{texts};
 ghost use Rattle.ninja.specs.Escapes.{value_text};
 ghost use Rattle.ninja.specs.Words.{words_text};
@@ -16,26 +16,26 @@ ghost use Rattle.ninja.specs.Steps.{shared_steps, signed_paths_steps, spaced_pat
 
 use crate::escapes::{write_path, write_value};
 use crate::words::{write_last_words, write_words};
-use build::edge::{LentEdge, OwnParts, Rule, SharedParts};
+use build::edge::{EdgeRule, LentEdge, OwnParts, SharedParts};
 use ports::{DeviceFault, Outputs, put_all};
 
-fn rule_name(rule: Rule) -> &'static [u8]
+fn rule_name(rule: EdgeRule) -> &'static [u8]
     ensures { result.now ≡ rule_text rule }
 {
     match rule {
-        Rule::CCompile => b"c_compile",
-        Rule::Ar => b"ar",
-        Rule::CLink => b"c_link",
-        Rule::Symlink => b"symlink",
-        Rule::Custom => b"custom",
-        Rule::CustomDep => b"custom_dep",
+        EdgeRule::CCompile => b"c_compile",
+        EdgeRule::Ar => b"ar",
+        EdgeRule::CLink => b"c_link",
+        EdgeRule::Symlink => b"symlink",
+        EdgeRule::Custom => b"custom",
+        EdgeRule::CustomDep => b"custom_dep",
     }
 }
 
 #[tactic(auto, using(ports::proofs::Sending::writing))]
 fn write_spaced_path<O: Outputs>(path: &str, out: &mut O) -> Result<(), DeviceFault>
     requires { IsOpen (O.seen out.old) }
-    ensures { Writes (O.seen out.old) (spaced_path_steps path.now) (ended result) (O.seen out.new) }
+    ensures { Writes (O.seen out.old) (spaced_path_steps path.now) (ending_of_result result) (O.seen out.new) }
 {
     put_all(out, b" ")?;
     write_path(path, out)
@@ -45,7 +45,7 @@ fn write_spaced_path<O: Outputs>(path: &str, out: &mut O) -> Result<(), DeviceFa
 #[tactic(auto, using(ports::proofs::Sending::writing))]
 pub fn write_paths<O: Outputs>(paths: &[String], out: &mut O) -> Result<(), DeviceFault>
     requires { IsOpen (O.seen out.old) }
-    ensures { Writes (O.seen out.old) (paths_steps paths.now) (ended result) (O.seen out.new) }
+    ensures { Writes (O.seen out.old) (paths_steps paths.now) (ending_of_result result) (O.seen out.new) }
 {
     for path in paths {
         write_spaced_path(path, out)?;
@@ -61,7 +61,7 @@ fn write_signed_paths<O: Outputs>(
     out: &mut O,
 ) -> Result<(), DeviceFault>
     requires { IsOpen (O.seen out.old) }
-    ensures { Writes (O.seen out.old) (signed_paths_steps sign.now paths.now) (ended result) (O.seen out.new) }
+    ensures { Writes (O.seen out.old) (signed_paths_steps sign.now paths.now) (ending_of_result result) (O.seen out.new) }
 {
     match paths {
         [] => Ok(()),
@@ -76,7 +76,7 @@ fn write_signed_paths<O: Outputs>(
 #[tactic(auto, using(ports::proofs::Sending::writing))]
 fn write_build<O: Outputs>(edge: &LentEdge, out: &mut O) -> Result<(), DeviceFault>
     requires { IsOpen (O.seen out.old) }
-    ensures { Writes (O.seen out.old) (build_steps edge.now) (ended result) (O.seen out.new) }
+    ensures { Writes (O.seen out.old) (build_steps edge.now) (ending_of_result result) (O.seen out.new) }
 {
     put_all(out, b"build")?;
     write_paths(edge.outputs, out)?;
@@ -90,7 +90,7 @@ fn write_build<O: Outputs>(edge: &LentEdge, out: &mut O) -> Result<(), DeviceFau
 #[tactic(auto, using(ports::proofs::Sending::writing))]
 fn write_end<O: Outputs>(depfile: Option<&str>, out: &mut O) -> Result<(), DeviceFault>
     requires { IsOpen (O.seen out.old) }
-    ensures { Writes (O.seen out.old) (end_steps (option_map (λ d. d.now) depfile.entry)) (ended result) (O.seen out.new) }
+    ensures { Writes (O.seen out.old) (end_steps (option_map (λ d. d.now) depfile.entry)) (ending_of_result result) (O.seen out.new) }
 {
     match depfile {
         None => put_all(out, b"\n"),
@@ -105,7 +105,7 @@ fn write_end<O: Outputs>(depfile: Option<&str>, out: &mut O) -> Result<(), Devic
 fn write_command<O: Outputs>(edge: &LentEdge, out: &mut O) -> Result<(), DeviceFault>
     requires { IsOpen (O.seen out.old) }
     ensures { let e = lent_view edge.now in
-        Writes (O.seen out.old) (puts (value_text (words_text e.words e.redirect))) (ended result) (O.seen out.new) }
+        Writes (O.seen out.old) (puts (value_text (words_text e.words e.redirect))) (ending_of_result result) (O.seen out.new) }
 {
     write_words(edge.words, edge.redirect, out)
 }
@@ -114,7 +114,7 @@ fn write_command<O: Outputs>(edge: &LentEdge, out: &mut O) -> Result<(), DeviceF
 #[tactic(auto, using(ports::proofs::Sending::writing))]
 fn write_bindings<O: Outputs>(edge: &LentEdge, out: &mut O) -> Result<(), DeviceFault>
     requires { IsOpen (O.seen out.old) }
-    ensures { Writes (O.seen out.old) (bindings_steps edge.now) (ended result) (O.seen out.new) }
+    ensures { Writes (O.seen out.old) (bindings_steps edge.now) (ending_of_result result) (O.seen out.new) }
 {
     put_all(out, b"\n COMMAND = ")?;
     write_command(edge, out)?;
@@ -127,7 +127,7 @@ fn write_bindings<O: Outputs>(edge: &LentEdge, out: &mut O) -> Result<(), Device
 #[tactic(auto, using(ports::proofs::Sending::writing))]
 fn write_block<O: Outputs>(edge: &LentEdge, out: &mut O) -> Result<(), DeviceFault>
     requires { IsOpen (O.seen out.old) }
-    ensures { Writes (O.seen out.old) (build_steps edge.now ++ bindings_steps edge.now) (ended result) (O.seen out.new) }
+    ensures { Writes (O.seen out.old) (build_steps edge.now ++ bindings_steps edge.now) (ending_of_result result) (O.seen out.new) }
 {
     write_build(edge, out)?;
     write_bindings(edge, out)
@@ -139,7 +139,7 @@ fn write_block<O: Outputs>(edge: &LentEdge, out: &mut O) -> Result<(), DeviceFau
 /// there is one, and an empty line (Ninja manual, “Ninja file reference”).
 pub fn write_edge<O: Outputs>(edge: &LentEdge, out: &mut O) -> Result<(), DeviceFault>
     requires { IsOpen (O.seen out.old) }
-    ensures text { Writes (O.seen out.old) (puts (edge_text (lent_view edge.now))) (ended result) (O.seen out.new) }
+    ensures text { Writes (O.seen out.old) (puts (edge_text (lent_view edge.now))) (ending_of_result result) (O.seen out.new) }
     // A reader reads the text as the edge, whatever comes before and after it.
     ensures read { is_writable (lent_view edge.now) ≡ true → (m : Manifest) (rest : List ℕ)
         → reads_from (after_reading m) (edge_text (lent_view edge.now) ++ rest)
@@ -159,7 +159,7 @@ fn write_own_build<O: Outputs>(
     out: &mut O,
 ) -> Result<(), DeviceFault>
     requires { IsOpen (O.seen out.old) }
-    ensures { Writes (O.seen out.old) (own_build_steps shared.now own.now) (ended result) (O.seen out.new) }
+    ensures { Writes (O.seen out.old) (own_build_steps shared.now own.now) (ending_of_result result) (O.seen out.new) }
 {
     put_all(out, b"build")?;
     write_spaced_path(own.output, out)?;
@@ -171,7 +171,7 @@ fn write_own_build<O: Outputs>(
 #[tactic(auto, using(ports::proofs::Sending::writing))]
 fn write_shared<O: Outputs>(shared: &SharedParts, out: &mut O) -> Result<(), DeviceFault>
     requires { IsOpen (O.seen out.old) }
-    ensures { Writes (O.seen out.old) (shared_steps shared.now) (ended result) (O.seen out.new) }
+    ensures { Writes (O.seen out.old) (shared_steps shared.now) (ending_of_result result) (O.seen out.new) }
 {
     write_signed_paths(b" ||", shared.order_only, out)?;
     put_all(out, b"\n COMMAND = ")?;
@@ -181,7 +181,7 @@ fn write_shared<O: Outputs>(shared: &SharedParts, out: &mut O) -> Result<(), Dev
 #[tactic(auto, using(ports::proofs::Sending::writing))]
 fn write_own_bindings<O: Outputs>(own: &OwnParts, out: &mut O) -> Result<(), DeviceFault>
     requires { IsOpen (O.seen out.old) }
-    ensures { Writes (O.seen out.old) (own_bindings_steps own.now) (ended result) (O.seen out.new) }
+    ensures { Writes (O.seen out.old) (own_bindings_steps own.now) (ending_of_result result) (O.seen out.new) }
 {
     write_last_words(own.words, out)?;
     put_all(out, b"\n DESC = ")?;
@@ -199,7 +199,7 @@ fn write_joined_block<O: Outputs>(
 ) -> Result<(), DeviceFault>
     requires { IsOpen (O.seen out.old) }
     ensures { Writes (O.seen out.old)
-        (own_build_steps shared.now own.now ++ (shared_steps shared.now ++ own_bindings_steps own.now)) (ended result)
+        (own_build_steps shared.now own.now ++ (shared_steps shared.now ++ own_bindings_steps own.now)) (ending_of_result result)
         (O.seen out.new) }
 {
     write_own_build(shared, own, out)?;
@@ -216,7 +216,8 @@ pub fn write_joined<O: Outputs>(
 ) -> Result<(), DeviceFault>
     requires open { IsOpen (O.seen out.old) }
     requires first { is_some_list (texts shared.now.words.now) ≡ true }
-    ensures { Writes (O.seen out.old) (puts (edge_text (joined (shared_view shared.now) (own_view own.now)))) (ended result)
+    ensures { Writes (O.seen out.old) (puts (edge_text (edge_of_parts (shared_view shared.now) (own_view own.now))))
+        (ending_of_result result)
         (O.seen out.new) }
 {
     write_joined_block(shared, own, out)

@@ -1,6 +1,6 @@
 //! Writes paths and values, with a `$` before each byte that Ninja would read differently (Ninja manual, “Lexical syntax”).
 ghost use Rattle.std.specs.Prelude.{◌≡◌, [], ◌∷◌, ◌++◌, MatchOption};
-ghost use Rattle.ports.specs.Endings.{ended};
+ghost use Rattle.ports.specs.Endings.{ending_of_result};
 ghost use Rattle.ports.specs.Outputs.{IsOpen, Writes, puts};
 ghost use Rattle.std.specs.List.{flat_map, list_all};
 ghost use Rattle.ninja.specs.Escapes.{path_byte_text, value_byte_text, value_rest_text, starts_with_space, leading_dollar};
@@ -11,9 +11,9 @@ ghost use Rattle.ninja.specs.Places.{byte_text, stays};
 
 use ports::{DeviceFault, Outputs, put_all};
 
-/// Says where bytes are, which decides how they are written.
+/// Says by which rules bytes are escaped: by those of where they are.
 #[derive(Clone, Copy)]
-pub enum Place {
+pub enum EscapeMode {
     InPath,
     InValue,
     /// In a value, between a shell's single quotes.
@@ -50,15 +50,15 @@ fn quoted_escape(byte: u8) -> Option<&'static [u8]>
     }
 }
 
-impl Place {
+impl EscapeMode {
     // Returns the text for the byte, or `None` if the byte is written as itself.
     fn escape(self, byte: u8) -> Option<&'static [u8]>
         ensures { MatchOption result (byte_text self byte ≡ byte ∷ []) (λ text. byte_text self byte ≡ text.now) }
     {
         match self {
-            Place::InPath => path_escape(byte),
-            Place::InValue => value_escape(byte),
-            Place::InQuotes => quoted_escape(byte),
+            EscapeMode::InPath => path_escape(byte),
+            EscapeMode::InValue => value_escape(byte),
+            EscapeMode::InQuotes => quoted_escape(byte),
         }
     }
 
@@ -67,22 +67,22 @@ impl Place {
         ensures { result ≡ stays self byte }
     {
         match self {
-            Place::InPath => !matches!(byte, b'$' | b' ' | b':'),
-            Place::InValue => byte != b'$',
-            Place::InQuotes => !matches!(byte, b'\'' | b'$'),
+            EscapeMode::InPath => !matches!(byte, b'$' | b' ' | b':'),
+            EscapeMode::InValue => byte != b'$',
+            EscapeMode::InQuotes => !matches!(byte, b'\'' | b'$'),
         }
     }
 }
 
-fn all_stay(place: Place, bytes: &[u8]) -> bool
+fn all_stay(place: EscapeMode, bytes: &[u8]) -> bool
     ensures { result ≡ list_all (stays place) bytes.now }
 {
     bytes.iter().all(|byte| place.keeps(*byte))
 }
 
-fn write_byte<O: Outputs>(place: Place, byte: u8, out: &mut O) -> Result<(), DeviceFault>
+fn write_byte<O: Outputs>(place: EscapeMode, byte: u8, out: &mut O) -> Result<(), DeviceFault>
     requires { IsOpen (O.seen out.old) }
-    ensures { Writes (O.seen out.old) (puts (byte_text place byte)) (ended result) (O.seen out.new) }
+    ensures { Writes (O.seen out.old) (puts (byte_text place byte)) (ending_of_result result) (O.seen out.new) }
 {
     match place.escape(byte) {
         Some(escaped) => put_all(out, escaped),
@@ -91,9 +91,9 @@ fn write_byte<O: Outputs>(place: Place, byte: u8, out: &mut O) -> Result<(), Dev
 }
 
 #[tactic(auto, using(ports::proofs::Sending::writing))]
-fn write_each<O: Outputs>(place: Place, bytes: &[u8], out: &mut O) -> Result<(), DeviceFault>
+fn write_each<O: Outputs>(place: EscapeMode, bytes: &[u8], out: &mut O) -> Result<(), DeviceFault>
     requires { IsOpen (O.seen out.old) }
-    ensures { Writes (O.seen out.old) (flat_map (λ b. puts (byte_text place b)) bytes.now) (ended result) (O.seen out.new) }
+    ensures { Writes (O.seen out.old) (flat_map (λ b. puts (byte_text place b)) bytes.now) (ending_of_result result) (O.seen out.new) }
 {
     for byte in bytes {
         write_byte(place, *byte, out)?;
@@ -101,10 +101,14 @@ fn write_each<O: Outputs>(place: Place, bytes: &[u8], out: &mut O) -> Result<(),
     Ok(())
 }
 
-/// Writes bytes in this place, with a single call if each is written as itself.
-pub fn write_escaped<O: Outputs>(place: Place, bytes: &[u8], out: &mut O) -> Result<(), DeviceFault>
+/// Writes bytes in this mode, with a single call if each is written as itself.
+pub fn write_escaped<O: Outputs>(
+    place: EscapeMode,
+    bytes: &[u8],
+    out: &mut O,
+) -> Result<(), DeviceFault>
     requires { IsOpen (O.seen out.old) }
-    ensures { Writes (O.seen out.old) (puts (flat_map (byte_text place) bytes.now)) (ended result) (O.seen out.new) }
+    ensures { Writes (O.seen out.old) (puts (flat_map (byte_text place) bytes.now)) (ending_of_result result) (O.seen out.new) }
 {
     if all_stay(place, bytes) {
         put_all(out, bytes)
@@ -116,9 +120,9 @@ pub fn write_escaped<O: Outputs>(place: Place, bytes: &[u8], out: &mut O) -> Res
 /// Writes a path, with a `$` before each dollar sign, space and colon.
 pub fn write_path<O: Outputs>(path: &str, out: &mut O) -> Result<(), DeviceFault>
     requires { IsOpen (O.seen out.old) }
-    ensures { Writes (O.seen out.old) (puts (path_text path.now)) (ended result) (O.seen out.new) }
+    ensures { Writes (O.seen out.old) (puts (path_text path.now)) (ending_of_result result) (O.seen out.new) }
 {
-    write_escaped(Place::InPath, path.as_bytes(), out)
+    write_escaped(EscapeMode::InPath, path.as_bytes(), out)
 }
 
 fn starts_with_space(bytes: &[u8]) -> bool
@@ -137,17 +141,17 @@ fn leading_dollar(value: &[u8]) -> &'static [u8]
 #[tactic(auto, using(ports::proofs::Sending::writing))]
 fn write_value_bytes<O: Outputs>(value: &[u8], out: &mut O) -> Result<(), DeviceFault>
     requires { IsOpen (O.seen out.old) }
-    ensures { Writes (O.seen out.old) (puts (leading_dollar value.now) ++ puts (value_rest_text value.now)) (ended result)
+    ensures { Writes (O.seen out.old) (puts (leading_dollar value.now) ++ puts (value_rest_text value.now)) (ending_of_result result)
         (O.seen out.new) }
 {
     put_all(out, leading_dollar(value))?;
-    write_escaped(Place::InValue, value, out)
+    write_escaped(EscapeMode::InValue, value, out)
 }
 
 /// Writes a value, with a `$` before each dollar sign and before a leading space.
 pub fn write_value<O: Outputs>(value: &str, out: &mut O) -> Result<(), DeviceFault>
     requires { IsOpen (O.seen out.old) }
-    ensures { Writes (O.seen out.old) (puts (value_text value.now)) (ended result) (O.seen out.new) }
+    ensures { Writes (O.seen out.old) (puts (value_text value.now)) (ending_of_result result) (O.seen out.new) }
 {
     write_value_bytes(value.as_bytes(), out)
 }

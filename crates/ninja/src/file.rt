@@ -1,7 +1,7 @@
 //! Writes the head and the tail of the file.
 ghost use Rattle.std.specs.Prelude.{◌≡◌};
 ghost use Rattle.std.specs.List.{flat_map};
-ghost use Rattle.ports.specs.Endings.{ended};
+ghost use Rattle.ports.specs.Endings.{ending_of_result};
 ghost use Rattle.ports.specs.Outputs.{IsOpen, Writes, puts};
 ghost use Rattle.build.specs.View.{target_view};
 ghost use Rattle.ninja.specs.Defaults.{default_outputs, is_default};
@@ -11,7 +11,7 @@ ghost use Rattle.ninja.specs.Writing.{head_text, tail_text};
 
 use crate::edges::write_paths;
 use build::project::Project;
-use build::{Linked, Target};
+use build::{DeclaredTarget, Target};
 use ports::{DeviceFault, Outputs, put_all};
 
 const HEAD: &[u8] = b"ninja_required_version = 1.3
@@ -48,7 +48,7 @@ rule custom_dep
 /// Writes the text before the edges: the version of Ninja that the file needs, and the six rules.
 pub fn write_head<O: Outputs>(out: &mut O) -> Result<(), DeviceFault>
     requires { IsOpen (O.seen out.old) }
-    ensures { Writes (O.seen out.old) (puts head_text) (ended result) (O.seen out.new) }
+    ensures { Writes (O.seen out.old) (puts head_text) (ending_of_result result) (O.seen out.new) }
 {
     put_all(out, HEAD)
 }
@@ -64,9 +64,9 @@ fn is_default(target: &Target) -> bool
 
 // Writes the paths by which `all` names a target.
 #[tactic(auto, using(ports::proofs::Sending::writing))]
-fn write_default<O: Outputs>(linked: &Linked, out: &mut O) -> Result<(), DeviceFault>
+fn write_default<O: Outputs>(linked: &DeclaredTarget, out: &mut O) -> Result<(), DeviceFault>
     requires { IsOpen (O.seen out.old) }
-    ensures { Writes (O.seen out.old) (default_steps linked.now) (ended result) (O.seen out.new) }
+    ensures { Writes (O.seen out.old) (default_steps linked.now) (ending_of_result result) (O.seen out.new) }
 {
     if is_default(&linked.target) {
         write_paths(&linked.paths, out)
@@ -76,9 +76,9 @@ fn write_default<O: Outputs>(linked: &Linked, out: &mut O) -> Result<(), DeviceF
 }
 
 #[tactic(auto, using(ports::proofs::Sending::writing))]
-fn write_defaults<O: Outputs>(targets: &[Linked], out: &mut O) -> Result<(), DeviceFault>
+fn write_defaults<O: Outputs>(targets: &[DeclaredTarget], out: &mut O) -> Result<(), DeviceFault>
     requires { IsOpen (O.seen out.old) }
-    ensures { Writes (O.seen out.old) (flat_map default_steps targets.now) (ended result) (O.seen out.new) }
+    ensures { Writes (O.seen out.old) (flat_map default_steps targets.now) (ending_of_result result) (O.seen out.new) }
 {
     for linked in targets {
         write_default(linked, out)?;
@@ -87,9 +87,9 @@ fn write_defaults<O: Outputs>(targets: &[Linked], out: &mut O) -> Result<(), Dev
 }
 
 #[tactic(auto, using(ports::proofs::Sending::writing))]
-fn write_all<O: Outputs>(targets: &[Linked], out: &mut O) -> Result<(), DeviceFault>
+fn write_all<O: Outputs>(targets: &[DeclaredTarget], out: &mut O) -> Result<(), DeviceFault>
     requires { IsOpen (O.seen out.old) }
-    ensures { Writes (O.seen out.old) (all_steps targets.now) (ended result) (O.seen out.new) }
+    ensures { Writes (O.seen out.old) (all_steps targets.now) (ending_of_result result) (O.seen out.new) }
 {
     put_all(out, b"build all: phony")?;
     write_defaults(targets, out)?;
@@ -100,7 +100,7 @@ fn write_all<O: Outputs>(targets: &[Linked], out: &mut O) -> Result<(), DeviceFa
 /// it.
 pub fn write_tail<O: Outputs>(project: &Project, out: &mut O) -> Result<(), DeviceFault>
     requires { IsOpen (O.seen out.old) }
-    ensures { Writes (O.seen out.old) (puts (tail_text (default_outputs project.now))) (ended result) (O.seen out.new) }
+    ensures { Writes (O.seen out.old) (puts (tail_text (default_outputs project.now))) (ending_of_result result) (O.seen out.new) }
 {
     write_all(project.targets(), out)
 }

@@ -1,15 +1,15 @@
 //! Writes the words of a command, quoted for a POSIX shell.
 ghost use Rattle.std.specs.Prelude.{◌≡◌, true, IsTrue, ◌&&◌, not, option_map, if◌then◌else◌};
-ghost use Rattle.ports.specs.Endings.{ended};
+ghost use Rattle.ports.specs.Endings.{ending_of_result};
 ghost use Rattle.ports.specs.Outputs.{IsOpen, Writes, puts};
 ghost use Rattle.build.specs.edge.Texts.{texts};
 ghost use Rattle.ninja.specs.Shell.{is_bare_byte, is_reserved, has_equals, is_no_first_word};
 ghost use Rattle.ninja.specs.Escapes.{value_rest_text, value_text};
-ghost use Rattle.ninja.specs.Words.{first_word_text, is_all_bare, is_bare, quoted, word_text, words_text};
+ghost use Rattle.ninja.specs.Words.{first_word_text, is_all_bare, is_bare, single_quoted_word, word_text, words_text};
 ghost use Rattle.ninja.specs.Steps.{last_words_steps, later_word_steps, later_words_steps, lone_redirect_steps, quoted_steps};
 ghost use Rattle.ninja.specs.Steps.{redirect_steps, words_steps};
 
-use crate::escapes::{Place, write_escaped};
+use crate::escapes::{EscapeMode, write_escaped};
 use ports::{DeviceFault, Outputs, put_all};
 
 fn is_bare_word_byte(byte: u8) -> bool
@@ -66,10 +66,10 @@ fn is_bare_first_word(word: &str) -> bool
 #[tactic(auto, using(ports::proofs::Sending::writing))]
 fn write_quoted<O: Outputs>(word: &str, out: &mut O) -> Result<(), DeviceFault>
     requires { IsOpen (O.seen out.old) }
-    ensures { Writes (O.seen out.old) (quoted_steps word.now) (ended result) (O.seen out.new) }
+    ensures { Writes (O.seen out.old) (quoted_steps word.now) (ending_of_result result) (O.seen out.new) }
 {
     put_all(out, b"'")?;
-    write_escaped(Place::InQuotes, word.as_bytes(), out)?;
+    write_escaped(EscapeMode::InQuotes, word.as_bytes(), out)?;
     put_all(out, b"'")
 }
 
@@ -77,7 +77,8 @@ fn write_quoted<O: Outputs>(word: &str, out: &mut O) -> Result<(), DeviceFault>
 fn write_word_as<O: Outputs>(word: &str, bare: bool, out: &mut O) -> Result<(), DeviceFault>
     requires open { IsOpen (O.seen out.old) }
     requires bare { IsTrue bare → is_bare word.now ≡ true }
-    ensures { Writes (O.seen out.old) (puts (value_rest_text (if bare then word.now else quoted word.now))) (ended result)
+    ensures { Writes (O.seen out.old) (puts (value_rest_text (if bare then word.now else single_quoted_word word.now)))
+        (ending_of_result result)
         (O.seen out.new) }
 {
     if bare {
@@ -89,14 +90,14 @@ fn write_word_as<O: Outputs>(word: &str, bare: bool, out: &mut O) -> Result<(), 
 
 fn write_word<O: Outputs>(word: &str, out: &mut O) -> Result<(), DeviceFault>
     requires { IsOpen (O.seen out.old) }
-    ensures { Writes (O.seen out.old) (puts (value_rest_text (word_text word.now))) (ended result) (O.seen out.new) }
+    ensures { Writes (O.seen out.old) (puts (value_rest_text (word_text word.now))) (ending_of_result result) (O.seen out.new) }
 {
     write_word_as(word, is_bare_word(word), out)
 }
 
 fn write_first_word<O: Outputs>(word: &str, out: &mut O) -> Result<(), DeviceFault>
     requires { IsOpen (O.seen out.old) }
-    ensures { Writes (O.seen out.old) (puts (value_rest_text (first_word_text word.now))) (ended result) (O.seen out.new) }
+    ensures { Writes (O.seen out.old) (puts (value_rest_text (first_word_text word.now))) (ending_of_result result) (O.seen out.new) }
 {
     write_word_as(word, is_bare_first_word(word), out)
 }
@@ -104,7 +105,7 @@ fn write_first_word<O: Outputs>(word: &str, out: &mut O) -> Result<(), DeviceFau
 #[tactic(auto, using(ports::proofs::Sending::writing))]
 fn write_later_word<O: Outputs>(word: &str, out: &mut O) -> Result<(), DeviceFault>
     requires { IsOpen (O.seen out.old) }
-    ensures { Writes (O.seen out.old) (later_word_steps word.now) (ended result) (O.seen out.new) }
+    ensures { Writes (O.seen out.old) (later_word_steps word.now) (ending_of_result result) (O.seen out.new) }
 {
     put_all(out, b" ")?;
     write_word(word, out)
@@ -113,7 +114,7 @@ fn write_later_word<O: Outputs>(word: &str, out: &mut O) -> Result<(), DeviceFau
 #[tactic(auto, using(ports::proofs::Sending::writing))]
 fn write_later_words<O: Outputs>(words: &[String], out: &mut O) -> Result<(), DeviceFault>
     requires { IsOpen (O.seen out.old) }
-    ensures { Writes (O.seen out.old) (later_words_steps words.now) (ended result) (O.seen out.new) }
+    ensures { Writes (O.seen out.old) (later_words_steps words.now) (ending_of_result result) (O.seen out.new) }
 {
     for word in words {
         write_later_word(word, out)?;
@@ -125,7 +126,7 @@ fn write_later_words<O: Outputs>(words: &[String], out: &mut O) -> Result<(), De
 #[tactic(auto, using(ports::proofs::Sending::writing))]
 pub fn write_last_words<O: Outputs>(words: &[&str], out: &mut O) -> Result<(), DeviceFault>
     requires { IsOpen (O.seen out.old) }
-    ensures { Writes (O.seen out.old) (last_words_steps words.now) (ended result) (O.seen out.new) }
+    ensures { Writes (O.seen out.old) (last_words_steps words.now) (ending_of_result result) (O.seen out.new) }
 {
     for word in words {
         write_later_word(word, out)?;
@@ -136,7 +137,7 @@ pub fn write_last_words<O: Outputs>(words: &[&str], out: &mut O) -> Result<(), D
 #[tactic(auto, using(ports::proofs::Sending::writing))]
 fn write_redirect<O: Outputs>(redirect: Option<&str>, out: &mut O) -> Result<(), DeviceFault>
     requires { IsOpen (O.seen out.old) }
-    ensures { Writes (O.seen out.old) (redirect_steps (option_map (λ s. s.now) redirect.entry)) (ended result) (O.seen out.new) }
+    ensures { Writes (O.seen out.old) (redirect_steps (option_map (λ s. s.now) redirect.entry)) (ending_of_result result) (O.seen out.new) }
 {
     match redirect {
         None => Ok(()),
@@ -150,7 +151,8 @@ fn write_redirect<O: Outputs>(redirect: Option<&str>, out: &mut O) -> Result<(),
 #[tactic(auto, using(ports::proofs::Sending::writing))]
 fn write_lone_redirect<O: Outputs>(redirect: Option<&str>, out: &mut O) -> Result<(), DeviceFault>
     requires { IsOpen (O.seen out.old) }
-    ensures { Writes (O.seen out.old) (lone_redirect_steps (option_map (λ s. s.now) redirect.entry)) (ended result) (O.seen out.new) }
+    ensures { Writes (O.seen out.old) (lone_redirect_steps (option_map (λ s. s.now) redirect.entry)) (ending_of_result result)
+        (O.seen out.new) }
 {
     match redirect {
         None => Ok(()),
@@ -169,7 +171,7 @@ fn write_words_from<O: Outputs>(
     out: &mut O,
 ) -> Result<(), DeviceFault>
     requires { IsOpen (O.seen out.old) }
-    ensures { Writes (O.seen out.old) (words_steps first.now later.now (option_map (λ s. s.now) redirect.entry)) (ended result)
+    ensures { Writes (O.seen out.old) (words_steps first.now later.now (option_map (λ s. s.now) redirect.entry)) (ending_of_result result)
         (O.seen out.new) }
 {
     write_first_word(first, out)?;
@@ -185,7 +187,7 @@ pub fn write_words<O: Outputs>(
 ) -> Result<(), DeviceFault>
     requires { IsOpen (O.seen out.old) }
     ensures { Writes (O.seen out.old) (puts (value_text (words_text (texts words.now) (option_map (λ s. s.now) redirect.entry))))
-        (ended result) (O.seen out.new) }
+        (ending_of_result result) (O.seen out.new) }
 {
     match words {
         [] => write_lone_redirect(redirect, out),

@@ -1,7 +1,7 @@
 -- What the definitions say of operations that are written out.
 use Rattle.std.proofs.Common.{◌≡◌, pos, negsuc, true, false, [], ◌∷◌, codes, Ok, Err, refl}
 use Rattle.values.specs.declared.object.Object.TheVariants as TheObject
-use Rattle.values.specs.declared.refusal.Refusal.TheVariants as refusal
+use Rattle.values.specs.declared.refusal.OperationRefusal.TheVariants as refusal
 use Rattle.values.specs.Data.{boolean, integer, text, list, dictionary, object, no_items, item, no_entries, entry}
 use Rattle.operations.specs.declared.operators.operator.Binary.TheVariants.{Add, Divide, Remainder, Equal, Less, In}
 use Rattle.operations.specs.declared.operators.operator.Unary.TheVariants.{Negate}

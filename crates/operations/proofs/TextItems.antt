@@ -9,8 +9,8 @@ use Rattle.std.specs.Prelude.{nat_le}
 use Rattle.values.specs.Data.{text, Items, no_items, item, items_append}
 use Rattle.values.specs.Limits.{Appends, within}
 use Rattle.values.specs.View.{data_of, items_of}
-use Rattle.values.specs.declared.refusal.Refusal.{Refusal}
-use Rattle.values.specs.declared.refusal.Refusal.TheVariants as refusals
+use Rattle.values.specs.declared.refusal.OperationRefusal.{OperationRefusal}
+use Rattle.values.specs.declared.refusal.OperationRefusal.TheVariants as refusals
 use Rattle.values.specs.declared.text.Text.{Text}
 use Rattle.values.specs.declared.value.Value.{Value}
 use Rattle.values.specs.declared.value.Value.TheVariants as values
@@ -18,7 +18,7 @@ use Rattle.values.proofs.ItemsLemmas.{items_of-push}
 use Rattle.operations.specs.operators.TextLists.{PutsText, and_then, texts_behind}
 
 -- one text more
-pub texts_more : (vs new : List Value) (v : Value) (texts : List (Bor (List ℕ))) (i : ℕ) (d t : Bor (List ℕ)) (whole : Result Items Refusal)
+pub texts_more : (vs new : List Value) (v : Value) (texts : List (Bor (List ℕ))) (i : ℕ) (d t : Bor (List ℕ)) (whole : Result Items OperationRefusal)
     → i < length texts → t ≡ get_or texts i d → within (text t.now) ≡ Ok (data_of v) → new ≡ vs ++ v ∷ []
     → texts_behind (items_of vs) (map (λ u. u.now) (drop i texts)) ≡ whole
     → texts_behind (items_of new) (map (λ u. u.now) (drop (i + 1) texts)) ≡ whole
@@ -31,7 +31,7 @@ texts_more vs new v texts i d t whole h is w n now =
     ∙ now
 
 -- a text that is past the limit
-pub texts_past : (vs : List Value) (texts : List (Bor (List ℕ))) (i : ℕ) (d t : Bor (List ℕ)) (e : Refusal) (whole : Result Items Refusal)
+pub texts_past : (vs : List Value) (texts : List (Bor (List ℕ))) (i : ℕ) (d t : Bor (List ℕ)) (e : OperationRefusal) (whole : Result Items OperationRefusal)
     → i < length texts → t ≡ get_or texts i d → within (text t.now) ≡ Err e
     → texts_behind (items_of vs) (map (λ u. u.now) (drop i texts)) ≡ whole → Err e ≡ whole
 texts_past vs texts i d t e whole h is w now =
@@ -48,7 +48,7 @@ within_long : (t : List ℕ) → 16777216 < length t → within (text t) ≡ Err
 within_long t long = cond-false (nat_le (length t) 16777216) (Ok (text t)) (Err refusals.Limit) (search (rules, tests))
 
 -- a text that became longer where it lies, behind the others
-pub puts_text : (before after : List Value) (at : ℕ) (empty lies made : Text) (t : List ℕ) (put : Result (Unit {0}) Refusal)
+pub puts_text : (before after : List Value) (at : ℕ) (empty lies made : Text) (t : List ℕ) (put : Result (Unit {0}) OperationRefusal)
     → at ≡ length before → after ≡ before ++ values.Text empty ∷ [] → lies ≡ [] → Appends lies t made put
     → PutsText before t (set after at (values.Text made)) put
 puts_text before after at empty lies made t (Ok done) place stands none grown = (

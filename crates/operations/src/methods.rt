@@ -16,6 +16,7 @@
 //! **A set sorts the keys.** `keys` inserts the keys of a dictionary into an ordered set. The contract of the set says where each key goes,
 //! so the order is stated exactly. The keys are shared with the dictionary.
 
+mod argument_words;
 mod booleans;
 mod dictionaries;
 mod flattening;
@@ -26,11 +27,10 @@ mod lists;
 mod methods;
 pub mod readers;
 mod stop;
-mod takes;
 mod text_methods;
 
+pub use argument_words::takes_words;
 pub use flattening::flat_texts;
 pub use formatted::format_text;
 pub use laws::{keys_ascend, places_count};
 pub use methods::{has_method, method};
-pub use takes::takes_words;

@@ -8,14 +8,14 @@ use Rattle.std.specs.Option.{option_and_then}
 use Rattle.std.specs.declared.alloc.Global.{Global}
 use Rattle.syntax.specs.declared.tree.Argument.{Argument}
 use Rattle.syntax.specs.ExpressionTree.{ArgumentTree, NoArgument, MoreArguments, arguments, argument_of, argument_trees}
-use Rattle.machine.specs.option_values.View.{strings_in}
+use Rattle.option_values.specs.View.{strings_in}
 use Rattle.options.specs.option_file.Calls.{stands_key, with_key, gives_twice, is_left_out_key, gives_left_out, with_argument}
 use Rattle.options.specs.option_file.Calls.{keywords_from}
 use Rattle.options.specs.option_file.Calls.{first_left_out, first_twice, option_of, or_fault, call_declares, unfit}
 use Rattle.options.specs.option_file.Declarations.{Declaration}
 use Rattle.options.specs.option_file.Keywords.{Keywords, nothing_given}
 use Rattle.options.specs.option_file.Misfits.{LeftOut, RefusedData, Twice, refused_as}
-use Rattle.options.specs.option_file.Unfit.{listed}
+use Rattle.options.specs.option_file.Unfit.{list_of_arguments}
 use Rattle.support.specs.Among.{is_among}
 use Rattle.options.proofs.Walks.{next_is, none_is}
 
@@ -96,7 +96,7 @@ keywords_end xs k i h le = sym (h ∙ ap (keywords_from k) (trees_end xs i le))
 
 -- ---- a call as a whole
 
-listed_trees : (xs : List Argument) → listed (argument_trees xs) ≡ map argument_of xs
+listed_trees : (xs : List Argument) → list_of_arguments (argument_trees xs) ≡ map argument_of xs
 listed_trees [] = refl
 listed_trees (x ∷ xs) = ap (λ (ts : List ArgumentTree). argument_of x ∷ ts) (listed_trees xs)
 
@@ -107,14 +107,14 @@ abbrev told_left_out : List ArgumentTree → Result Declaration RefusedData
 told_left_out ts = Err (refused_as (LeftOut (first_left_out ts)))
 
 abbrev other : ℕ → List Argument → Result Declaration RefusedData
-other line xs = or_fault (unfit (listed (argument_trees xs))) (option_of line (argument_trees xs))
+other line xs = or_fault (unfit (list_of_arguments (argument_trees xs))) (option_of line (argument_trees xs))
 
 abbrev unless_left_out : ℕ → List Argument → Bool → Result Declaration RefusedData
-unless_left_out line xs l = if l then told_left_out (listed (argument_trees xs)) else other line xs
+unless_left_out line xs l = if l then told_left_out (list_of_arguments (argument_trees xs)) else other line xs
 
 abbrev unless_twice : ℕ → List Argument → Bool → Result Declaration RefusedData
 unless_twice line xs b =
-    if b then told_twice (listed (argument_trees xs)) else unless_left_out line xs (gives_left_out (argument_trees xs))
+    if b then told_twice (list_of_arguments (argument_trees xs)) else unless_left_out line xs (gives_left_out (argument_trees xs))
 
 pub call_twice : (line : ℕ) (xs : List Argument) (b : Bool) → b ≡ gives_twice [] (argument_trees xs) → b ≡ true
     → Err (refused_as (Twice (first_twice [] (map argument_of xs)))) ≡ call_declares line (argument_trees xs)
@@ -135,6 +135,6 @@ pub call_else : (line : ℕ) (xs : List Argument) (b l : Bool) (o : Option Decla
     → or_fault (unfit (map argument_of xs)) o ≡ call_declares line (argument_trees xs)
 call_else line xs b l o e f g n is =
     ap (λ (ts : List ArgumentTree). or_fault (unfit ts) o) (sym (listed_trees xs))
-    ∙ ap (or_fault (unfit (listed (argument_trees xs)))) is
+    ∙ ap (or_fault (unfit (list_of_arguments (argument_trees xs)))) is
     ∙ ap (unless_left_out line xs) (sym n ∙ g ∙ left_out_any xs)
     ∙ once line xs b e f

@@ -1,8 +1,8 @@
 -- What `auto_features` makes of a value.
 use Rattle.std.proofs.Common.{◌≡◌, true, false, refl}
-use Rattle.machine.specs.declared.option_values.kind.FeatureState.{FeatureState}
-use Rattle.machine.specs.declared.option_values.kind.FeatureState.TheVariants as feature
-use Rattle.machine.specs.option_values.Values as value
+use Rattle.option_values.specs.declared.kind.FeatureState.{FeatureState}
+use Rattle.option_values.specs.declared.kind.FeatureState.TheVariants as feature
+use Rattle.option_values.specs.Values as value
 use Rattle.options.specs.FillIns.{decided_value, is_auto}
 
 pub is_decided : (state : FeatureState) (w : value.Value) → is_auto w ≡ true → value.Feature state ≡ decided_value state w

@@ -6,16 +6,16 @@ use Rattle.std.specs.declared.alloc.Global.{Global}
 use Rattle.std.specs.Map.{lookup, set_value}
 use Rattle.std.specs.Str.{bytes_eq}
 use Rattle.support.specs.Maps.{set_value_at}
-use Rattle.machine.specs.option_values.Values.{Value}
-use Rattle.machine.specs.declared.option_values.settings.Setting.{Setting}
-use Rattle.machine.specs.option_values.Settings as plain
-use Rattle.machine.specs.option_values.Settings.{fill, or_given, change_at}
-use Rattle.machine.specs.declared.option_values.kind.OptionValue.{OptionValue}
-use Rattle.machine.specs.declared.option_values.kind.FeatureState.{FeatureState}
-use Rattle.machine.specs.declared.option_values.kind.OptionValue.TheVariants as kinds
-use Rattle.machine.specs.option_values.View.{value_in}
-use Rattle.machine.specs.option_values.SettingsView.{setting_in, entry_in, settings_in}
-use Rattle.options.specs.FillIns.{is_auto, decided}
+use Rattle.option_values.specs.Values.{Value}
+use Rattle.option_values.specs.declared.settings.Setting.{Setting}
+use Rattle.option_values.specs.Settings as plain
+use Rattle.option_values.specs.Settings.{fill, or_given, change_at}
+use Rattle.option_values.specs.declared.kind.OptionValue.{OptionValue}
+use Rattle.option_values.specs.declared.kind.FeatureState.{FeatureState}
+use Rattle.option_values.specs.declared.kind.OptionValue.TheVariants as kinds
+use Rattle.option_values.specs.View.{value_in}
+use Rattle.option_values.specs.SettingsView.{setting_in, entry_in, settings_in}
+use Rattle.options.specs.FillIns.{is_auto, decided_setting}
 use Rattle.options.proofs.Decided.{is_decided, stays_decided}
 
 -- an option of any name has become what f makes of it
@@ -126,7 +126,7 @@ none_changed f (suc i) (e ∷ es) g = ap (λ (l : List plain.Setting). entry_in 
 
 -- a feature that is `auto` takes the state
 pub takes_state : (state : FeatureState) (s : Setting) → true ≡ is_auto (value_in s.value)
-    → Becomes (decided state) s (record { value = kinds.Feature state; given = s.given })
+    → Becomes (decided_setting state) s (record { value = kinds.Feature state; given = s.given })
 takes_state state s auto name = ap (λ (v : Value). setting_of name v s.given) (is_decided state (value_in s.value) (sym auto))
   where
     setting_of : List ℕ → Value → Bool → plain.Setting
@@ -134,7 +134,7 @@ takes_state state s auto name = ap (λ (v : Value). setting_of name v s.given) (
 
 -- and no other does
 pub keeps_state : (state : FeatureState) (e : String Global × Setting) → is_auto (value_in e.1.value) ≡ false
-    → entry_in e ≡ decided state (entry_in e)
+    → entry_in e ≡ decided_setting state (entry_in e)
 keeps_state state e auto = ap (λ (v : Value). setting_of v) (sym (stays_decided state (value_in e.1.value) auto))
   where
     setting_of : Value → plain.Setting

@@ -6,23 +6,23 @@ use Rattle.std.specs.List.{list_all, fold, flat_map}
 use Rattle.std.specs.Option.{option_and_then}
 use Rattle.std.proofs.lemmas.List.{append-nil}
 use Rattle.std.proofs.lemmas.List.Sums.{fold-append}
-use Rattle.machine.specs.machine_file.Files as machine
+use Rattle.machine_file.specs.Files as machine
 use Rattle.support.specs.Among.{is_among}
-use Rattle.machine.specs.declared.option_values.kind.FeatureState.{FeatureState}
-use Rattle.machine.specs.declared.option_values.kind.FeatureState.TheVariants as feature
-use Rattle.machine.specs.option_values.BuiltIns.{built_ins, built_in_kinds, built_in_kind, levels}
-use Rattle.machine.specs.option_values.Kinds as kind
-use Rattle.machine.specs.option_values.Values as value
+use Rattle.option_values.specs.declared.kind.FeatureState.{FeatureState}
+use Rattle.option_values.specs.declared.kind.FeatureState.TheVariants as feature
+use Rattle.option_values.specs.BuiltIns.{built_ins, built_in_kinds, built_in_kind, levels}
+use Rattle.option_values.specs.Kinds as kind
+use Rattle.option_values.specs.Values as value
 use Rattle.options.specs.option_file.Declarations.{Declaration}
 use Rattle.options.specs.option_file.Lookups.{is_new, are_new_after, are_new}
 use Rattle.options.specs.Faults.{OptionFaultData}
 use Rattle.options.specs.Defaults.{default_of}
 use Rattle.options.specs.FillIns as filling
-use Rattle.options.specs.FillIns.{build_types, type_among, with_type, by_buildtype, by_prefix, by_auto_features, decided, decided_value}
+use Rattle.options.specs.FillIns.{build_types, type_among, with_type, by_buildtype, by_prefix, by_auto_features, decided_setting, decided_value}
 use Rattle.options.specs.FillIns.{with_state, state_at, text_at, is_usr, filled_in}
 use Rattle.options.specs.Laws.{fits, fits_known, has_fitting, all_fit, names_in, built_in_names, declared_names}
-use Rattle.options.specs.Resolves.{State, after_verdict, unless_fault, next, verdicts, at_first, outcome_of, resolved}
-use Rattle.machine.specs.option_values.Settings.{Setting, put, or_given, fill, built_in_settings}
+use Rattle.options.specs.Resolves.{State, after_verdict, unless_fault, next, verdicts, at_first, outcome_of, resolved_options}
+use Rattle.option_values.specs.Settings.{Setting, settings_with, or_given, fill, built_in_settings}
 use Rattle.options.specs.Verdicts.{Verdict, Sets, Warns, Refuses, Default, of_declaration, of_default, of_project_default, of_section}
 use Rattle.options.specs.Verdicts.{of_words, kind_named}
 use Rattle.options.proofs.Bools.{both, first, second}
@@ -33,15 +33,15 @@ use Rattle.options.proofs.VerdictFits.{verdict_fits, verdicts_fit, others_fit}
 -- ---- each value is one of its option's type
 
 put_here : (ds : List Declaration) (s t : Setting) (ts : List Setting) (b : Bool) → bytes_eq s.name t.name ≡ b → has_fitting ds s ≡ true
-    → (has_fitting ds t && all_fit ds ts) ≡ true → all_fit ds (put s ts) ≡ true
-    → all_fit ds (if b then record t { value = s.value; given = s.given } ∷ ts else t ∷ put s ts) ≡ true
+    → (has_fitting ds t && all_fit ds ts) ≡ true → all_fit ds (settings_with s ts) ≡ true
+    → all_fit ds (if b then record t { value = s.value; given = s.given } ∷ ts else t ∷ settings_with s ts) ≡ true
 put_here ds s t ts true e h all rest =
     both _ (all_fit ds ts) (ap (λ (n : List ℕ). fits_known (kind_named ds n) s.value) (sym (same_name s.name t.name e))
     ∙ h) (second (has_fitting ds t) _ all)
 put_here ds s t ts false e h all rest = both (has_fitting ds t) _ (first (has_fitting ds t) _ all) rest
 
 put_fits : (ds : List Declaration) (s : Setting) (ss : List Setting) → has_fitting ds s ≡ true → all_fit ds ss ≡ true
-    → all_fit ds (put s ss) ≡ true
+    → all_fit ds (settings_with s ss) ≡ true
 put_fits ds s [] h all = both (has_fitting ds s) true h refl
 put_fits ds s (t ∷ ts) h all = put_here ds s t ts (bytes_eq s.name t.name) refl h all (put_fits ds s ts h (second (has_fitting ds t) _ all))
 
@@ -169,10 +169,10 @@ decided_known o state (value.Integer number) e = e
 decided_known o state (value.Array items) e = e
 
 decided_fit : (ds : List Declaration) (state : FeatureState) (ss : List Setting) → all_fit ds ss ≡ true
-    → all_fit ds (map (decided state) ss) ≡ true
+    → all_fit ds (map (decided_setting state) ss) ≡ true
 decided_fit ds state [] all = refl
 decided_fit ds state (s ∷ ss) all =
-    both (has_fitting ds (decided state s)) (all_fit ds (map (decided state) ss))
+    both (has_fitting ds (decided_setting state s)) (all_fit ds (map (decided_setting state) ss))
     (decided_known (kind_named ds s.name) state s.value (first (has_fitting ds s) _ all))
     (decided_fit ds state ss (second (has_fitting ds s) _ all))
 
@@ -192,8 +192,8 @@ ended (Some fault) before ss e = absurd cc
 
 pub final_fit : (ds : List Declaration) (defaults : List Default) (sections : List machine.Section) (words : List (List ℕ))
     (ss : List Setting)
-    → are_new ds ≡ true → (resolved ds defaults sections words).outcome ≡ Ok ss → all_fit ds ss ≡ true
-unfolding resolved at_first
+    → are_new ds ≡ true → (resolved_options ds defaults sections words).outcome ≡ Ok ss → all_fit ds ss ≡ true
+unfolding resolved_options at_first
 final_fit ds defaults sections words ss new e =
     let s = fold next at_first (verdicts ds defaults sections words) in
     ap (all_fit ds) (sym (ended s.fault s.settings ss e).1)
@@ -203,22 +203,22 @@ final_fit ds defaults sections words ss new e =
 -- ---- the names, in their order
 
 put_there : (s t : Setting) (ts : List Setting) (b : Bool) → (b || is_named s.name (names_in ts)) ≡ true
-    → (is_named s.name (names_in ts) ≡ true → names_in (put s ts) ≡ names_in ts)
-    → names_in (if b then record t { value = s.value; given = s.given } ∷ ts else t ∷ put s ts) ≡ t.name ∷ names_in ts
+    → (is_named s.name (names_in ts) ≡ true → names_in (settings_with s ts) ≡ names_in ts)
+    → names_in (if b then record t { value = s.value; given = s.given } ∷ ts else t ∷ settings_with s ts) ≡ t.name ∷ names_in ts
 put_there s t ts true e rest = refl
 put_there s t ts false e rest = ap (λ (ns : List (List ℕ)). t.name ∷ ns) (rest e)
 
-put_known : (s : Setting) (ss : List Setting) → is_named s.name (names_in ss) ≡ true → names_in (put s ss) ≡ names_in ss
+put_known : (s : Setting) (ss : List Setting) → is_named s.name (names_in ss) ≡ true → names_in (settings_with s ss) ≡ names_in ss
 put_known s [] e = absurd cc
 put_known s (t ∷ ts) e = put_there s t ts (bytes_eq s.name t.name) e (put_known s ts)
 
 put_behind : (s t : Setting) (ts : List Setting) (b : Bool) → (b || is_named s.name (names_in ts)) ≡ false
-    → (is_named s.name (names_in ts) ≡ false → names_in (put s ts) ≡ names_in ts ++ s.name ∷ [])
-    → names_in (if b then record t { value = s.value; given = s.given } ∷ ts else t ∷ put s ts) ≡ t.name ∷ (names_in ts ++ s.name ∷ [])
+    → (is_named s.name (names_in ts) ≡ false → names_in (settings_with s ts) ≡ names_in ts ++ s.name ∷ [])
+    → names_in (if b then record t { value = s.value; given = s.given } ∷ ts else t ∷ settings_with s ts) ≡ t.name ∷ (names_in ts ++ s.name ∷ [])
 put_behind s t ts true e rest = absurd cc
 put_behind s t ts false e rest = ap (λ (ns : List (List ℕ)). t.name ∷ ns) (rest e)
 
-put_new : (s : Setting) (ss : List Setting) → is_named s.name (names_in ss) ≡ false → names_in (put s ss) ≡ names_in ss ++ s.name ∷ []
+put_new : (s : Setting) (ss : List Setting) → is_named s.name (names_in ss) ≡ false → names_in (settings_with s ss) ≡ names_in ss ++ s.name ∷ []
 put_new s [] e = refl
 put_new s (t ∷ ts) e = put_behind s t ts (bytes_eq s.name t.name) e (put_new s ts)
 
@@ -293,7 +293,7 @@ fill_named name v (s ∷ ss) = step (bytes_eq name s.name) (fill_named name v ss
     step true rest = ap (λ (n : List ℕ). n ∷ names_in ss) (given_name v s s.given)
     step false rest = ap (λ (ns : List (List ℕ)). s.name ∷ ns) rest
 
-decided_named : (state : FeatureState) (ss : List Setting) → names_in (map (decided state) ss) ≡ names_in ss
+decided_named : (state : FeatureState) (ss : List Setting) → names_in (map (decided_setting state) ss) ≡ names_in ss
 decided_named state [] = refl
 decided_named state (s ∷ ss) = ap (λ (ns : List (List ℕ)). s.name ∷ ns) (decided_named state ss)
 
@@ -324,8 +324,8 @@ first_named = refl
 
 pub final_names : (ds : List Declaration) (defaults : List Default) (sections : List machine.Section) (words : List (List ℕ))
     (ss : List Setting)
-    → are_new ds ≡ true → (resolved ds defaults sections words).outcome ≡ Ok ss → names_in ss ≡ built_in_names ++ declared_names ds
-unfolding resolved at_first
+    → are_new ds ≡ true → (resolved_options ds defaults sections words).outcome ≡ Ok ss → names_in ss ≡ built_in_names ++ declared_names ds
+unfolding resolved_options at_first
 final_names ds defaults sections words ss new e =
     let ls = map of_declaration ds in
     let others = map (of_project_default ds) defaults ++ (flat_map (of_section ds) sections ++ of_words ds 1 words) in

@@ -5,14 +5,14 @@ use Rattle.std.specs.List.{list_any, list_all}
 use Rattle.std.specs.Option.{option_map, option_and_then, unwrap_or}
 use Rattle.std.proofs.lemmas.Slice.Eq.{bytes_eq-Decides}
 use Rattle.support.specs.Among.{is_among}
-use Rattle.machine.specs.machine_file.Values as written
-use Rattle.machine.specs.option_values.Given.{value_of_items, value_of_given, printed, boolean_text}
-use Rattle.machine.specs.option_values.Integers.{is_within, bounded, integer_of}
-use Rattle.machine.specs.declared.option_values.kind.FeatureState.{FeatureState}
-use Rattle.machine.specs.option_values.Kinds as kind
-use Rattle.machine.specs.option_values.Lists.{are_among, items_of, word_items_of}
-use Rattle.machine.specs.option_values.Texts.{boolean_of, state_of, array_of, value_of}
-use Rattle.machine.specs.option_values.Values as value
+use Rattle.machine_file.specs.Values as written
+use Rattle.option_values.specs.Given.{value_of_items, value_of_given, printed_list, boolean_text}
+use Rattle.option_values.specs.Integers.{is_within, bounded_integer, integer_of}
+use Rattle.option_values.specs.declared.kind.FeatureState.{FeatureState}
+use Rattle.option_values.specs.Kinds as kind
+use Rattle.option_values.specs.Lists.{are_among, items_of, word_items_of}
+use Rattle.option_values.specs.Texts.{boolean_of, state_of, array_of, value_of}
+use Rattle.option_values.specs.Values as value
 use Rattle.options.specs.option_file.Declarations.{Declaration}
 use Rattle.options.specs.option_file.Given as given
 use Rattle.options.specs.Defaults as default
@@ -44,7 +44,7 @@ within_fits least greatest n true e = e
 within_fits least greatest n false e = refl
 
 integer_fits : (least greatest : Option ℤ) (o : Option ℤ)
-    → maybe_fits (kind.Integer least greatest) (option_map value.Integer (option_and_then (bounded least greatest) o)) ≡ true
+    → maybe_fits (kind.Integer least greatest) (option_map value.Integer (option_and_then (bounded_integer least greatest) o)) ≡ true
 integer_fits least greatest None = refl
 integer_fits least greatest (Some n) = within_fits least greatest n (is_within least greatest n) refl
 
@@ -75,13 +75,13 @@ value_fits kind.Feature text = state_fits (state_of text)
     state_fits (Some state) = refl
 
 items_fit : (k : kind.Kind) (items : List (List ℕ)) → maybe_fits k (value_of_items k items) ≡ true
-items_fit kind.Text items = value_fits kind.Text (printed items)
-items_fit kind.Boolean items = value_fits kind.Boolean (printed items)
-items_fit (kind.Combo choices) items = value_fits (kind.Combo choices) (printed items)
-items_fit (kind.Integer least greatest) items = value_fits (kind.Integer least greatest) (printed items)
+items_fit kind.Text items = value_fits kind.Text (printed_list items)
+items_fit kind.Boolean items = value_fits kind.Boolean (printed_list items)
+items_fit (kind.Combo choices) items = value_fits (kind.Combo choices) (printed_list items)
+items_fit (kind.Integer least greatest) items = value_fits (kind.Integer least greatest) (printed_list items)
 items_fit (kind.Array choices) items = array_fits choices items
 items_fit kind.Words items = refl
-items_fit kind.Feature items = value_fits kind.Feature (printed items)
+items_fit kind.Feature items = value_fits kind.Feature (printed_list items)
 
 pub given_fits : (k : kind.Kind) (what : written.Value) → maybe_fits k (value_of_given k what) ≡ true
 given_fits k (written.Text text) = value_fits k text

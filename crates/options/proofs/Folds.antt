@@ -7,11 +7,11 @@ use Rattle.std.proofs.lemmas.List.Sums.{fold-append}
 use Rattle.std.proofs.lemmas.Grind.{flat_map-append}
 use Rattle.std.proofs.lemmas.Option.{get_or_from_slice_get, slice_get_within, slice_get-get_or}
 use Rattle.std.specs.declared.alloc.Global.{Global}
-use Rattle.machine.specs.option_values.View.{strings_in}
+use Rattle.option_values.specs.View.{strings_in}
 use Rattle.options.specs.option_file.Declarations.{Declaration}
 use Rattle.options.specs.Faults.{OptionFaultData}
 use Rattle.options.specs.Resolves.{State, next, unless_fault}
-use Rattle.options.specs.declared.fault.Place.TheVariants.{CommandLine}
+use Rattle.options.specs.declared.fault.Origin.TheVariants.{CommandLine}
 use Rattle.options.specs.Verdicts.{Verdict, of_assignment, of_words}
 
 -- one more of the things that are taken by a step each

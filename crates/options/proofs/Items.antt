@@ -6,9 +6,9 @@ use Rattle.std.specs.declared.alloc.Global.{Global}
 use Rattle.std.proofs.lemmas.List.{append-nil, map-append}
 use Rattle.syntax.specs.declared.tree.Expression.{Expression}
 use Rattle.syntax.specs.ExpressionTree.{ExpressionTree, expression_of, expressions}
-use Rattle.machine.specs.option_values.View.{strings_in}
-use Rattle.options.specs.declared.option_file.declaration.Given.{Given as Written}
-use Rattle.options.specs.declared.option_file.declaration.Given.TheVariants as written
+use Rattle.option_values.specs.View.{strings_in}
+use Rattle.options.specs.declared.option_file.declaration.DeclaredValue.{DeclaredValue as Written}
+use Rattle.options.specs.declared.option_file.declaration.DeclaredValue.TheVariants as written
 use Rattle.options.specs.option_file.Given.{Given, Texts, Other, item_given, items_given, in_front, texts_in, texts_or_other, list_given}
 use Rattle.options.specs.option_file.View.{given_in}
 use Rattle.options.proofs.Walks.{next_is, none_is}

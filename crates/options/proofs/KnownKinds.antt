@@ -5,9 +5,9 @@ use Rattle.std.specs.Prelude.{◌||◌, not, bytes_eq, if◌then◌else◌}
 use Rattle.std.specs.List.{list_any}
 use Rattle.std.specs.Option.{option_map}
 use Rattle.std.proofs.lemmas.Slice.Eq.{bytes_eq-Decides}
-use Rattle.machine.specs.option_values.BuiltIns.{BuiltIn, NamedKind, built_ins, built_in_kinds, built_in_kind, is_built_in, kind_among}
-use Rattle.machine.specs.option_values.Kinds.{Kind}
-use Rattle.machine.specs.option_values.Values.{Value}
+use Rattle.option_values.specs.BuiltIns.{BuiltIn, NamedKind, built_ins, built_in_kinds, built_in_kind, is_built_in, kind_among}
+use Rattle.option_values.specs.Kinds.{Kind}
+use Rattle.option_values.specs.Values.{Value}
 use Rattle.options.specs.option_file.Declarations.{Declaration}
 use Rattle.options.specs.option_file.Lookups.{is_used, is_new, are_new_after, are_new, option_named}
 use Rattle.options.specs.Laws.{fits_known, built_in_names, declared_names}

@@ -3,17 +3,17 @@ use Rattle.std.proofs.Common.{◌≡◌, ℕ, Bool, true, false, List, [], ◌�
 use Rattle.std.specs.Prelude.{bytes_eq, codes, if◌then◌else◌}
 use Rattle.std.specs.List.{fold}
 use Rattle.std.specs.Option.{option_map, option_and_then}
-use Rattle.machine.specs.machine_file.Files as machine
-use Rattle.machine.specs.declared.option_values.kind.FeatureState.{FeatureState}
-use Rattle.machine.specs.option_values.Values as value
+use Rattle.machine_file.specs.Files as machine
+use Rattle.option_values.specs.declared.kind.FeatureState.{FeatureState}
+use Rattle.option_values.specs.Values as value
 use Rattle.options.specs.option_file.Declarations.{Declaration}
 use Rattle.options.specs.Faults.{OptionFaultData}
 use Rattle.options.specs.FillIns as filling
-use Rattle.options.specs.FillIns.{build_types, type_among, with_type, by_buildtype, by_prefix, by_auto_features, decided, decided_value}
+use Rattle.options.specs.FillIns.{build_types, type_among, with_type, by_buildtype, by_prefix, by_auto_features, decided_setting, decided_value}
 use Rattle.options.specs.FillIns.{with_state, state_at, text_at, is_usr, is_auto, filled_in}
 use Rattle.options.specs.Laws.{set_by, or_later, last_setting}
-use Rattle.options.specs.Resolves.{State, after_verdict, unless_fault, next, verdicts, at_first, resolved}
-use Rattle.machine.specs.option_values.Settings.{value_named, Setting, put, setting_named, or_given, fill}
+use Rattle.options.specs.Resolves.{State, after_verdict, unless_fault, next, verdicts, at_first, resolved_options}
+use Rattle.option_values.specs.Settings.{value_named, Setting, settings_with, setting_named, or_given, fill}
 use Rattle.options.specs.Verdicts.{Verdict, Sets, Warns, Refuses, Default}
 use Rattle.options.proofs.Decided.{stays_decided}
 use Rattle.options.proofs.FinalValues.{ended, no_fault, given_name}
@@ -33,8 +33,8 @@ held ss name = option_map of_setting (setting_named ss name)
 
 put_other : (name : List ℕ) (s t : Setting) (ts : List Setting) (a b c : Bool) → bytes_eq s.name t.name ≡ a → bytes_eq name t.name ≡ b
     → bytes_eq name s.name ≡ c
-    → held (put s ts) name ≡ (if c then Some (of_setting s) else held ts name)
-    → held (if a then record t { value = s.value; given = s.given } ∷ ts else t ∷ put s ts) name
+    → held (settings_with s ts) name ≡ (if c then Some (of_setting s) else held ts name)
+    → held (if a then record t { value = s.value; given = s.given } ∷ ts else t ∷ settings_with s ts) name
     ≡ (if c then Some (of_setting s) else (if b then Some (of_setting t) else held ts name))
 put_other name s t ts true true true e f g rest = ap (λ (x : Bool). option_map of_setting
     (if x then Some (record t { value = s.value; given = s.given }) else setting_named ts name)) f
@@ -50,11 +50,11 @@ put_other name s t ts false true true e f g rest =
     let same : s.name ≡ t.name = sym (same_name name s.name g) ∙ same_name name t.name f in
     absurd (let yes : bytes_eq s.name t.name ≡ true = ap (bytes_eq s.name) (sym same) ∙ is_itself s.name in cc)
 put_other name s t ts false true false e f g rest = ap (λ (x : Bool). option_map of_setting
-    (if x then Some t else setting_named (put s ts) name)) f
+    (if x then Some t else setting_named (settings_with s ts) name)) f
 put_other name s t ts false false true e f g rest = ap (λ (x : Bool). option_map of_setting
-    (if x then Some t else setting_named (put s ts) name)) f ∙ rest
+    (if x then Some t else setting_named (settings_with s ts) name)) f ∙ rest
 put_other name s t ts false false false e f g rest = ap (λ (x : Bool). option_map of_setting
-    (if x then Some t else setting_named (put s ts) name)) f ∙ rest
+    (if x then Some t else setting_named (settings_with s ts) name)) f ∙ rest
 
 if_moved : {A : Type 0} (b : Bool) (f : Setting → A) (x : Setting) (o : Option Setting)
     → option_map f (if b then Some x else o) ≡ (if b then Some (f x) else option_map f o)
@@ -62,7 +62,7 @@ if_moved true f x o = refl
 if_moved false f x o = refl
 
 pub put_held : (name : List ℕ) (s : Setting) (ss : List Setting)
-    → held (put s ss) name ≡ (if bytes_eq name s.name then Some (of_setting s) else held ss name)
+    → held (settings_with s ss) name ≡ (if bytes_eq name s.name then Some (of_setting s) else held ss name)
 put_held name s [] = if_moved (bytes_eq name s.name) of_setting s None
 put_held name s (t ∷ ts) =
     put_other name s t ts (bytes_eq s.name t.name) (bytes_eq name t.name) (bytes_eq name s.name) refl refl refl (put_held name s ts)
@@ -154,13 +154,13 @@ shown h = option_map (λ (x : Held). x.0) h
 
 decided_shown : (name : List ℕ) (state : FeatureState) (w : value.Value) (ss : List Setting) → is_auto w ≡ false
     → value_named ss name ≡ Some w
-    → value_named (map (decided state) ss) name ≡ Some w
+    → value_named (map (decided_setting state) ss) name ≡ Some w
 decided_shown name state w [] a h = h
 decided_shown name state w (s ∷ ss) a h = step (bytes_eq name s.name) h (decided_shown name state w ss a)
   where
     step : (b : Bool) → option_map (λ (x : Setting). x.value) (if b then Some s else setting_named ss name) ≡ Some w
-        → (value_named ss name ≡ Some w → value_named (map (decided state) ss) name ≡ Some w)
-        → option_map (λ (x : Setting). x.value) (if b then Some (decided state s) else setting_named (map (decided state) ss) name) ≡ Some w
+        → (value_named ss name ≡ Some w → value_named (map (decided_setting state) ss) name ≡ Some w)
+        → option_map (λ (x : Setting). x.value) (if b then Some (decided_setting state s) else setting_named (map (decided_setting state) ss) name) ≡ Some w
     step true e rest =
         let same : s.value ≡ w = cc in
         ap (λ (x : value.Value). Some (decided_value state x)) same ∙ ap (λ (x : value.Value). Some x) (stays_decided state w a)
@@ -190,10 +190,10 @@ filled_shown name w ss a h =
 
 pub final_value : (ds : List Declaration) (defaults : List Default) (sections : List machine.Section) (words : List (List ℕ))
     (ss : List Setting)
-    → (resolved ds defaults sections words).outcome ≡ Ok ss → (name : List ℕ) (s : Setting)
+    → (resolved_options ds defaults sections words).outcome ≡ Ok ss → (name : List ℕ) (s : Setting)
     → last_setting (verdicts ds defaults sections words) name ≡ Some s → s.given ≡ true → is_auto s.value ≡ false
     → value_named ss name ≡ Some s.value
-unfolding resolved at_first
+unfolding resolved_options at_first
 final_value ds defaults sections words ss e name s last given other =
     let t = fold next at_first (verdicts ds defaults sections words) in
     let is_held : held t.settings name ≡ Some (s.value, true) =

@@ -5,15 +5,15 @@ use Rattle.std.specs.declared.alloc.Global.{Global}
 use Rattle.std.specs.Map.{lookup}
 use Rattle.std.specs.Str.{bytes_eq}
 use denote.Ref.{Bor}
-use Rattle.machine.specs.option_values.Kinds.{Kind}
-use Rattle.machine.specs.option_values.Values.{Value}
-use Rattle.machine.specs.option_values.View.{kind_in, value_in, kinds_in, AreBuiltIns}
-use Rattle.machine.specs.declared.option_values.kind.OptionKind.{OptionKind}
-use Rattle.machine.specs.declared.option_values.settings.Setting.{Setting}
-use Rattle.machine.specs.option_values.BuiltIns.{NamedKind, kind_among, built_in_kind}
-use Rattle.machine.specs.option_values.Settings as plain
-use Rattle.machine.specs.option_values.Settings.{setting_named}
-use Rattle.machine.specs.option_values.SettingsView.{entry_in, settings_in}
+use Rattle.option_values.specs.Kinds.{Kind}
+use Rattle.option_values.specs.Values.{Value}
+use Rattle.option_values.specs.View.{kind_in, value_in, kinds_in, AreBuiltIns}
+use Rattle.option_values.specs.declared.kind.OptionKind.{OptionKind}
+use Rattle.option_values.specs.declared.settings.Setting.{Setting}
+use Rattle.option_values.specs.BuiltIns.{NamedKind, kind_among, built_in_kind}
+use Rattle.option_values.specs.Settings as plain
+use Rattle.option_values.specs.Settings.{setting_named}
+use Rattle.option_values.specs.SettingsView.{entry_in, settings_in}
 
 kinds_copied : (r : Option (Bor OptionKind)) → option_map (λ k. kind_in k.now) r ≡ option_map kind_in (option_copied r)
 kinds_copied None = refl

@@ -7,17 +7,17 @@ use Rattle.std.specs.Option.{option_map, option_and_then}
 use Rattle.options.specs.option_file.Misfits.{RefusedData, NoCall, refused_as}
 use Rattle.syntax.specs.ExpressionTree.{ExpressionTree, ArgumentTrees, NoArgument, MoreArguments, FunctionTree}
 use Rattle.syntax.specs.Tree.{StatementTree, ValueTree}
-use Rattle.machine.specs.option_values.BuiltIns.{is_built_in}
-use Rattle.machine.specs.option_values.Kinds.{Kind}
+use Rattle.option_values.specs.BuiltIns.{is_built_in}
+use Rattle.option_values.specs.Kinds.{Kind}
 use Rattle.options.specs.option_file.Calls.{gives_twice, gives_left_out, is_free_name, name_in, with_name, keywords_from, option_of}
 use Rattle.options.specs.option_file.Calls.{or_fault}
 use Rattle.options.specs.option_file.Calls.{call_declares}
 use Rattle.options.specs.option_file.Declarations.{Declaration}
 use Rattle.options.specs.option_file.Declares.{expression_declares, statement_declares}
-use Rattle.options.specs.option_file.Given.{Given, Text, given}
+use Rattle.options.specs.option_file.Given.{Given, Text, given_of_argument}
 use Rattle.options.specs.option_file.Keywords.{Keywords, nothing_given, asked_by}
 use Rattle.options.specs.option_file.Lookups.{is_used, is_new, are_new_after, option_named}
-use Rattle.options.specs.option_file.Names.{is_name}
+use Rattle.options.specs.option_file.Names.{is_option_name}
 
 both : (a b : Bool) → a ≡ true → b ≡ true → (a && b) ≡ true
 both true b e f = f
@@ -53,7 +53,7 @@ not_built_in true false e = refl
 not_built_in false b e = absurd cc
 
 free : (b : Bool) (name n : List ℕ) → is_free_name name ≡ b → (if b then Some name else None) ≡ Some n → is_built_in n ≡ false
-free true name n f e = let same : name ≡ n = cc in ap is_built_in (sym same) ∙ not_built_in (is_name name) (is_built_in name) f
+free true name n f e = let same : name ≡ n = cc in ap is_built_in (sym same) ∙ not_built_in (is_option_name name) (is_built_in name) f
 free false name n f e = absurd cc
 
 free_name : (g : Option Given) (n : List ℕ) → name_in g ≡ Some n → is_built_in n ≡ false
@@ -80,8 +80,8 @@ of_name line (Some name) k d h e = ap is_built_in (sym (with_keywords line name 
 
 option_new : (line : ℕ) (arguments : ArgumentTrees) (d : Declaration) → option_of line arguments ≡ Some d → is_built_in d.name ≡ false
 option_new line NoArgument d e = absurd cc
-option_new line (MoreArguments None a more) d e = of_name line (name_in (given a)) (keywords_from nothing_given more) d
-    (free_name (given a)) e
+option_new line (MoreArguments None a more) d e = of_name line (name_in (given_of_argument a)) (keywords_from nothing_given more) d
+    (free_name (given_of_argument a)) e
 option_new line (MoreArguments (Some key) a more) d e = absurd cc
 
 taken : (r : RefusedData) (o : Option Declaration) (d : Declaration) → or_fault r o ≡ Ok d → o ≡ Some d

@@ -2,8 +2,8 @@
 use Rattle.std.proofs.Common.{◌≡◌, List, [], ◌∷◌, ◌++◌, ◌||◌, Bool, true, false, bytes_eq, codes, refl, sym, ap, ◌∙◌}
 use Rattle.std.specs.Prelude.{if◌then◌else◌}
 use Rattle.std.specs.List.{flat_map}
-use Rattle.machine.specs.machine_file.Files.{Section}
-use Rattle.machine.specs.machine_file.Questions.{gives_options, options_at}
+use Rattle.machine_file.specs.Files.{Section}
+use Rattle.machine_file.specs.Questions.{gives_options, options_at}
 use Rattle.options.specs.option_file.Declarations.{Declaration}
 use Rattle.options.specs.Verdicts.{Verdict, of_section}
 

@@ -3,16 +3,16 @@ use Rattle.std.proofs.Common.{◌≡◌, Bool, true, false, List, [], ◌∷◌,
 use Rattle.std.proofs.Common.{length, if◌then◌else◌}
 use Rattle.std.specs.List.{fold}
 use Rattle.std.proofs.lemmas.List.{length-map}
-use Rattle.machine.specs.declared.option_values.built_in.BuiltIn.{BuiltIn}
+use Rattle.option_values.specs.declared.built_in.BuiltIn.{BuiltIn}
 use Rattle.std.specs.declared.alloc.Global.{Global}
 use Rattle.std.specs.String.{string_eq}
 use Rattle.support.specs.Maps.{insert_entry}
-use Rattle.machine.specs.declared.option_values.settings.Setting.{Setting}
-use Rattle.machine.specs.option_values.BuiltIns.{built_ins}
-use Rattle.machine.specs.option_values.View.{row_in}
-use Rattle.machine.specs.option_values.Settings as plain
-use Rattle.machine.specs.option_values.Settings.{put, add_setting, built_in_settings}
-use Rattle.machine.specs.option_values.SettingsView.{setting_in, entry_in, settings_in}
+use Rattle.option_values.specs.declared.settings.Setting.{Setting}
+use Rattle.option_values.specs.BuiltIns.{built_ins}
+use Rattle.option_values.specs.View.{row_in}
+use Rattle.option_values.specs.Settings as plain
+use Rattle.option_values.specs.Settings.{settings_with, add_setting, built_in_settings}
+use Rattle.option_values.specs.SettingsView.{setting_in, entry_in, settings_in}
 
 put_step : (b : Bool) (e : String Global × Setting) (s : Setting) (es more : List (String Global × Setting)) (rest : List plain.Setting)
     → settings_in more ≡ rest
@@ -22,7 +22,7 @@ put_step true e s es more rest h = refl
 put_step false e s es more rest h = ap (λ (l : List plain.Setting). entry_in e ∷ l) h
 
 pub put_seen : (k : String Global) (s : Setting) (es : List (String Global × Setting))
-    → settings_in (insert_entry string_eq es k s) ≡ put (setting_in (string_bytes k) s) (settings_in es)
+    → settings_in (insert_entry string_eq es k s) ≡ settings_with (setting_in (string_bytes k) s) (settings_in es)
 put_seen k s [] = refl
 put_seen k s (e ∷ es) = put_step (string_eq k e.0) e s es _ _ (put_seen k s es)
 

@@ -3,18 +3,18 @@ use Rattle.std.proofs.Common.{◌≡◌, ℕ, ◌+◌, Bool, true, List, [], ◌
 use Rattle.std.proofs.Common.{append_assoc}
 use Rattle.std.specs.List.{list_all, flat_map}
 use Rattle.syntax.specs.lexer.Bytes.{equals}
-use Rattle.machine.specs.machine_file.Files as machine
-use Rattle.machine.specs.machine_file.Texts.{Parts, cut_first}
-use Rattle.machine.specs.machine_file.Values as written
-use Rattle.machine.specs.option_values.Given.{value_of_given}
-use Rattle.machine.specs.option_values.Kinds.{Kind}
-use Rattle.machine.specs.option_values.Values.{Value}
+use Rattle.machine_file.specs.Files as machine
+use Rattle.machine_file.specs.Texts.{Parts, cut_first}
+use Rattle.machine_file.specs.Values as written
+use Rattle.option_values.specs.Given.{value_of_given}
+use Rattle.option_values.specs.Kinds.{Kind}
+use Rattle.option_values.specs.Values.{Value}
 use Rattle.options.specs.option_file.Declarations.{Declaration}
 use Rattle.options.specs.option_file.Lookups.{is_new, are_new_after, are_new}
-use Rattle.options.specs.declared.fault.Place.{Place}
-use Rattle.options.specs.declared.fault.Place.TheVariants.{Declared, Project, MachineFile, CommandLine}
-use Rattle.options.specs.declared.known.Scope.{Scope}
-use Rattle.options.specs.declared.known.Scope.TheVariants.{BuiltIn, OfProject}
+use Rattle.options.specs.declared.fault.Origin.{Origin}
+use Rattle.options.specs.declared.fault.Origin.TheVariants.{Declared, Project, MachineFile, CommandLine}
+use Rattle.options.specs.declared.known_options.OptionScope.{OptionScope}
+use Rattle.options.specs.declared.known_options.OptionScope.TheVariants.{BuiltIn, OfProject}
 use Rattle.options.specs.Defaults.{default_of}
 use Rattle.options.specs.Misfits.{MisfitData}
 use Rattle.options.specs.Laws.{fits_known, has_fitting}
@@ -55,33 +55,33 @@ declarations_fit before (d ∷ ds) e =
 
 -- ---- what a place gives
 
-value_cases : (ds : List Declaration) (place : Place) (name : List ℕ) (r : MisfitData) (k : Kind) (o : Option Value)
+value_cases : (ds : List Declaration) (place : Origin) (name : List ℕ) (r : MisfitData) (k : Kind) (o : Option Value)
     → kind_named ds name ≡ Some k
     → maybe_fits k o ≡ true → verdict_fits ds (of_value place name r o) ≡ true
 value_cases ds place name r k None known e = refl
 value_cases ds place name r k (Some v) known e = ap (λ (x : Option Kind). fits_known x v) known ∙ e
 
-kind_given : (ds : List Declaration) (place : Place) (name : List ℕ) (what : written.Value) (k : Kind) → kind_named ds name ≡ Some k
+kind_given : (ds : List Declaration) (place : Origin) (name : List ℕ) (what : written.Value) (k : Kind) → kind_named ds name ≡ Some k
     → verdict_fits ds (of_kind place name what k) ≡ true
 unfolding of_kind
 kind_given ds place name what k known = value_cases ds place name (misfit_of name k what) k (value_of_given k what) known (given_fits k what)
 
-unknown_fits : (ds : List Declaration) (place : Place) (name : List ℕ) → verdict_fits ds (unknown_at place name) ≡ true
+unknown_fits : (ds : List Declaration) (place : Origin) (name : List ℕ) → verdict_fits ds (unknown_at place name) ≡ true
 unknown_fits ds (Declared line) name = refl
 unknown_fits ds Project name = refl
 unknown_fits ds (MachineFile line) name = refl
 unknown_fits ds (CommandLine number) name = refl
 
-named_fits : (ds : List Declaration) (place : Place) (name : List ℕ) (what : written.Value) (o : Option Kind)
+named_fits : (ds : List Declaration) (place : Origin) (name : List ℕ) (what : written.Value) (o : Option Kind)
     → ((k : Kind) → o ≡ Some k → kind_named ds name ≡ Some k) → verdict_fits ds (of_named place name what o) ≡ true
 named_fits ds place name what None h = unknown_fits ds place name
 named_fits ds place name what (Some k) h = kind_given ds place name what k (h k refl)
 
-parts_fit : (ds : List Declaration) (place : Place) (text : List ℕ) (o : Option Parts) → verdict_fits ds (of_parts ds place text o) ≡ true
+parts_fit : (ds : List Declaration) (place : Origin) (text : List ℕ) (o : Option Parts) → verdict_fits ds (of_parts ds place text o) ≡ true
 parts_fit ds place text None = refl
 parts_fit ds place text (Some parts) = named_fits ds place parts.0 (written.Text parts.1) (kind_named ds parts.0) (λ k e. e)
 
-assignment_fits : (ds : List Declaration) (place : Place) (text : List ℕ) → verdict_fits ds (of_assignment ds place text) ≡ true
+assignment_fits : (ds : List Declaration) (place : Origin) (text : List ℕ) → verdict_fits ds (of_assignment ds place text) ≡ true
 unfolding of_assignment
 assignment_fits ds place text = parts_fit ds place text (cut_first equals text)
 
@@ -90,19 +90,19 @@ unfolding of_project_default
 project_default_fits ds (Assignment text) = assignment_fits ds Project text
 project_default_fits ds (Entry name value) = named_fits ds Project name (written.Text value) (kind_named ds name) (λ k e. e)
 
-known_in_scope : (ds : List Declaration) (scope : Scope) (name : List ℕ) (k : Kind) → are_new ds ≡ true
+known_in_scope : (ds : List Declaration) (scope : OptionScope) (name : List ℕ) (k : Kind) → are_new ds ≡ true
     → kind_in_scope scope ds name ≡ Some k
     → kind_named ds name ≡ Some k
 known_in_scope ds BuiltIn name k new e = built_in_is_known ds name k e
 known_in_scope ds OfProject name k new e = declared_is_known ds name k new e
 
-entry_fits : (ds : List Declaration) (scope : Scope) → are_new ds ≡ true → (e : machine.Entry)
+entry_fits : (ds : List Declaration) (scope : OptionScope) → are_new ds ≡ true → (e : machine.Entry)
     → verdict_fits ds (of_entry ds scope e) ≡ true
 unfolding of_entry
 entry_fits ds scope new e = named_fits ds (MachineFile e.line) e.key e.value (kind_in_scope scope ds e.key)
     (λ k is. known_in_scope ds scope e.key k new is)
 
-entries_fit : (ds : List Declaration) (es : List machine.Entry) (o : Option Scope) → are_new ds ≡ true
+entries_fit : (ds : List Declaration) (es : List machine.Entry) (o : Option OptionScope) → are_new ds ≡ true
     → list_all (verdict_fits ds) (of_entries ds es o) ≡ true
 entries_fit ds es None new = refl
 entries_fit ds es (Some scope) new = all_map (verdict_fits ds) (of_entry ds scope) es (entry_fits ds scope new)

@@ -1,11 +1,11 @@
 -- Defines the default values of declared options.
 use Rattle.std.specs.Prelude.{ℕ, ℤ, Bool, true, List, [], ◌∷◌, Option, Some, None, if◌then◌else◌}
 use Rattle.std.specs.Option.{unwrap_or}
-use Rattle.machine.specs.declared.option_values.kind.FeatureState.TheVariants as feature
-use Rattle.machine.specs.option_values.Integers.{is_within}
-use Rattle.machine.specs.option_values.Kinds as kind
-use Rattle.machine.specs.option_values.Values as value
-use Rattle.machine.specs.option_values.Texts.{array_of, value_of}
+use Rattle.option_values.specs.declared.kind.FeatureState.TheVariants as feature
+use Rattle.option_values.specs.Integers.{is_within}
+use Rattle.option_values.specs.Kinds as kind
+use Rattle.option_values.specs.Values as value
+use Rattle.option_values.specs.Texts.{array_of, value_of}
 use Rattle.options.specs.option_file.Declarations.{Declaration}
 use Rattle.options.specs.option_file.Given as given
 

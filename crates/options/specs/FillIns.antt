@@ -1,17 +1,18 @@
 -- Defines what some options decide about others.
 use Rattle.std.specs.Prelude.{ℕ, Bool, true, false, List, [], ◌∷◌, map, Option, Some, None, codes, if◌then◌else◌, bytes_eq}
 use Rattle.std.specs.Option.{option_and_then}
-use Rattle.machine.specs.declared.option_values.kind.FeatureState.{FeatureState}
-use Rattle.machine.specs.declared.option_values.kind.FeatureState.TheVariants.{Auto}
-use Rattle.machine.specs.option_values.Values.{Value, Text, Boolean, Combo, Feature}
-use Rattle.machine.specs.option_values.Settings.{Setting, setting_named, fill}
+use Rattle.option_values.specs.declared.kind.FeatureState.{FeatureState}
+use Rattle.option_values.specs.declared.kind.FeatureState.TheVariants.{Auto}
+use Rattle.option_values.specs.Values.{Value, Text, Boolean, Combo, Feature}
+use Rattle.option_values.specs.Settings.{Setting, setting_named, fill}
 
--- What a type of build decides about the options `debug` and `optimization`.
+-- A build type (`buildtype`) with the values that it gives the options `debug` and `optimization`.
 pub record BuildType : Type 0 where
   pub name : List ℕ
   pub debug : Bool
   pub optimization : List ℕ
 
+-- Returns the values of `debug` and `optimization` for each build type, as the Meson manual's page "Built-in options" lists them.
 unfoldable pub build_types : List BuildType
 build_types =
     record { name = codes "plain"; debug = false; optimization = codes "plain" }
@@ -21,6 +22,7 @@ build_types =
     ∷ record { name = codes "minsize"; debug = true; optimization = codes "s" }
     ∷ []
 
+-- Returns the first build type with this name, and none if there is no such type.
 abbrev pub type_among : List BuildType → List ℕ → Option BuildType
 type_among [] name = None
 type_among (t ∷ ts) name = if bytes_eq name t.name then Some t else type_among ts name
@@ -31,6 +33,7 @@ text_in (Text text) = Some text
 text_in (Combo choice) = Some choice
 text_in _ = None
 
+-- Returns the state if the value is that of a feature option, and none otherwise.
 abbrev pub state_in : Value → Option FeatureState
 state_in (Feature state) = Some state
 state_in _ = None
@@ -56,6 +59,7 @@ by_buildtype ss = with_type (option_and_then (type_among build_types) (text_at (
 
 -- ---- below the prefix `/usr`, `sysconfdir` is `/etc`, unless a place sets it
 
+-- Returns whether there is a prefix and it is `/usr`.
 abbrev pub is_usr : Option (List ℕ) → Bool
 is_usr None = false
 is_usr (Some prefix) = bytes_eq prefix (codes "/usr")
@@ -77,13 +81,13 @@ is_auto (Feature Auto) = true
 is_auto v = false
 
 -- Sets a feature option in state `auto` to this state, and keeps any other option.
-abbrev pub decided : FeatureState → Setting → Setting
-decided state s = record s { value = decided_value state s.value }
+abbrev pub decided_setting : FeatureState → Setting → Setting
+decided_setting state s = record s { value = decided_value state s.value }
 
 -- Sets the features in state `auto` to this state, if there is one.
 abbrev pub with_state : Option FeatureState → List Setting → List Setting
 with_state None ss = ss
-with_state (Some state) ss = map (decided state) ss
+with_state (Some state) ss = map (decided_setting state) ss
 
 -- Fills in what `auto_features` decides.
 unfoldable pub by_auto_features : List Setting → List Setting

@@ -2,13 +2,13 @@
 use Rattle.std.specs.Prelude.{ℕ, Bool, true, false, List, [], ◌∷◌, map, Option, Some, None, bytes_eq, if◌then◌else◌}
 use Rattle.std.specs.List.{list_all}
 use Rattle.support.specs.Among.{is_among}
-use Rattle.machine.specs.option_values.BuiltIns.{BuiltIn, built_ins}
-use Rattle.machine.specs.option_values.Integers.{is_within}
-use Rattle.machine.specs.option_values.Kinds as kind
-use Rattle.machine.specs.option_values.Lists.{are_among}
-use Rattle.machine.specs.option_values.Values as value
+use Rattle.option_values.specs.BuiltIns.{BuiltIn, built_ins}
+use Rattle.option_values.specs.Integers.{is_within}
+use Rattle.option_values.specs.Kinds as kind
+use Rattle.option_values.specs.Lists.{are_among}
+use Rattle.option_values.specs.Values as value
 use Rattle.options.specs.option_file.Declarations.{Declaration}
-use Rattle.machine.specs.option_values.Settings.{Setting}
+use Rattle.option_values.specs.Settings.{Setting}
 use Rattle.options.specs.Verdicts.{Verdict, Sets, Warns, Refuses, kind_named}
 
 -- ---- each value has its option's type
@@ -33,17 +33,21 @@ fits_known (Some k) v = fits k v
 abbrev pub has_fitting : List Declaration → Setting → Bool
 has_fitting ds s = fits_known (kind_named ds s.name) s.value
 
+-- Returns whether each setting has the name of an option that takes its value.
 abbrev pub all_fit : List Declaration → List Setting → Bool
 all_fit ds ss = list_all (has_fitting ds) ss
 
 -- ---- the names are those that every project has, followed by the declared ones
 
+-- Returns the names of the settings, in their order.
 abbrev pub names_in : List Setting → List (List ℕ)
 names_in ss = map (λ s. s.name) ss
 
+-- Returns the names of the options that every project has, in the order of their table.
 abbrev pub built_in_names : List (List ℕ)
 built_in_names = map (λ (b : BuiltIn). b.name) built_ins
 
+-- Returns the names of the declared options, in the order of their declarations.
 abbrev pub declared_names : List Declaration → List (List ℕ)
 declared_names ds = map (λ d. d.name) ds
 

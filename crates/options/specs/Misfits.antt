@@ -3,13 +3,13 @@ use Rattle.std.specs.Prelude.{ℕ, List, ◌++◌, Option, Some, None, codes}
 use Rattle.std.specs.Fmt.{signed_decimal}
 use Rattle.support.specs.declared.faults.refusal.Refusal.{Refusal}
 use Rattle.support.specs.declared.faults.refusal.Refusal.TheVariants as refusals
-use Rattle.machine.specs.machine_file.Values as written
+use Rattle.machine_file.specs.Values as written
 use Rattle.options.specs.option_file.Given as given
-use Rattle.machine.specs.option_values.Given.{boolean_text}
-use Rattle.machine.specs.option_values.Kinds.{Kind}
-use Rattle.machine.specs.option_values.Takes.{kind_words}
+use Rattle.option_values.specs.Given.{boolean_text}
+use Rattle.option_values.specs.Kinds.{Kind}
+use Rattle.option_values.specs.Takes.{kind_words}
 
--- Why a name and a value are refused.
+-- A reason why a name and a value are refused.
 pub data MisfitData : Type 0 where
   -- No option has this name.
   NoOption : (name : List ℕ) → MisfitData
@@ -29,6 +29,7 @@ refusal_of _ = refusals.OptionValue
 
 -- ---- in words
 
+-- Returns the text in single quotes. A quote in the text is not escaped.
 abbrev pub in_quotes : List ℕ → List ℕ
 in_quotes text = codes "'" ++ (text ++ codes "'")
 

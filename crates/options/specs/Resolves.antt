@@ -1,14 +1,14 @@
 -- Defines the final values of the options of a project.
 use Rattle.std.specs.Prelude.{ℕ, List, [], ◌∷◌, ◌++◌, map, fold, Option, Some, None, Result, Ok, Err}
 use Rattle.std.specs.List.{flat_map}
-use Rattle.machine.specs.machine_file.Files as machine
+use Rattle.machine_file.specs.Files as machine
 use Rattle.options.specs.option_file.Declarations.{Declaration}
 use Rattle.options.specs.Faults.{OptionFaultData}
-use Rattle.machine.specs.option_values.Settings.{Setting, put, built_in_settings}
+use Rattle.option_values.specs.Settings.{Setting, settings_with, built_in_settings}
 use Rattle.options.specs.Verdicts.{Verdict, Sets, Warns, Refuses, Default, of_declaration, of_project_default, of_section, of_words}
 use Rattle.options.specs.FillIns.{filled_in}
 
--- What is known after some values: the names of no option so far, the options, and the first fault.
+-- The state after some values: the names that no option has, the options with their values, and the first fault.
 pub record State : Type 0 where
   pub unknown : List (List ℕ)
   pub settings : List Setting
@@ -16,7 +16,7 @@ pub record State : Type 0 where
 
 -- Returns what is known after one more verdict.
 abbrev pub after_verdict : State → Verdict → State
-after_verdict s (Sets setting) = record s { settings = put setting s.settings }
+after_verdict s (Sets setting) = record s { settings = settings_with setting s.settings }
 after_verdict s (Warns name) = record s { unknown = s.unknown ++ name ∷ [] }
 after_verdict s (Refuses fault) = record s { fault = Some fault }
 
@@ -25,7 +25,7 @@ abbrev pub unless_fault : Option OptionFaultData → State → Verdict → State
 unless_fault None s v = after_verdict s v
 unless_fault (Some fault) s v = s
 
--- Takes one more verdict. Nothing is taken after a fault.
+-- Adds one more verdict. After a fault, further verdicts change nothing.
 unfoldable pub next : State → Verdict → State
 next s v = unless_fault s.fault s v
 
@@ -55,5 +55,5 @@ abbrev pub resolution_of : State → Resolution
 resolution_of s = record { unknown = s.unknown; outcome = outcome_of s.fault s.settings }
 
 -- Returns the options of a project with these declarations, this `default_options`, these sections of a machine file and these words.
-unfoldable pub resolved : List Declaration → List Default → List machine.Section → List (List ℕ) → Resolution
-resolved ds defaults sections words = resolution_of (fold next at_first (verdicts ds defaults sections words))
+unfoldable pub resolved_options : List Declaration → List Default → List machine.Section → List (List ℕ) → Resolution
+resolved_options ds defaults sections words = resolution_of (fold next at_first (verdicts ds defaults sections words))

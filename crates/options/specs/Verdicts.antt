@@ -2,22 +2,22 @@
 use Rattle.std.specs.Prelude.{ℕ, ◌+◌, Bool, true, false, ◌&&◌, List, [], ◌∷◌, map, Option, Some, None, codes, if◌then◌else◌, bytes_eq}
 use Rattle.std.specs.Option.{option_map}
 use Rattle.syntax.specs.lexer.Bytes.{equals}
-use Rattle.machine.specs.machine_file.Files as machine
-use Rattle.machine.specs.machine_file.Texts.{Parts, cut_first}
-use Rattle.machine.specs.machine_file.Values as written
-use Rattle.machine.specs.option_values.BuiltIns.{built_in_kind}
-use Rattle.machine.specs.option_values.Kinds.{Kind}
-use Rattle.machine.specs.option_values.Values.{Value}
-use Rattle.machine.specs.option_values.Given.{value_of_given}
+use Rattle.machine_file.specs.Files as machine
+use Rattle.machine_file.specs.Texts.{Parts, cut_first}
+use Rattle.machine_file.specs.Values as written
+use Rattle.option_values.specs.BuiltIns.{built_in_kind}
+use Rattle.option_values.specs.Kinds.{Kind}
+use Rattle.option_values.specs.Values.{Value}
+use Rattle.option_values.specs.Given.{value_of_given}
 use Rattle.options.specs.option_file.Declarations.{Declaration}
 use Rattle.options.specs.option_file.Lookups.{option_named}
-use Rattle.options.specs.declared.fault.Place.{Place}
-use Rattle.options.specs.declared.fault.Place.TheVariants.{Declared, Project, MachineFile, CommandLine}
-use Rattle.options.specs.declared.known.Scope.{Scope}
-use Rattle.options.specs.declared.known.Scope.TheVariants.{BuiltIn, OfProject}
+use Rattle.options.specs.declared.fault.Origin.{Origin}
+use Rattle.options.specs.declared.fault.Origin.TheVariants.{Declared, Project, MachineFile, CommandLine}
+use Rattle.options.specs.declared.known_options.OptionScope.{OptionScope}
+use Rattle.options.specs.declared.known_options.OptionScope.TheVariants.{BuiltIn, OfProject}
 use Rattle.options.specs.Faults.{OptionFaultData}
 use Rattle.options.specs.Misfits.{MisfitData, NoOption, NoSign, Both, NoValue, NoDefault, refusal_of, words_of}
-use Rattle.machine.specs.option_values.Settings.{Setting}
+use Rattle.option_values.specs.Settings.{Setting}
 use Rattle.options.specs.Defaults.{default_of}
 
 -- An option takes a value, or no option has this name and the user is warned, or the value is refused.
@@ -27,14 +27,14 @@ pub data Verdict : Type 0 where
   Refuses : (fault : OptionFaultData) → Verdict
 
 -- Returns the verdict of a place whose value is refused.
-abbrev pub refused : Place → MisfitData → Verdict
-refused place m = Refuses (record { place = place; refusal = refusal_of m; detail = words_of m })
+abbrev pub refusing_verdict : Origin → MisfitData → Verdict
+refusing_verdict place m = Refuses (record { place = place; refusal = refusal_of m; detail = words_of m })
 
 -- ---- the declarations
 
 -- Returns the verdict of a declaration with this default, or with none.
 abbrev pub of_default : Declaration → Option Value → Verdict
-of_default d None = refused (Declared d.line) (NoDefault d.name d.kind d.value)
+of_default d None = refusing_verdict (Declared d.line) (NoDefault d.name d.kind d.value)
 of_default d (Some v) = Sets (record { name = d.name; value = v; given = false })
 
 -- Returns the verdict of a declaration, which sets its option to its default.
@@ -67,34 +67,34 @@ is_both name _ = false
 abbrev pub misfit_of : List ℕ → Kind → written.Value → MisfitData
 misfit_of name kind what = if is_both name what then Both else NoValue name kind what
 
--- Returns the verdict of a place that gives an option a value, or something that is none.
-abbrev pub of_value : Place → List ℕ → MisfitData → Option Value → Verdict
-of_value place name otherwise None = refused place otherwise
+-- Returns the verdict of a place that gives an option a value, or something that the option does not take.
+abbrev pub of_value : Origin → List ℕ → MisfitData → Option Value → Verdict
+of_value place name otherwise None = refusing_verdict place otherwise
 of_value place name otherwise (Some v) = Sets (record { name = name; value = v; given = true })
 
 -- Returns the verdict of a place that gives an option of this kind what is written there.
-unfoldable pub of_kind : Place → List ℕ → written.Value → Kind → Verdict
+unfoldable pub of_kind : Origin → List ℕ → written.Value → Kind → Verdict
 of_kind place name what kind = of_value place name (misfit_of name kind what) (value_of_given kind what)
 
 -- Returns the verdict of a place that gives a value to a name that no option has. Only `default_options` may do so.
-abbrev pub unknown_at : Place → List ℕ → Verdict
-unknown_at (Declared line) name = refused (Declared line) (NoOption name)
+abbrev pub unknown_at : Origin → List ℕ → Verdict
+unknown_at (Declared line) name = refusing_verdict (Declared line) (NoOption name)
 unknown_at Project name = Warns name
-unknown_at (MachineFile line) name = refused (MachineFile line) (NoOption name)
-unknown_at (CommandLine number) name = refused (CommandLine number) (NoOption name)
+unknown_at (MachineFile line) name = refusing_verdict (MachineFile line) (NoOption name)
+unknown_at (CommandLine number) name = refusing_verdict (CommandLine number) (NoOption name)
 
 -- Returns the verdict of a place that gives a value to the option with a name, if there is such an option.
-abbrev pub of_named : Place → List ℕ → written.Value → Option Kind → Verdict
+abbrev pub of_named : Origin → List ℕ → written.Value → Option Kind → Verdict
 of_named place name what None = unknown_at place name
 of_named place name what (Some kind) = of_kind place name what kind
 
 -- Returns the verdict of a name and a value, or of a text without `=`.
-abbrev pub of_parts : List Declaration → Place → List ℕ → Option Parts → Verdict
-of_parts ds place text None = refused place (NoSign text)
+abbrev pub of_parts : List Declaration → Origin → List ℕ → Option Parts → Verdict
+of_parts ds place text None = refusing_verdict place (NoSign text)
 of_parts ds place text (Some parts) = of_named place parts.0 (written.Text parts.1) (kind_named ds parts.0)
 
--- Returns the verdict of a text of `default_options` or a word of the command line, which is a name and a value after the first `=`.
-unfoldable pub of_assignment : List Declaration → Place → List ℕ → Verdict
+-- Returns the verdict of a text of `default_options` or an argument of the command line: a name, and a value after the first `=`.
+unfoldable pub of_assignment : List Declaration → Origin → List ℕ → Verdict
 of_assignment ds place text = of_parts ds place text (cut_first equals text)
 
 -- An item of `default_options`: a text of its list, or an entry of its dictionary, whose name may have an `=` in it.
@@ -107,29 +107,29 @@ unfoldable pub of_project_default : List Declaration → Default → Verdict
 of_project_default ds (Assignment text) = of_assignment ds Project text
 of_project_default ds (Entry name value) = of_named Project name (written.Text value) (kind_named ds name)
 
--- Returns the verdicts of words of the command line, the first of which has this number.
+-- Returns the verdicts of arguments of the command line, the first of which has this number.
 unfoldable pub of_words : List Declaration → ℕ → List (List ℕ) → List Verdict
 of_words ds number [] = []
 of_words ds number (word ∷ words) = of_assignment ds (CommandLine number) word ∷ of_words ds (number + 1) words
 
 -- Returns which options a section of the machine file knows, if it gives options values: the built-in or the declared ones.
-abbrev pub scope_of : List ℕ → Option Scope
+abbrev pub scope_of : List ℕ → Option OptionScope
 scope_of section =
     if bytes_eq section (codes "built-in options") then Some BuiltIn
     else (if bytes_eq section (codes "project options") then Some OfProject
     else None)
 
 -- Returns what the option with this name takes that a section knows.
-abbrev pub kind_in_scope : Scope → List Declaration → List ℕ → Option Kind
+abbrev pub kind_in_scope : OptionScope → List Declaration → List ℕ → Option Kind
 kind_in_scope BuiltIn ds name = built_in_kind name
 kind_in_scope OfProject ds name = declared_kind ds name
 
 -- Returns the verdict of a key of the machine file, which must name an option that its section knows.
-unfoldable pub of_entry : List Declaration → Scope → machine.Entry → Verdict
+unfoldable pub of_entry : List Declaration → OptionScope → machine.Entry → Verdict
 of_entry ds scope e = of_named (MachineFile e.line) e.key e.value (kind_in_scope scope ds e.key)
 
 -- Returns the verdicts of the entries of a section, if it gives options values.
-abbrev pub of_entries : List Declaration → List machine.Entry → Option Scope → List Verdict
+abbrev pub of_entries : List Declaration → List machine.Entry → Option OptionScope → List Verdict
 of_entries ds entries None = []
 of_entries ds entries (Some scope) = map (of_entry ds scope) entries
 

@@ -1,12 +1,12 @@
 //! Gives the options that every project has their default values.
 
 ghost use Rattle.std.specs.Prelude.{◌≡◌, IfOk, OnOk};
-ghost use Rattle.machine.specs.option_values.View.{row_in};
-ghost use Rattle.machine.specs.option_values.Settings.{built_in_settings, add_setting};
-ghost use Rattle.machine.specs.option_values.SettingsView.{settings_in};
+ghost use Rattle.option_values.specs.View.{row_in};
+ghost use Rattle.option_values.specs.Settings.{built_in_settings, add_setting};
+ghost use Rattle.option_values.specs.SettingsView.{settings_in};
 
 use crate::state::put;
-use machine::option_values::{BuiltIn, Setting, built_in_value, built_ins};
+use option_values::{BuiltIn, Setting, built_in_value, built_ins};
 use std::alloc::{AllocError, Global};
 use support::tables::{SipMap, new_map};
 

@@ -3,12 +3,12 @@
 ghost use Rattle.std.specs.Prelude.{◌≡◌, ℕ, List, IfOk};
 ghost use Rattle.std.specs.Option.{option_map};
 ghost use Rattle.options.specs.option_file.View.{given_in, option_in};
-ghost use Rattle.machine.specs.option_values.View.{kind_in, strings_in, texts_of, value_in};
+ghost use Rattle.option_values.specs.View.{kind_in, strings_in, texts_of, value_in};
 ghost use Rattle.options.specs.Defaults.{first_of, value_of_kind, boolean_of, integer_of, items_of};
 ghost use Rattle.options.specs.Defaults.{declared_value, value_or_kind, default_of};
 
-use crate::option_file::{Declaration, Given};
-use machine::option_values::{
+use crate::option_file::{Declaration, DeclaredValue};
+use option_values::{
     Choices, FeatureState, OptionKind, OptionValue, is_within, value_of_items, value_of_text,
 };
 use std::alloc::{AllocError, Global};
@@ -103,23 +103,23 @@ fn items_of(
 fn declared_value(
     alloc: Global,
     kind: &OptionKind,
-    given: &Given,
+    given: &DeclaredValue,
 ) -> Result<Option<OptionValue>, AllocError>
     ensures { IfOk result (λ v. option_map value_in v ≡ declared_value (kind_in kind.now) (given_in given.now)) }
 {
     match given {
-        Given::Text(text) => value_of_text(alloc, kind, text.as_str()),
-        Given::Boolean(boolean) => Ok(boolean_of(kind, *boolean)),
-        Given::Integer(number) => Ok(integer_of(kind, *number)),
-        Given::Texts(items) => items_of(alloc, kind, items),
-        Given::Other => Ok(None),
+        DeclaredValue::Text(text) => value_of_text(alloc, kind, text.as_str()),
+        DeclaredValue::Boolean(boolean) => Ok(boolean_of(kind, *boolean)),
+        DeclaredValue::Integer(number) => Ok(integer_of(kind, *number)),
+        DeclaredValue::Texts(items) => items_of(alloc, kind, items),
+        DeclaredValue::Other => Ok(None),
     }
 }
 
 fn value_or_kind(
     alloc: Global,
     kind: &OptionKind,
-    value: &Option<Given>,
+    value: &Option<DeclaredValue>,
 ) -> Result<Option<OptionValue>, AllocError>
     ensures { IfOk result (λ v. option_map value_in v ≡ value_or_kind (kind_in kind.now) (option_map given_in value.now)) }
 {

@@ -9,27 +9,27 @@ use std::alloc::{AllocError, Global};
 use support::faults::{Fault, Refusal};
 use thiserror::Error;
 
-/// Says where a value is.
+/// Says where a value comes from.
 #[derive(Clone, Copy, Debug)]
-pub enum Place {
+pub enum Origin {
     /// The statement on this line, from 1, of the option file.
     Declared(usize),
     /// The keyword `default_options` of the call of `project`.
     Project,
     /// This line, from 1, of the machine file.
     MachineFile(usize),
-    /// The word with this number, from 1, among the `-D` words of the command line.
+    /// The `-D` argument with this number, from 1, of the command line.
     CommandLine(usize),
 }
 
-/// Holds what is wrong with a value, and its place.
+/// Holds what is wrong with a value, and where it comes from.
 ///
-/// It is E15 if the value is none of its option, if there is no such option, or if a text is no name with a value. It is E23 if the value
-/// is left out.
+/// It is E15 if the option does not take the value, if there is no such option, or if a text is not a name with a value. It is E23 if the
+/// value is left out.
 #[derive(Debug, Drop, Error)]
 #[error("{refusal}{}{detail}", if .detail.is_empty() {""} else {": "})]
 pub struct OptionFault {
-    pub place: Place,
+    pub place: Origin,
     pub refusal: Refusal,
     /// The details, in words.
     pub detail: String,
@@ -47,10 +47,10 @@ impl OptionFault {
         ensures { IfOk result (λ fault. fault_view fault ≡ told_in option_file.now project_line (fault_in self)) }
     {
         let (file, line) = match self.place {
-            Place::Declared(line) => (option_file, line),
-            Place::Project => ("meson.build", project_line),
-            Place::MachineFile(line) => ("<machine file>", line),
-            Place::CommandLine(number) => ("<command line>", number),
+            Origin::Declared(line) => (option_file, line),
+            Origin::Project => ("meson.build", project_line),
+            Origin::MachineFile(line) => ("<machine file>", line),
+            Origin::CommandLine(number) => ("<command line>", number),
         };
         Fault::new(alloc, file, line, self.refusal, &self.detail)
     }

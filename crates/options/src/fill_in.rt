@@ -2,14 +2,14 @@
 
 ghost use Rattle.std.specs.Prelude.{◌≡◌, codes, map, OnOk};
 ghost use Rattle.std.specs.Option.{option_map};
-ghost use Rattle.machine.specs.option_values.View.{value_in};
-ghost use Rattle.options.specs.FillIns.{build_types, type_among, text_in, state_in, text_at, state_at, is_usr, is_auto, decided};
+ghost use Rattle.option_values.specs.View.{value_in};
+ghost use Rattle.options.specs.FillIns.{build_types, type_among, text_in, state_in, text_at, state_at, is_usr, is_auto, decided_setting};
 ghost use Rattle.options.specs.FillIns.{by_buildtype, by_prefix, by_auto_features, filled_in};
-ghost use Rattle.machine.specs.option_values.Settings.{fill, change_at};
+ghost use Rattle.option_values.specs.Settings.{fill, change_at};
 ghost use Rattle.options.specs.View.{type_in};
-ghost use Rattle.machine.specs.option_values.SettingsView.{settings_in};
+ghost use Rattle.option_values.specs.SettingsView.{settings_in};
 
-use machine::option_values::{FeatureState, OptionValue, Setting};
+use option_values::{FeatureState, OptionValue, Setting};
 use std::alloc::{AllocError, Global};
 use support::tables::SipMap;
 
@@ -145,7 +145,7 @@ fn is_auto(value: &OptionValue) -> bool
 
 // Sets option number `i` to this state, if it is a feature in state `auto`.
 fn decide_at(settings: &mut SipMap<String, Setting>, i: usize, state: FeatureState)
-    ensures { settings_in settings.new.entries ≡ change_at (decided state) i (settings_in settings.old.entries) }
+    ensures { settings_in settings.new.entries ≡ change_at (decided_setting state) i (settings_in settings.old.entries) }
 {
     let (_, setting) = match settings.get_index(i) {
         Some(entry) => entry,
@@ -159,7 +159,7 @@ fn decide_at(settings: &mut SipMap<String, Setting>, i: usize, state: FeatureSta
 
 // Sets every feature option in state `auto` to this state.
 fn decide_all(settings: &mut SipMap<String, Setting>, state: FeatureState)
-    ensures { settings_in settings.new.entries ≡ map (decided state) (settings_in settings.old.entries) }
+    ensures { settings_in settings.new.entries ≡ map (decided_setting state) (settings_in settings.old.entries) }
 {
     for i in 0..settings.len() {
         decide_at(settings, i, state);

@@ -11,16 +11,16 @@
 //! **The order of faults in one call.** A keyword that occurs twice is reported first, then one that is left out, then everything else. All
 //! other faults have the same number and line, so their order does not matter.
 
+mod argument_values;
 mod call;
 mod declaration;
 pub mod fault;
 mod file;
-mod given;
 mod keyword;
-mod misfit;
 mod names;
 mod number;
-mod unfit;
+mod refusals;
+mod statement_problem;
 
-pub use declaration::{Declaration, Declared, Given};
+pub use declaration::{Declaration, Declared, DeclaredValue};
 pub use file::declare;

@@ -3,23 +3,23 @@
 ghost use Rattle.std.specs.Prelude.{◌≡◌, IfOk, OnOk, fold, map};
 ghost use Rattle.std.specs.List.{flat_map};
 ghost use Rattle.std.specs.Option.{option_map};
-ghost use Rattle.machine.specs.machine_file.View.{machine_in, entries_of, value_in};
+ghost use Rattle.machine_file.specs.View.{machine_in, entries_of, value_in};
 ghost use Rattle.options.specs.option_file.View.{options_in as declared_in, option_in};
-ghost use Rattle.machine.specs.option_values.View.{kind_in, strings_in};
+ghost use Rattle.option_values.specs.View.{kind_in, strings_in};
 ghost use Rattle.options.specs.Resolves.{next};
 ghost use Rattle.options.specs.Verdicts.{of_declaration, of_assignment, of_named, of_project_default, of_words, of_entry, of_section};
 ghost use Rattle.options.specs.View.{declared_of, default_in, defaults_in, verdict_in, state_in};
-ghost use Rattle.options.specs.declared.fault.Place.TheVariants.{MachineFile};
+ghost use Rattle.options.specs.declared.fault.Origin.TheVariants.{MachineFile};
 
 use crate::default::default_of;
-use crate::fault::Place;
-use crate::known::{Known, Scope, scope_of};
-use crate::misfit::{Misfit, Written};
+use crate::fault::Origin;
+use crate::known_options::{Known, OptionScope, scope_of};
 use crate::option_file::{Declaration, Declared};
 use crate::state::State;
+use crate::value_problem::{ValueProblem, Written};
 use crate::verdict::{Verdict, of_named, refuse};
-use machine::machine_file::{Entry, Machine, Section, cut_first};
-use machine::option_values::{OptionKind, Setting};
+use machine_file::{Entry, Machine, Section, cut_first};
+use option_values::{OptionKind, Setting};
 use std::alloc::{AllocError, Global};
 
 /// Holds a value that the keyword `default_options` of `project` gives, with the name of its option.
@@ -49,8 +49,8 @@ fn of_declaration<'a>(
             },
         )),
         None => {
-            let misfit = Misfit::NoDefault(name, &declaration.kind, &declaration.value);
-            refuse(alloc, Place::Declared(declaration.line), misfit)
+            let misfit = ValueProblem::NoDefault(name, &declaration.kind, &declaration.value);
+            refuse(alloc, Origin::Declared(declaration.line), misfit)
         }
     }
 }
@@ -76,21 +76,21 @@ pub fn take_declarations(
     Ok(())
 }
 
-// Returns the verdict of a text of `default_options` or a word of the command line, which is a name and a value after the first `=`.
+// Returns the verdict of a text of `default_options` or an argument of the command line: a name, and a value after the first `=`.
 #[tactic(auto, unfolding(crate::specs::Verdicts::of_assignment))]
 fn of_assignment<'a>(
     alloc: Global,
     known: &Known<'_>,
     state: &State,
-    place: Place,
+    place: Origin,
     text: &'a str,
 ) -> Result<Verdict<'a>, AllocError>
     ensures { IfOk result (λ v. verdict_in v ≡ of_assignment (declared_of known.now) place text.now) }
 {
     let Some((name, value)) = cut_first(text, '=') else {
-        return refuse(alloc, place, Misfit::NoSign(text));
+        return refuse(alloc, place, ValueProblem::NoSign(text));
     };
-    let kind = known.kind_named(state.number_of(name), name);
+    let kind = known.kind_named(state.index_of(name), name);
     of_named(alloc, place, name, kind, Written::Text(value))
 }
 
@@ -109,12 +109,12 @@ fn of_project_default<'a>(
             alloc,
             known,
             state,
-            Place::Project,
+            Origin::Project,
             text,
         ),
         ProjectDefault::Entry(name, value) => {
-            let kind = known.kind_named(state.number_of(name), name);
-            of_named(alloc, Place::Project, name, kind, Written::Text(value))
+            let kind = known.kind_named(state.index_of(name), name);
+            of_named(alloc, Origin::Project, name, kind, Written::Text(value))
         }
     }
 }
@@ -149,7 +149,7 @@ fn of_entry<'a>(
     ensures { IfOk result (λ v. verdict_in v ≡ of_named (MachineFile entry.now.line) key.now (value_in entry.now.value)
         (option_map (λ k. kind_in k.now) kind.entry)) }
 {
-    let place = Place::MachineFile(entry.line);
+    let place = Origin::MachineFile(entry.line);
     of_named(alloc, place, key, kind, Written::Value(&entry.value))
 }
 
@@ -158,7 +158,7 @@ fn take_entries(
     alloc: Global,
     state: &mut State,
     known: &Known<'_>,
-    scope: Scope,
+    scope: OptionScope,
     section: &Section,
 ) -> Result<(), AllocError>
     ensures { OnOk result (state_in state.new ≡ fold next (state_in state.old)
@@ -171,7 +171,7 @@ fn take_entries(
         let Some((key, entry)) = section.at(i) else {
             return Ok(());
         };
-        let kind = known.kind_in_scope(scope, state.number_of(key), key);
+        let kind = known.kind_in_scope(scope, state.index_of(key), key);
         let verdict = of_entry(alloc, kind, key, entry)?;
         state.next(alloc, verdict)?;
     }
@@ -218,7 +218,7 @@ pub fn take_machine(
     Ok(())
 }
 
-/// Takes all words of the command line, which are numbered from 1.
+/// Takes all option arguments of the command line, which are numbered from 1.
 #[tactic(auto, unfolding(crate::specs::Verdicts::of_words))]
 pub fn take_words(
     alloc: Global,
@@ -233,7 +233,7 @@ pub fn take_words(
         if state.is_refused() {
             return Ok(());
         }
-        let place = Place::CommandLine(i + 1);
+        let place = Origin::CommandLine(i + 1);
         let verdict = of_assignment(alloc, known, state, place, word.as_str())?;
         state.next(alloc, verdict)?;
     }

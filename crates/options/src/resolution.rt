@@ -1,21 +1,21 @@
 //! Computes the final values of options.
 
 ghost use Rattle.std.specs.Prelude.{◌≡◌, IfOk};
-ghost use Rattle.machine.specs.machine_file.Questions.{options_at};
-ghost use Rattle.machine.specs.machine_file.View.{machine_in};
+ghost use Rattle.machine_file.specs.Questions.{options_at};
+ghost use Rattle.machine_file.specs.View.{machine_in};
 ghost use Rattle.options.specs.option_file.View.{options_in as declared_in};
-ghost use Rattle.machine.specs.option_values.View.{strings_in};
-ghost use Rattle.options.specs.Resolves.{at_first, resolved};
+ghost use Rattle.option_values.specs.View.{strings_in};
+ghost use Rattle.options.specs.Resolves.{at_first, resolved_options};
 ghost use Rattle.options.specs.View.{defaults_in, state_in, resolved_in};
 
 use crate::built_in::built_in_settings;
 use crate::fault::OptionFault;
-use crate::known::Known;
+use crate::known_options::Known;
 use crate::option_file::Declared;
 use crate::place::{ProjectDefault, take_declarations, take_defaults, take_machine, take_words};
 use crate::state::State;
-use machine::machine_file::Machine;
-use machine::option_values::Options;
+use machine_file::Machine;
+use option_values::Options;
 use std::alloc::{AllocError, Global};
 
 /// Holds the final values of a project's options.
@@ -42,8 +42,8 @@ fn at_first(alloc: Global) -> Result<State, AllocError>
 /// Returns the options of a project with their values.
 ///
 /// They come from the declarations of the option file, the keyword `default_options` of the call of `project`, a machine file, and the
-/// words `NAME=VALUE` of a command line. In this order, the last value of an option holds. Each must be a value of its option, and the
-/// first that is none is the fault.
+/// arguments `NAME=VALUE` of a command line. In this order, the last value of an option holds. The first value that its option does not
+/// take is the fault.
 ///
 /// A name in `default_options` that no option has is returned, for a warning. Any other such name is a fault. An option without any value
 /// has its default, or what `buildtype`, `prefix` and `auto_features` decide. Only the sections of options of the machine file are read.
@@ -56,7 +56,8 @@ pub fn resolve(
     words: &[String],
 ) -> Result<Resolved, AllocError>
     ensures { IfOk result (λ r. resolved_in r
-        ≡ resolved (declared_in declared.now) (defaults_in defaults.now) (options_at (machine_in machine.now)) (strings_in words.now)) }
+        ≡ resolved_options (declared_in declared.now) (defaults_in defaults.now) (options_at (machine_in machine.now))
+        (strings_in words.now)) }
 {
     let known = Known::new(alloc, declared)?;
     let mut state = at_first(alloc)?;

@@ -3,15 +3,15 @@
 ghost use Rattle.std.specs.Prelude.{◌≡◌, is_some, IfOk, OnOk};
 ghost use Rattle.options.specs.Resolves.{after_verdict, next, resolution_of};
 ghost use Rattle.options.specs.Verdicts.{Warns};
-ghost use Rattle.machine.specs.option_values.Settings.{put};
+ghost use Rattle.option_values.specs.Settings.{settings_with};
 ghost use Rattle.options.specs.View.{verdict_in, state_in, resolved_in};
-ghost use Rattle.machine.specs.option_values.SettingsView.{setting_in, settings_in};
+ghost use Rattle.option_values.specs.SettingsView.{setting_in, settings_in};
 
 use crate::fault::OptionFault;
 use crate::fill_in::fill_in;
 use crate::resolution::Resolved;
 use crate::verdict::Verdict;
-use machine::option_values::{Options, Setting};
+use option_values::{Options, Setting};
 use std::alloc::{AllocError, Global};
 use support::tables::SipMap;
 
@@ -39,7 +39,8 @@ pub fn put(
     name: &str,
     setting: Setting,
 ) -> Result<(), AllocError>
-    ensures { OnOk result (settings_in settings.new.entries ≡ put (setting_in name.now setting) (settings_in settings.old.entries)) }
+    ensures { OnOk result
+        (settings_in settings.new.entries ≡ settings_with (setting_in name.now setting) (settings_in settings.old.entries)) }
 {
     let name = String::from_str(alloc, name)?;
     settings.insert(name, setting)?;
@@ -69,7 +70,7 @@ impl State {
     }
 
     /// Returns the number of the setting with this name, or any number if there is none.
-    pub fn number_of(&self, name: &str) -> usize {
+    pub fn index_of(&self, name: &str) -> usize {
         self.settings.get_index_of(name).unwrap_or(0)
     }
 
@@ -80,7 +81,7 @@ impl State {
         self.fault.is_some()
     }
 
-    /// Takes one more verdict. Nothing is taken after a fault.
+    /// Adds one more verdict. After a fault, further verdicts change nothing.
     pub fn next(&mut self, alloc: Global, verdict: Verdict<'_>) -> Result<(), AllocError>
         ensures { OnOk result (state_in self.new ≡ next (state_in self.old) (verdict_in verdict.entry)) }
     {

@@ -1,17 +1,17 @@
 //! Decides what a value that a place gives means.
 
 ghost use Rattle.std.specs.Prelude.{◌≡◌, IfOk};
-ghost use Rattle.machine.specs.machine_file.Readers.{text_said};
-ghost use Rattle.machine.specs.option_values.View.{kind_in, value_in};
-ghost use Rattle.machine.specs.option_values.Given.{value_of_given};
+ghost use Rattle.machine_file.specs.Readers.{text_said};
+ghost use Rattle.option_values.specs.View.{kind_in, value_in};
+ghost use Rattle.option_values.specs.Given.{value_of_given};
 ghost use Rattle.std.specs.Option.{option_map};
-ghost use Rattle.options.specs.Verdicts.{refused, unknown_at, is_both, misfit_of, of_value, of_named};
+ghost use Rattle.options.specs.Verdicts.{refusing_verdict, unknown_at, is_both, misfit_of, of_value, of_named};
 ghost use Rattle.options.specs.MisfitView.{misfit_in, written_in};
 ghost use Rattle.options.specs.View.{verdict_in};
 
-use crate::fault::{OptionFault, Place};
-use crate::misfit::{Misfit, Written};
-use machine::option_values::{OptionKind, OptionValue, Setting, value_of_given, value_of_text};
+use crate::fault::{OptionFault, Origin};
+use crate::value_problem::{ValueProblem, Written};
+use option_values::{OptionKind, OptionValue, Setting, value_of_given, value_of_text};
 use std::alloc::{AllocError, Global};
 
 /// Says what a value at a place means.
@@ -28,10 +28,10 @@ pub enum Verdict<'a> {
 /// Refuses what is written at this place.
 pub fn refuse<'a>(
     alloc: Global,
-    place: Place,
-    misfit: Misfit<'_>,
+    place: Origin,
+    misfit: ValueProblem<'_>,
 ) -> Result<Verdict<'a>, AllocError>
-    ensures { IfOk result (λ v. verdict_in v ≡ refused place (misfit_in misfit.entry)) }
+    ensures { IfOk result (λ v. verdict_in v ≡ refusing_verdict place (misfit_in misfit.entry)) }
 {
     let refusal = misfit.refusal();
     let detail = misfit.words(alloc)?;
@@ -43,13 +43,17 @@ pub fn refuse<'a>(
 }
 
 /// Returns the verdict of a place that gives a value to a name that no option has. Only `default_options` may do so.
-fn refuse_unknown<'a>(alloc: Global, place: Place, name: &'a str) -> Result<Verdict<'a>, AllocError>
+fn refuse_unknown<'a>(
+    alloc: Global,
+    place: Origin,
+    name: &'a str,
+) -> Result<Verdict<'a>, AllocError>
     ensures { IfOk result (λ v. verdict_in v ≡ unknown_at place name.now) }
 {
     match place {
-        Place::Project => Ok(Verdict::Warns(name)),
-        Place::Declared(_) | Place::MachineFile(_) | Place::CommandLine(_) => {
-            refuse(alloc, place, Misfit::NoOption(name))
+        Origin::Project => Ok(Verdict::Warns(name)),
+        Origin::Declared(_) | Origin::MachineFile(_) | Origin::CommandLine(_) => {
+            refuse(alloc, place, ValueProblem::NoOption(name))
         }
     }
 }
@@ -86,23 +90,23 @@ impl Written<'_> {
     }
 
     // Returns what is wrong with a value that the option of this name and kind does not take.
-    fn misfit<'m>(&'m self, name: &'m str, kind: &'m OptionKind) -> Misfit<'m>
+    fn misfit<'m>(&'m self, name: &'m str, kind: &'m OptionKind) -> ValueProblem<'m>
         ensures { misfit_in result ≡ misfit_of name.now (kind_in kind.now) (written_in self.now) }
     {
         if self.is_both(name) {
-            Misfit::Both
+            ValueProblem::Both
         } else {
-            Misfit::NoValue(name, kind, *self)
+            ValueProblem::NoValue(name, kind, *self)
         }
     }
 }
 
-// Returns the verdict of a place that gives an option a value, or something that is none.
+// Returns the verdict of a place that gives an option a value, or something that the option does not take.
 fn of_value<'a>(
     alloc: Global,
-    place: Place,
+    place: Origin,
     name: &'a str,
-    otherwise: Misfit<'_>,
+    otherwise: ValueProblem<'_>,
     value: Option<OptionValue>,
 ) -> Result<Verdict<'a>, AllocError>
     ensures { IfOk result (λ v. verdict_in v ≡ of_value place name.now (misfit_in otherwise.entry) (option_map value_in value)) }
@@ -113,11 +117,11 @@ fn of_value<'a>(
     }
 }
 
-/// Returns the verdict of a place that gives the option of this name what is written there. Without a kind, there is no such option.
+/// Returns the verdict of a place that gives a value to the option of this name. `None` as the kind means that there is no such option.
 #[tactic(auto, unfolding(crate::specs::Verdicts::of_kind))]
 pub fn of_named<'a>(
     alloc: Global,
-    place: Place,
+    place: Origin,
     name: &'a str,
     kind: Option<&OptionKind>,
     written: Written<'_>,

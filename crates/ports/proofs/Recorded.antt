@@ -15,31 +15,31 @@ use Rattle.ports.specs.declared.memory.event.Event.TheVariants.{Open, Byte, Clos
 use Rattle.ports.specs.declared.memory.outputs.Span.{Span}
 use Rattle.ports.specs.declared.memory.outputs.Stream.TheVariants.{ToOutput, ToLog, ToFault}
 use Rattle.ports.specs.Outputs as outputs
-use Rattle.ports.specs.Outputs.{OutputState, Step, name_or_empty, told, name_after, opening, closing, puts, logs, faults, Takes}
+use Rattle.ports.specs.Outputs.{OutputState, Step, name_or_empty, events_of_steps, name_after, opening_steps, closing_steps, puts, logs, faults, Takes}
 use Rattle.ports.specs.memory.Slots.{name_at, event_at, open_at, events_at, is_span_within, is_within, is_open_within, are_within, slot_of}
 use Rattle.ports.specs.memory.Slots.{state_at}
 use Rattle.ports.proofs.OpenNames.{name_after-puts, name_after-logs, name_after-faults}
 
 -- the run is added as it stands
-takes_as_told : (old new : OutputState) (run : List Step) → new.tells ≡ true → new.open_name ≡ name_after old.open_name run → new.events ≡ old.events ++ told old.open_name run → Takes old new run
+takes_as_told : (old new : OutputState) (run : List Step) → new.tells ≡ true → new.open_name ≡ name_after old.open_name run → new.events ≡ old.events ++ events_of_steps old.open_name run → Takes old new run
 takes_as_told old new run t n e = record { tells = λ _. t; name = n; events = λ _. e }
 
 events_at-append : (names : List ℕ) (a b : List (Event Span)) → events_at names (a ++ b) ≡ events_at names a ++ events_at names b
 unfolding events_at
 events_at-append names a b = map-append (event_at names) a b
 
-told-logs : (names : List ℕ) (name : Option (List ℕ)) (bytes : List ℕ) → events_at names (map (slot_of ToLog) bytes) ≡ told name (logs bytes)
-unfolding events_at event_at told logs
+told-logs : (names : List ℕ) (name : Option (List ℕ)) (bytes : List ℕ) → events_at names (map (slot_of ToLog) bytes) ≡ events_of_steps name (logs bytes)
+unfolding events_at event_at events_of_steps logs
 told-logs names name [] = refl
 told-logs names name (b ∷ bytes) = ap (λ r. outputs.Log b ∷ r) (told-logs names name bytes)
 
-told-faults : (names : List ℕ) (name : Option (List ℕ)) (bytes : List ℕ) → events_at names (map (slot_of ToFault) bytes) ≡ told name (faults bytes)
-unfolding events_at event_at told faults
+told-faults : (names : List ℕ) (name : Option (List ℕ)) (bytes : List ℕ) → events_at names (map (slot_of ToFault) bytes) ≡ events_of_steps name (faults bytes)
+unfolding events_at event_at events_of_steps faults
 told-faults names name [] = refl
 told-faults names name (b ∷ bytes) = ap (λ r. outputs.Fault b ∷ r) (told-faults names name bytes)
 
-told-puts : (names : List ℕ) (span : Span) (bytes : List ℕ) → events_at names (map (slot_of (ToOutput span)) bytes) ≡ told (Some (name_at names span)) (puts bytes)
-unfolding events_at event_at told puts
+told-puts : (names : List ℕ) (span : Span) (bytes : List ℕ) → events_at names (map (slot_of (ToOutput span)) bytes) ≡ events_of_steps (Some (name_at names span)) (puts bytes)
+unfolding events_at event_at events_of_steps puts
 told-puts names span [] = refl
 told-puts names span (b ∷ bytes) = ap (λ r. outputs.Byte (name_at names span) b ∷ r) (told-puts names span bytes)
 
@@ -48,7 +48,7 @@ pub puts_recorded : (names : List ℕ) (slots new : List (Event Span)) (current 
 unfolding open_at
 puts_recorded names slots new current span f g bytes c e =
     takes_as_told _ _ _ refl (sym (name_after-puts _ bytes))
-    (ap (events_at names) e ∙ events_at-append names slots _ ∙ ap (λ r. events_at names slots ++ r) (told-puts names span bytes ∙ ap (λ n. told (open_at names n) (puts bytes)) (sym c)))
+    (ap (events_at names) e ∙ events_at-append names slots _ ∙ ap (λ r. events_at names slots ++ r) (told-puts names span bytes ∙ ap (λ n. events_of_steps (open_at names n) (puts bytes)) (sym c)))
 
 pub logs_recorded : (names : List ℕ) (slots new : List (Event Span)) (current : Option Span) (f g : ℕ) (bytes : List ℕ)
     → new ≡ slots ++ map (slot_of ToLog) bytes → Takes (state_at names slots current f) (state_at names new current g) (logs bytes)
@@ -64,13 +64,13 @@ faults_recorded names slots new current f g bytes e =
 
 pub nothing_recorded : (names more : List ℕ) (slots new : List (Event Span)) (current : Option Span) (f g : ℕ) → more ≡ names → new ≡ slots
     → Takes (state_at names slots current f) (state_at more new current g) []
-unfolding told name_after
+unfolding events_of_steps name_after
 nothing_recorded names more slots new current f g n e =
     takes_as_told _ _ _ refl (ap (λ m. open_at m current) n) (ap (λ m. events_at m new) n ∙ ap (events_at names) e ∙ sym (append-nil _))
 
 pub close_recorded : (names : List ℕ) (slots new : List (Event Span)) (current : Option Span) (span : Span) (f g : ℕ) → current ≡ Some span
-    → new ≡ slots ++ Close span ∷ [] → Takes (state_at names slots current f) (state_at names new None g) closing
-unfolding open_at events_at event_at told name_after closing
+    → new ≡ slots ++ Close span ∷ [] → Takes (state_at names slots current f) (state_at names new None g) closing_steps
+unfolding open_at events_at event_at events_of_steps name_after closing_steps
 close_recorded names slots new current span f g c e =
     takes_as_told _ _ _ refl refl
     (ap (events_at names) e ∙ events_at-append names slots _ ∙ ap (λ n. events_at names slots ++ (outputs.Close (name_or_empty (open_at names n)) ∷ [])) (sym c))
@@ -113,8 +113,8 @@ name_at-new names name span s e =
 
 pub open_recorded : (names more name : List ℕ) (slots new : List (Event Span)) (current : Option Span) (span : Span) (f g : ℕ) → are_within (length names) slots ≡ true
     → more ≡ names ++ name → span.start ≡ length names → span.end ≡ length more
-    → new ≡ slots ++ Open span ∷ [] → Takes (state_at names slots current f) (state_at more new (Some span) g) (opening name)
-unfolding open_at events_at event_at told name_after opening
+    → new ≡ slots ++ Open span ∷ [] → Takes (state_at names slots current f) (state_at more new (Some span) g) (opening_steps name)
+unfolding open_at events_at event_at events_of_steps name_after opening_steps
 open_recorded names more name slots new current span f g w m s e n =
     let at : name_at more span ≡ name = ap (λ r. name_at r span) m ∙ name_at-new names name span s (e ∙ ap length m) in
     takes_as_told _ _ _ refl (ap (λ r. Some r) at)

@@ -8,9 +8,9 @@ use Rattle.std.proofs.lemmas.Grind.{flat_map-append}
 use Rattle.std.proofs.lemmas.Bool.{false≢true}
 use Rattle.ports.specs.declared.fault.DeviceFault.{DeviceFault}
 use Rattle.ports.specs.Outputs.{Event, Open, Byte, Close, Log, Fault, OutputState, Step, Opens, Puts, Closes, Logs, Faults}
-use Rattle.ports.specs.Outputs.{name_or_empty, told, name_after, opening, Takes}
+use Rattle.ports.specs.Outputs.{name_or_empty, events_of_steps, name_after, opening_steps, Takes}
 use Rattle.ports.specs.Outputs.{Sends, all, part, IsOpen, Took, Makes, Writes}
-use Rattle.ports.specs.Endings.{Ending, Whole, Failed, Short, ended, is_whole, failures_after}
+use Rattle.ports.specs.Endings.{Ending, Whole, Failed, Short, ending_of_result, is_whole, failures_after}
 
 -- ---- names and events
 
@@ -23,8 +23,8 @@ name_after-append name (Closes ∷ a) b = name_after-append None a b
 name_after-append name (Logs byte ∷ a) b = name_after-append name a b
 name_after-append name (Faults byte ∷ a) b = name_after-append name a b
 
-told-append : (name : Option (List ℕ)) (a b : List Step) → told name (a ++ b) ≡ told name a ++ told (name_after name a) b
-unfolding told name_after
+told-append : (name : Option (List ℕ)) (a b : List Step) → events_of_steps name (a ++ b) ≡ events_of_steps name a ++ events_of_steps (name_after name a) b
+unfolding events_of_steps name_after
 told-append name [] b = refl
 told-append name (Opens next ∷ a) b = ap (λ r. Open next ∷ r) (told-append (Some next) a b)
 told-append name (Puts byte ∷ a) b = ap (λ r. Byte (name_or_empty name) byte ∷ r) (told-append name a b)
@@ -35,7 +35,7 @@ told-append name (Faults byte ∷ a) b = ap (λ r. Fault byte ∷ r) (told-appen
 -- ---- steps that were taken
 
 pub takes_nothing : (s : OutputState) → Takes s s []
-unfolding told name_after
+unfolding events_of_steps name_after
 takes_nothing s = record { tells = λ h. h; name = refl; events = λ _. sym (append-nil s.events) }
 
 pub takes_then : {old mid new : OutputState} {a b : List Step} → Takes old mid a → Takes mid new b → Takes old new (a ++ b)
@@ -43,8 +43,8 @@ takes_then {old} {mid} {new} {a} {b} s t = record {
   tells = λ h. t.tells (s.tells h);
   name = t.name ∙ ap (λ n. name_after n b) s.name ∙ sym (name_after-append old.open_name a b);
   events = λ h.
-      t.events (s.tells h) ∙ ap (λ m. m ++ told mid.open_name b) (s.events h) ∙ append_assoc old.events (told old.open_name a) (told mid.open_name b)
-      ∙ ap (λ n. old.events ++ (told old.open_name a ++ told n b)) s.name ∙ ap (λ r. old.events ++ r) (sym (told-append old.open_name a b));
+      t.events (s.tells h) ∙ ap (λ m. m ++ events_of_steps mid.open_name b) (s.events h) ∙ append_assoc old.events (events_of_steps old.open_name a) (events_of_steps mid.open_name b)
+      ∙ ap (λ n. old.events ++ (events_of_steps old.open_name a ++ events_of_steps n b)) s.name ∙ ap (λ r. old.events ++ r) (sym (told-append old.open_name a b));
 }
 
 -- outputs that do not tell owe no events
@@ -53,11 +53,11 @@ takes_untold steps e name = record { tells = λ h. absurd (false≢true (sym e �
 
 -- ---- one call of a device
 
-pub failures_failed : {T : Type 0} (n : ℕ) (r : Result T DeviceFault) → is_err r ≡ true → n + 1 ≡ failures_after n (ended r)
+pub failures_failed : {T : Type 0} (n : ℕ) (r : Result T DeviceFault) → is_err r ≡ true → n + 1 ≡ failures_after n (ending_of_result r)
 failures_failed n (Ok x) h = absurd (false≢true h)
 failures_failed n (Err e) h = refl
 
-pub failures_whole : {T : Type 0} (n : ℕ) (r : Result T DeviceFault) → is_err r ≡ false → n ≡ failures_after n (ended r)
+pub failures_whole : {T : Type 0} (n : ℕ) (r : Result T DeviceFault) → is_err r ≡ false → n ≡ failures_after n (ending_of_result r)
 failures_whole n (Ok x) h = refl
 failures_whole n (Err e) h = absurd (false≢true (sym h))
 
@@ -91,7 +91,7 @@ pub sends_none : (s : OutputState) (run : List Step) → Sends s s run false
 sends_none s run = part [] run refl (takes_nothing s)
 
 -- at the exit of a `?`
-pub sends_exit : {old new : OutputState} {a : List Step} {T : Type 0} (r : Result T DeviceFault) → IsErr r → Sends old new a false → Sends old new a (is_whole (ended r))
+pub sends_exit : {old new : OutputState} {a : List Step} {T : Type 0} (r : Result T DeviceFault) → IsErr r → Sends old new a false → Sends old new a (is_whole (ending_of_result r))
 sends_exit (Ok x) e s = absurd (false≢true e)
 sends_exit (Err x) e s = s
 
@@ -146,13 +146,13 @@ pub writes_took : {old new : OutputState} {steps : List Step} {e : Ending} → n
 writes_took k t = record { sends = sends_all _ t.takes; name = t.takes.name ∙ k; failures = t.failures }
 
 -- at the exit of a `?`
-pub writes_exit : {old new : OutputState} {a : List Step} {T : Type 0} (r : Result T DeviceFault) → IsErr r → Writes old a Failed new → Writes old a (ended r) new
+pub writes_exit : {old new : OutputState} {a : List Step} {T : Type 0} (r : Result T DeviceFault) → IsErr r → Writes old a Failed new → Writes old a (ending_of_result r) new
 writes_exit (Ok x) e s = absurd (false≢true e)
 writes_exit (Err x) e s = s
 
 -- an output that was begun is open
-pub open_opened : {old new : OutputState} (name : List ℕ) → Took old (opening name) Whole new → old.failures + 1 < 2 ^ 64 → IsOpen new
-unfolding opening name_after
+pub open_opened : {old new : OutputState} (name : List ℕ) → Took old (opening_steps name) Whole new → old.failures + 1 < 2 ^ 64 → IsOpen new
+unfolding opening_steps name_after
 open_opened name t room = record { room = subst (λ n. n + 1 < 2 ^ 64) (sym t.failures) room; name = subst (λ n. IsSome n) (sym t.takes.name) refl }
 
 -- what was open is open still

@@ -12,5 +12,6 @@ files_below folder = []
 pub are_steady : (folder : List ℕ) → Bool
 are_steady folder = false
 
+-- Returns the state of the files below a folder, given the count of the disk's failures.
 abbrev pub disk_state : (folder : List ℕ) (failures : ℕ) → TreeState
 disk_state folder failures = record { files = files_below folder; failures = failures; steady = are_steady folder }

@@ -9,10 +9,11 @@ pub data Ending : Type 0 where
   Short : Ending
 
 -- Returns the ending of a call whose only error is that of a device.
-abbrev pub ended : {T : Type 0} → Result T DeviceFault → Ending
-ended (Ok x) = Whole
-ended (Err e) = Failed
+abbrev pub ending_of_result : {T : Type 0} → Result T DeviceFault → Ending
+ending_of_result (Ok x) = Whole
+ending_of_result (Err e) = Failed
 
+-- Returns whether a call did everything.
 abbrev pub is_whole : Ending → Bool
 is_whole Whole = true
 is_whole Failed = false
@@ -24,6 +25,6 @@ failures_after n Whole = n
 failures_after n Failed = n + 1
 failures_after n Short = n
 
--- One more failure can be counted. Each call of a device requires it.
+-- Holds if one more failure can be counted in 64 bits. Each call of a device requires it.
 abbrev pub HasRoom : ℕ → Type 0
 HasRoom failures = failures + 1 < 2 ^ 64

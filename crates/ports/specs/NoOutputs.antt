@@ -3,5 +3,6 @@ use Rattle.std.specs.Prelude.{ℕ, false, [], Option, String, option_map, string
 use Rattle.std.specs.Global.{Global}
 use Rattle.ports.specs.Outputs.{OutputState}
 
-abbrev pub untold : Option (String Global) → ℕ → OutputState
-untold current failures = record { events = []; open_name = option_map string_bytes current; failures = failures; tells = false }
+-- Returns the state of outputs that keep no events, given the name of the open output, if there is one, and the count of failures.
+abbrev pub untold_state : Option (String Global) → ℕ → OutputState
+untold_state current failures = record { events = []; open_name = option_map string_bytes current; failures = failures; tells = false }

@@ -8,6 +8,7 @@ use Rattle.ports.specs.Endings.{Ending, failures_after}
 pub record TreeState : Type 0 where
   pub files : List (List ℕ × List ℕ)
   pub failures : ℕ
+  -- Whether the files stay unchanged during a run.
   pub steady : Bool
 
 -- Returns the bytes of the file at this path, or `None` if there is no file.
@@ -35,6 +36,9 @@ pub record Asks (old : TreeState) (ending : Ending) (new : TreeState) : Type 0 w
 
 -- The first n bytes of a buffer of this length are those of the file at this position, and there is at least one if any are left.
 pub record Reads (file : List ℕ) (at room n : ℕ) (buffer : List ℕ) : Type 0 where
+  -- The call read the bytes of the file at the position.
   pub bytes : take n buffer ≡ take n (drop at file)
+  -- The call read no more bytes than the file has left.
   pub left : n ≤ length file - at
+  -- The call read at least one byte if the buffer has room and the file has bytes left.
   pub some : 0 < room → at < length file → 0 < n

@@ -1,3 +1,4 @@
+//! Writes outputs below a folder of a disk.
 ghost use Rattle.std.specs.Prelude.{◌≡◌, ◌≤◌, ◌<◌, Some, length, IfOk, string_bytes, if◌then◌else◌};
 ghost use Rattle.std.specs.Option.{option_map};
 ghost use Rattle.ports.specs.DiskOutputs.{disk_state, name_of};

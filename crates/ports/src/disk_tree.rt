@@ -1,3 +1,4 @@
+//! Reads files below a folder of a disk.
 ghost use Rattle.std.specs.Prelude.{◌≡◌, ◌≤◌, length, string_bytes, IfOk};
 ghost use Rattle.ports.specs.DiskTree.{disk_state};
 

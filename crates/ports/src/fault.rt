@@ -1,3 +1,4 @@
+//! Reports that a call of a device failed.
 use thiserror::Error;
 
 /// Reports that a device could not do what it was asked to do. All calls of devices have this one error.

@@ -9,7 +9,7 @@
 //! their failures, and whether they *tell*. Each call of outputs that tell adds to the list what its result says.
 //!
 //! Devices in memory, which tests use, are always steady and always tell. No program can know either of a disk. For [`DiskTree`] and
-//! [`DiskOutputs`] both are therefore closed: no contract states them or denies them. What is proved of bytes holds for a disk if nobody
+//! [`DiskOutputs`] both are therefore closed: no contract states them or denies them. The clauses about bytes hold for a disk if nobody
 //! writes the files during the run, and if it stores what it accepts. Only the user can know that.
 //!
 //! An *event* is one byte of an output, of the log or of a fault's line, or the opening or closing of an output. Outputs, log and fault
@@ -26,8 +26,8 @@
 //! ```
 //!
 //! An ending is `Whole`, `Failed` (the device counted one more failure) or `Short` (another reason ended the call, such as a lack of
-//! memory). `ended result` is the ending of a result whose one error is a device's. A call requires `HasRoom`: one more failure can be
-//! counted. It requires `IsOpen` if it writes into an output.
+//! memory). `ending_of_result result` is the ending of a result whose one error is a device's. A call requires `HasRoom`: one more failure
+//! can be counted. It requires `IsOpen` if it writes into an output.
 //!
 //! [`put_all`], [`log_all`] and [`fault_all`] write whole slices. They take one step for each byte.
 //!

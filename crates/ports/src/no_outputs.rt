@@ -1,6 +1,6 @@
 //! Provides outputs that keep nothing.
 ghost use Rattle.std.specs.Prelude.{◌≡◌, None};
-ghost use Rattle.ports.specs.NoOutputs.{untold};
+ghost use Rattle.ports.specs.NoOutputs.{untold_state};
 
 use crate::fault::DeviceFault;
 use crate::outputs::Outputs;
@@ -18,7 +18,7 @@ pub struct NoOutputs {
 impl NoOutputs {
     /// Returns outputs of which none is open.
     pub fn new(alloc: Global) -> NoOutputs
-        ensures { ⟦<NoOutputs as Outputs>⟧.seen result ≡ untold None 0 }
+        ensures { ⟦<NoOutputs as Outputs>⟧.seen result ≡ untold_state None 0 }
     {
         NoOutputs {
             alloc,
@@ -29,7 +29,7 @@ impl NoOutputs {
 }
 
 impl Outputs for NoOutputs {
-    ghost seen = { λ n. untold n.current n.failures };
+    ghost seen = { λ n. untold_state n.current n.failures };
 
     fn failures(&self) -> u64 {
         self.failures

@@ -1,7 +1,7 @@
 -- Questions that are equal.
 use Rattle.std.proofs.Common.{◌≡◌, List, Result, subst}
-use Rattle.machine.specs.machine_file.Files.{Section}
-use Rattle.machine.specs.machine_file.Questions.{Question, answer_to}
+use Rattle.machine_file.specs.Files.{Section}
+use Rattle.machine_file.specs.Questions.{Question, answer_to}
 use Rattle.world.specs.Answering.{State, Carries}
 use Rattle.world.specs.Deed.{consult}
 use Rattle.world.specs.declared.stop.Stop.{Stop}

@@ -1,8 +1,8 @@
 -- Files that are required, one after another.
 use Rattle.std.proofs.Common.{◌≡◌, ℕ, suc, ◌+◌, ◌<◌, List, map, drop, length, get_or, ap, sym, refl, ◌∙◌, add-one}
 use Rattle.std.proofs.Math.Seq.{drop-cons}
-use Rattle.named_sources.specs.SourcesView.{named_view}
-use Rattle.named_sources.specs.declared.sources.NamedSource.{NamedSource}
+use Rattle.sources.specs.SourcesView.{named_view}
+use Rattle.sources.specs.declared.sources.NamedSource.{NamedSource}
 use Rattle.world.specs.Deed.{then}
 use Rattle.resource_calls.specs.NamedFiles.{file_required, files_required}
 

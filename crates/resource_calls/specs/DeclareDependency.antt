@@ -5,8 +5,8 @@ use Rattle.values.specs.Data.{Data, object}
 use Rattle.values.specs.declared.object.Dependency.{Dependency}
 use Rattle.values.specs.declared.object.Object.TheVariants as objects
 use Rattle.build.specs.Libraries.{linked_of}
-use Rattle.world.specs.Deed.{Deed, give, read, ◌>>=◌, answered}
-use Rattle.world.specs.Fit.{passed}
+use Rattle.world.specs.Deed.{Deed, give, read, ◌>>=◌, answer_or_refusal}
+use Rattle.world.specs.Fit.{deed_of_result}
 use Rattle.resource_calls.specs.JoinedLists.{joined_dependency}
 use Rattle.resource_calls.specs.NamedFiles.{files_required}
 use Rattle.resource_calls.specs.OwnLists.{OwnData, own_lists}
@@ -16,13 +16,13 @@ use Rattle.world.specs.Here.{here_of}
 unfoldable pub said_lists : ArgumentsData → Deed OwnData
 said_lists a = do
   facts ← read
-  passed (own_lists (here_of facts) a)
+  deed_of_result (own_lists (here_of facts) a)
 
 -- Returns the dependency with these lists and those of its dependencies, and refuses lists that are too long with E22.
 unfoldable pub joined_given : ArgumentsData → OwnData → Deed Dependency
 joined_given a own = do
   facts ← read
-  answered (joined_dependency facts.project.surroundings.facts.version (linked_of facts.project.targets) a own)
+  answer_or_refusal (joined_dependency facts.project.surroundings.facts.version (linked_of facts.project.targets) a own)
 
 -- Defines `declare_dependency()`. Refuses with E9, with E14 for the first missing source, and with E22.
 unfoldable pub declare_dependency : ArgumentsData → Deed (Option Data)

@@ -3,21 +3,21 @@ use Rattle.std.specs.Prelude.{ℕ, Bool, false, List, [], ◌∷◌, Option, Som
 use Rattle.arguments.specs.Arguments.{ArgumentsData}
 use Rattle.values.specs.Flat.{flat_all}
 use Rattle.arguments.specs.Given.{text_at, texts}
-use Rattle.arguments.specs.declared.given.Requirement.{Requirement}
-use Rattle.arguments.specs.declared.given.Requirement.TheVariants as requirements
+use Rattle.arguments.specs.declared.readers.Requirement.{Requirement}
+use Rattle.arguments.specs.declared.readers.Requirement.TheVariants as requirements
 use Rattle.values.specs.Data.{Data, object}
 use Rattle.values.specs.declared.object.Dependency.{Dependency}
 use Rattle.values.specs.declared.object.Object.TheVariants as objects
-use Rattle.values.specs.declared.refusal.Refusal.{Refusal}
+use Rattle.values.specs.declared.refusal.OperationRefusal.{OperationRefusal}
 use Rattle.support.specs.declared.faults.refusal.Refusal.TheVariants as refusals
-use Rattle.machine.specs.machine_file.Questions.{dependency_topic}
+use Rattle.machine_file.specs.Questions.{dependency_topic}
 use Rattle.build.specs.project.World.{AnswerData}
-use Rattle.named_sources.specs.resources.Beside.{call_question}
-use Rattle.named_sources.specs.resources.Fitting.{dependency_that_fits}
-use Rattle.named_sources.specs.resources.Found.{missing}
+use Rattle.resources.specs.Beside.{call_question}
+use Rattle.resources.specs.Fitting.{dependency_that_fits}
+use Rattle.resources.specs.Found.{missing_dependency}
 use Rattle.resource_calls.specs.Required.{gives_disabler, object_or, required_by}
 use Rattle.world.specs.Declaring.{add_dependency}
-use Rattle.world.specs.Deed.{Deed, give, refuse, consult, ◌>>=◌, answered}
+use Rattle.world.specs.Deed.{Deed, give, refuse, consult, ◌>>=◌, answer_or_refusal}
 
 -- ---- what is recorded
 
@@ -28,48 +28,48 @@ answer_of d = record { name = d.name; version = d.version; is_found = d.is_found
 -- ---- the call
 
 -- Returns the dependency with a name if the machine file has a section for it and its version meets the conditions of the call.
-unfoldable pub ask_dependency : List ℕ → ArgumentsData → Deed (Option (Result Dependency Refusal))
+unfoldable pub ask_dependency : List ℕ → ArgumentsData → Deed (Option (Result Dependency OperationRefusal))
 ask_dependency name a = do
   answer ← consult (call_question (dependency_topic name) a)
   give (dependency_that_fits (texts (codes "version") a) name answer)
 
--- Returns the dependency with a name. For the empty name nothing is asked, and there is none.
-unfoldable pub dependency_named : List ℕ → ArgumentsData → Deed (Option (Result Dependency Refusal))
+-- Returns the dependency with a name. The empty name has no dependency, and the machine file is not queried for it.
+unfoldable pub dependency_named : List ℕ → ArgumentsData → Deed (Option (Result Dependency OperationRefusal))
 dependency_named [] a = give None
 dependency_named (b ∷ name) a = ask_dependency (b ∷ name) a
 
 -- Returns what was found, and otherwise looks further.
-abbrev pub said_or : Option (Result Dependency Refusal) → Deed (Option (Result Dependency Refusal))
-    → Deed (Option (Result Dependency Refusal))
+abbrev pub said_or : Option (Result Dependency OperationRefusal) → Deed (Option (Result Dependency OperationRefusal))
+    → Deed (Option (Result Dependency OperationRefusal))
 said_or (Some said) others = give (Some said)
 said_or None others = others
 
--- Returns what the machine file says of the first name that fits. The names are asked one after another.
-unfoldable pub first_said : ArgumentsData → List (List ℕ) → Deed (Option (Result Dependency Refusal))
+-- Returns what the machine file says of the first name that fits. The names are looked up one after another.
+unfoldable pub first_said : ArgumentsData → List (List ℕ) → Deed (Option (Result Dependency OperationRefusal))
 first_said a [] = give None
 first_said a (name ∷ names) = do
   said ← dependency_named name a
   said_or said (first_said a names)
 
--- Returns what the machine file says of the first name that fits. Nothing is asked if `required` is a disabled feature.
-unfoldable pub fitting_dependency : Requirement → ArgumentsData → Deed (Option (Result Dependency Refusal))
+-- Returns what the machine file says of the first name that fits. If `required` is a disabled feature, the machine file is not queried.
+unfoldable pub fitting_dependency : Requirement → ArgumentsData → Deed (Option (Result Dependency OperationRefusal))
 fitting_dependency requirements.Disabled a = give None
 fitting_dependency _ a = first_said a (flat_all a.positional)
 
 -- Records a dependency, and returns it or a disabler in its place. Refuses one that is too large with E22.
-unfoldable pub give_noted : Result Dependency Refusal → (is_disabled : Bool) → Deed (Option Data)
+unfoldable pub give_noted : Result Dependency OperationRefusal → (is_disabled : Bool) → Deed (Option Data)
 give_noted said is_disabled = do
-  d ← answered said
+  d ← answer_or_refusal said
   _ ← add_dependency (answer_of d)
   give (Some (object (object_or (objects.Dependency d) is_disabled)))
 
 -- Returns the dependency that the machine file describes.
-unfoldable pub give_found : Result Dependency Refusal → Deed (Option Data)
+unfoldable pub give_found : Result Dependency OperationRefusal → Deed (Option Data)
 give_found said = give_noted said false
 
 -- Records the first name of a dependency that was not found. Returns a disabler if the keyword `disabler` requests one.
 unfoldable pub give_missing : ArgumentsData → Deed (Option Data)
-give_missing a = give_noted (missing (text_at 0 a)) (gives_disabler a)
+give_missing a = give_noted (missing_dependency (text_at 0 a)) (gives_disabler a)
 
 -- Returns the result if no name fits. Refuses with E17 of the first name if the dependency is required.
 unfoldable pub none_fits : Requirement → ArgumentsData → Deed (Option Data)
@@ -77,11 +77,12 @@ none_fits requirements.Required a = refuse refusals.NotFound (text_at 0 a)
 none_fits _ a = give_missing a
 
 -- Returns the dependency that fits, or the result if none fits.
-unfoldable pub give_fitting : ArgumentsData → Option (Result Dependency Refusal) → Deed (Option Data)
+unfoldable pub give_fitting : ArgumentsData → Option (Result Dependency OperationRefusal) → Deed (Option Data)
 give_fitting a (Some said) = give_found said
 give_fitting a None = none_fits (required_by a) a
 
--- Defines `dependency(names..)`.
+-- Returns the first dependency that fits, of those that the arguments name (`dependency`). Refuses with E17 if none fits and one is
+-- required.
 unfoldable pub dependency : ArgumentsData → Deed (Option Data)
 dependency a = do
   said ← fitting_dependency (required_by a) a

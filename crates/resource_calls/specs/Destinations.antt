@@ -4,14 +4,14 @@ use Rattle.arguments.specs.Arguments.{ArgumentsData}
 use Rattle.arguments.specs.Given.{text_given, text_of}
 use Rattle.arguments.specs.Each.{each_said}
 use Rattle.arguments.specs.Leaves.{leaves_from}
-use Rattle.arguments.specs.Said.{Said, ◌>>=◌, found}
+use Rattle.arguments.specs.Said.{Said, ◌>>=◌, found_value}
 use Rattle.arguments.specs.declared.rule.Rule.TheVariants as rules
 use Rattle.build.specs.edge.Texts.{Path, Text}
 use Rattle.support.specs.paths.Below.{path_below}
 use Rattle.build.specs.project.World.{InstallData}
 use Rattle.support.specs.paths.Names.{plain_name}
-use Rattle.named_sources.specs.resources.Installs.{destination, headers_folder, man_folder}
-use Rattle.named_sources.specs.Sources.{NamedData, tree, built, sources_of}
+use Rattle.resources.specs.Installs.{destination, headers_folder, man_folder}
+use Rattle.sources.specs.Sources.{NamedData, tree, built, sources_of}
 use Rattle.world.specs.Here.{HereData, here_of}
 use Rattle.world.specs.Options.{option_text}
 use Rattle.world.specs.World.{Facts}
@@ -78,8 +78,8 @@ path_said (built path) = path
 path_said _ = []
 
 -- Returns where a named file is installed. A file that cannot be installed breaks a rule.
-abbrev pub installed : FoldersData → Sort → ArgumentsData → NamedData → Said InstallData
-installed folders sort a n = found (install_of folders sort a n) rules.IsManPage (path_said n)
+abbrev pub destination_of_file : FoldersData → Sort → ArgumentsData → NamedData → Said InstallData
+destination_of_file folders sort a n = found_value (install_of folders sort a n) rules.IsManPage (path_said n)
 
 -- ---- the call
 
@@ -91,7 +91,7 @@ pub record SaidData : Type 0 where
 -- Returns what a call with these files installs.
 abbrev pub said_from : FoldersData → Sort → ArgumentsData → List NamedData → Said SaidData
 said_from folders sort a named = do
-  installs ← each_said (installed folders sort a) [] named
+  installs ← each_said (destination_of_file folders sort a) [] named
   Ok (record { named = named; installs = installs })
 
 -- Returns what the call installs, or its refusal. Each path must be below the source root, and each man page needs a section.

@@ -1,7 +1,7 @@
 -- Defines the views of directories and of installed files.
 use Rattle.std.specs.Prelude.{map}
 use Rattle.build.specs.project.View.{install_view}
-use Rattle.named_sources.specs.SourcesView.{named_view}
+use Rattle.sources.specs.SourcesView.{named_view}
 use Rattle.world.specs.HereView.{here_view}
 use Rattle.resource_calls.specs.Destinations.{FoldersData, SaidData}
 use Rattle.resource_calls.specs.declared.destinations.Folders.{Folders}

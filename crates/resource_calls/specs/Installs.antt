@@ -5,7 +5,7 @@ use Rattle.values.specs.Data.{Data}
 use Rattle.build.specs.project.World.{InstallData}
 use Rattle.world.specs.Declaring.{add_install}
 use Rattle.world.specs.Deed.{Deed, give, read, ◌>>=◌}
-use Rattle.world.specs.Fit.{passed}
+use Rattle.world.specs.Fit.{deed_of_result}
 use Rattle.resource_calls.specs.Destinations.{SaidData, folders_in, said_of}
 use Rattle.resource_calls.specs.NamedFiles.{files_required}
 use Rattle.resource_calls.specs.declared.destinations.Sort.{Sort}
@@ -14,7 +14,7 @@ use Rattle.resource_calls.specs.declared.destinations.Sort.{Sort}
 unfoldable pub said_installs : Sort → ArgumentsData → Deed SaidData
 said_installs sort a = do
   facts ← read
-  passed (said_of (folders_in facts) sort a)
+  deed_of_result (said_of (folders_in facts) sort a)
 
 -- Records each installed file.
 unfoldable pub all_installed : List InstallData → Deed (Unit {0})

@@ -8,41 +8,42 @@ use Rattle.values.specs.Limits.{within_bytes}
 use Rattle.values.specs.declared.object.Dependency.{Dependency}
 use Rattle.values.specs.declared.object.Source.{Source}
 use Rattle.values.specs.declared.object.Source.TheVariants as source
-use Rattle.values.specs.declared.refusal.Refusal.{Refusal}
+use Rattle.values.specs.declared.refusal.OperationRefusal.{OperationRefusal}
 use Rattle.build.specs.edge.Texts.{Path, Text}
-use Rattle.named_sources.specs.resources.Found.{◌>>=◌, found, within_texts}
-use Rattle.named_sources.specs.resources.Joined.{dependencies_in, joined}
-use Rattle.named_sources.specs.Outputs.{outputs_at}
-use Rattle.named_sources.specs.Sources.{NamedData, tree, built, outputs, output}
-use Rattle.build.specs.Libraries.{LinkedData}
+use Rattle.resources.specs.Found.{◌>>=◌, found_dependency}
+use Rattle.values.specs.Copies.{within_texts}
+use Rattle.resources.specs.Joined.{dependencies_in, dependency_with_others}
+use Rattle.sources.specs.Outputs.{outputs_at}
+use Rattle.sources.specs.Sources.{NamedData, tree, built, outputs, output}
+use Rattle.build.specs.Libraries.{DeclaredTargetData}
 use Rattle.resource_calls.specs.OwnLists.{OwnData}
 
 -- ---- sources, as a value of the language has them
 
 -- Returns how many outputs a target has.
-abbrev pub count_at : List LinkedData → ℕ → ℕ
+abbrev pub count_at : List DeclaredTargetData → ℕ → ℕ
 count_at earlier number = unwrap_or (option_map length (outputs_at earlier number)) 0
 
 -- Returns a source file, or the refusal if its path is too long.
-abbrev pub tree_source : Path → Result Source Refusal
+abbrev pub tree_source : Path → Result Source OperationRefusal
 tree_source path = do
   p ← within_bytes path
   Ok (source.File p false)
 
 -- Returns the source that is named, or the refusal if its path is too long.
-abbrev pub source_of : List LinkedData → NamedData → Result Source Refusal
+abbrev pub source_of : List DeclaredTargetData → NamedData → Result Source OperationRefusal
 source_of earlier (tree path) = tree_source path
 source_of earlier (built path) = Ok (source.File path true)
 source_of earlier (outputs number) = Ok (source.CustomTarget number (count_at earlier number))
 source_of earlier (output target place) = Ok (source.CustomOutput target place)
 
 -- Returns sources followed by those that are named.
-abbrev pub sources_behind : List LinkedData → List Source → List NamedData → Result (List Source) Refusal
+abbrev pub sources_behind : List DeclaredTargetData → List Source → List NamedData → Result (List Source) OperationRefusal
 sources_behind earlier ss [] = Ok ss
 sources_behind earlier ss (n ∷ ns) = source_of earlier n >>= (λ s. sources_behind earlier (ss ++ s ∷ []) ns)
 
 -- Returns the sources that are named, or E22 if a path is too long.
-abbrev pub sources_within : List LinkedData → List NamedData → Result (List Source) Refusal
+abbrev pub sources_within : List DeclaredTargetData → List NamedData → Result (List Source) OperationRefusal
 sources_within earlier ns = sources_behind earlier [] ns
 
 -- ---- the dependency
@@ -57,11 +58,11 @@ with_own d folders libraries sources =
     record d { include_directories = folders; link_with = d.link_with ++ libraries; sources = sources }
 
 -- Returns the dependency with its version and arguments, without directories, libraries and sources. It has no name.
-abbrev pub with_arguments : Text → ArgumentsData → Result Dependency Refusal
-with_arguments project a = found [] (version_or project a) (texts (codes "compile_args") a) (texts (codes "link_args") a)
+abbrev pub with_arguments : Text → ArgumentsData → Result Dependency OperationRefusal
+with_arguments project a = found_dependency [] (version_or project a) (texts (codes "compile_args") a) (texts (codes "link_args") a)
 
 -- Returns the dependency with its own lists.
-abbrev pub own_dependency : Text → List LinkedData → ArgumentsData → OwnData → Result Dependency Refusal
+abbrev pub own_dependency : Text → List DeclaredTargetData → ArgumentsData → OwnData → Result Dependency OperationRefusal
 own_dependency project earlier a own = do
   d ← with_arguments project a
   folders ← within_texts own.folders
@@ -74,7 +75,7 @@ dependencies_given None = []
 dependencies_given (Some d) = dependencies_in d
 
 -- Returns the dependency with its own lists, followed by those of its dependencies.
-abbrev pub joined_dependency : Text → List LinkedData → ArgumentsData → OwnData → Result Dependency Refusal
+abbrev pub joined_dependency : Text → List DeclaredTargetData → ArgumentsData → OwnData → Result Dependency OperationRefusal
 joined_dependency project earlier a own = do
   d ← own_dependency project earlier a own
-  joined d (dependencies_given (keyword (codes "dependencies") a))
+  dependency_with_others d (dependencies_given (keyword (codes "dependencies") a))

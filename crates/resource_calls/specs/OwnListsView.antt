@@ -1,7 +1,7 @@
 -- Defines the view of the lists that a call itself gives.
 use Rattle.std.specs.Prelude.{map}
 use Rattle.build.specs.edge.Texts.{texts}
-use Rattle.named_sources.specs.SourcesView.{named_view}
+use Rattle.sources.specs.SourcesView.{named_view}
 use Rattle.resource_calls.specs.OwnLists.{OwnData}
 use Rattle.resource_calls.specs.declared.own_lists.Own.{Own}
 

@@ -4,34 +4,34 @@ use Rattle.arguments.specs.Arguments.{ArgumentsData}
 use Rattle.values.specs.Flat.{flat_all}
 use Rattle.arguments.specs.declared.rule.Rule.TheVariants as rules
 use Rattle.arguments.specs.Given.{text_at}
-use Rattle.arguments.specs.declared.given.Requirement.{Requirement}
-use Rattle.arguments.specs.declared.given.Requirement.TheVariants as requirements
+use Rattle.arguments.specs.declared.readers.Requirement.{Requirement}
+use Rattle.arguments.specs.declared.readers.Requirement.TheVariants as requirements
 use Rattle.values.specs.Data.{Data, object}
 use Rattle.values.specs.Limits.{within_bytes}
 use Rattle.values.specs.declared.object.Object.TheVariants as objects
 use Rattle.values.specs.declared.object.Program.{Program}
 use Rattle.values.specs.declared.object.Program.TheVariants as programs
-use Rattle.values.specs.declared.refusal.Refusal.{Refusal}
+use Rattle.values.specs.declared.refusal.OperationRefusal.{OperationRefusal}
 use Rattle.build.specs.edge.Texts.{Path, Text}
 use Rattle.support.specs.declared.faults.refusal.Refusal.TheVariants as refusals
 use Rattle.support.specs.paths.Paths.{tree_path}
-use Rattle.machine.specs.machine_file.Questions.{Key, plain}
-use Rattle.named_sources.specs.resources.Fitting.{program_words}
-use Rattle.named_sources.specs.resources.Found.{within_texts}
-use Rattle.world.specs.Deed.{Deed, give, refuse, read, consult, ◌>>=◌, answered, there}
-use Rattle.world.specs.Ruled.{ruled}
+use Rattle.machine_file.specs.Questions.{Key, plain}
+use Rattle.resources.specs.Fitting.{program_words}
+use Rattle.values.specs.Copies.{within_texts}
+use Rattle.world.specs.Deed.{Deed, give, refuse, read, consult, ◌>>=◌, answer_or_refusal, there}
+use Rattle.world.specs.Ruled.{ruled_value}
 use Rattle.resource_calls.specs.Required.{missing_object, required_by}
 
 -- Returns the program with the command that `[binaries]` of the machine file has.
-unfoldable pub program_of_words : Result (List Text) Refusal → Deed (Option Program)
+unfoldable pub program_of_words : Result (List Text) OperationRefusal → Deed (Option Program)
 program_of_words said = do
-  words ← answered said
+  words ← answer_or_refusal said
   give (Some (programs.Words words))
 
 -- Returns the program at a path in the source directory.
 unfoldable pub file_program : Path → Deed (Option Program)
 file_program path = do
-  p ← answered (within_bytes path)
+  p ← answer_or_refusal (within_bytes path)
   give (Some (programs.File p))
 
 -- Returns the program at a path if the file is present.
@@ -39,11 +39,11 @@ unfoldable pub program_at : Path → Bool → Deed (Option Program)
 program_at path false = give None
 program_at path true = file_program path
 
--- Returns the path that a name in the present build file refers to, and refuses one outside the source directory with E9.
+-- Returns the path that a name in the present definition file refers to, and refuses one outside the source directory with E9.
 unfoldable pub named_path : Text → Deed Path
 named_path name = do
   facts ← read
-  ruled (tree_path facts.settings.source_root facts.folder name) rules.NamesFile name
+  ruled_value (tree_path facts.settings.source_root facts.folder name) rules.NamesFile name
 
 -- Returns the program at that path if the file is present. The path counts as looked at.
 unfoldable pub file_named : Text → Deed (Option Program)
@@ -53,7 +53,7 @@ file_named name = do
   program_at path found
 
 -- Returns the program of the machine file, and otherwise the file with this name.
-unfoldable pub words_or_file : Option (Result (List Text) Refusal) → Text → Deed (Option Program)
+unfoldable pub words_or_file : Option (Result (List Text) OperationRefusal) → Text → Deed (Option Program)
 words_or_file (Some said) name = program_of_words said
 words_or_file None name = file_named name
 
@@ -98,7 +98,8 @@ unfoldable pub give_program : ArgumentsData → Option Program → Deed (Option 
 give_program a (Some p) = found_program p
 give_program a None = no_program (required_by a) a
 
--- Defines `find_program(names..)`.
+-- Returns the first program that is found, of those that the arguments name (`find_program`). Refuses with E17 if none is found and one is
+-- required.
 unfoldable pub find_program : ArgumentsData → Deed (Option Data)
 find_program a = do
   p ← program_wanted (required_by a) a

@@ -2,8 +2,8 @@
 use Rattle.std.specs.Prelude.{Bool, false, codes, if◌then◌else◌}
 use Rattle.arguments.specs.Arguments.{ArgumentsData}
 use Rattle.arguments.specs.Given.{flag, requirement}
-use Rattle.arguments.specs.declared.given.Requirement.{Requirement}
-use Rattle.arguments.specs.declared.given.Requirement.TheVariants as requirements
+use Rattle.arguments.specs.declared.readers.Requirement.{Requirement}
+use Rattle.arguments.specs.declared.readers.Requirement.TheVariants as requirements
 use Rattle.values.specs.declared.object.Object.{Object}
 use Rattle.values.specs.declared.object.Object.TheVariants as objects
 

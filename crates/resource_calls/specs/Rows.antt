@@ -1,7 +1,7 @@
 -- Defines the rows of the functions: the arguments that each takes.
 use Rattle.std.specs.Prelude.{List, [], ◌∷◌, ◌++◌, codes}
-use Rattle.arguments.specs.declared.row.Kind.TheVariants.{Any, Boolean, Command, Flat, Integer, Requirement, Text, Texts}
-use Rattle.arguments.specs.declared.row.Kind.TheVariants.{TextsOrDictionary}
+use Rattle.arguments.specs.declared.row.ArgumentKind.TheVariants.{Any, Boolean, Command, Flat, Integer, Requirement, Text, Texts}
+use Rattle.arguments.specs.declared.row.ArgumentKind.TheVariants.{TextsOrDictionary}
 use Rattle.arguments.specs.declared.row.Piece.TheVariants as pieces
 use Rattle.arguments.specs.Row.{KeywordData, RowData, optional, row, with_others}
 

@@ -2,18 +2,18 @@
 use Rattle.std.specs.Prelude.{List, Option, Some, Ok}
 use Rattle.arguments.specs.Arguments.{ArgumentsData}
 use Rattle.arguments.specs.Given.{argument, text_at}
-use Rattle.arguments.specs.Said.{Said, ◌>>=◌, found}
+use Rattle.arguments.specs.Said.{Said, ◌>>=◌, found_value}
 use Rattle.arguments.specs.declared.rule.Rule.{Rule}
 use Rattle.arguments.specs.declared.rule.Rule.TheVariants as rules
 use Rattle.values.specs.Data.{Data, object}
 use Rattle.values.specs.declared.object.Object.{Object}
 use Rattle.values.specs.declared.object.Object.TheVariants as objects
 use Rattle.build.specs.edge.Texts.{Text}
-use Rattle.named_sources.specs.resources.Testing.{environment}
+use Rattle.resources.specs.Testing.{environment}
 use Rattle.resource_calls.specs.TestCommands.{command_given}
 use Rattle.world.specs.Here.{HereData}
 
--- What a test runs.
+-- The command of a test, and its environment variables.
 pub record RunData : Type 0 where
   pub command : List Text
   -- Texts `NAME=VALUE`.
@@ -33,6 +33,6 @@ program_rule _ = rules.RunsNoLibrary
 -- name.
 abbrev pub run_of : HereData → ArgumentsData → Said RunData
 run_of here a = do
-  command ← found (command_given here a) (program_rule (argument 1 a)) (text_at 0 a)
+  command ← found_value (command_given here a) (program_rule (argument 1 a)) (text_at 0 a)
   variables ← environment a
   Ok (record { command = command; environment = variables })

@@ -12,7 +12,7 @@ use Rattle.support.specs.paths.Below.{path_below}
 use Rattle.build.specs.Data.{BuildData}
 use Rattle.build.specs.Files.{file_path, is_library}
 use Rattle.arguments.specs.Each.{all_behind}
-use Rattle.named_sources.specs.Things.{ThingData, a_file, a_program, a_target, all_outputs, an_output, thing_of}
+use Rattle.sources.specs.Things.{ThingData, a_file, a_program, a_target, all_outputs, an_output, thing_of}
 use Rattle.world.specs.Here.{HereData}
 
 -- ---- things of the project, as command-line arguments

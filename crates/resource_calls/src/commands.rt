@@ -2,7 +2,7 @@
 ghost use Rattle.std.specs.Prelude.{◌≡◌, IfOk, map, option_map, string_bytes};
 ghost use Rattle.build.specs.edge.Texts.{texts};
 ghost use Rattle.arguments.specs.Each.{all_behind};
-ghost use Rattle.named_sources.specs.ThingsView.{thing_view};
+ghost use Rattle.sources.specs.ThingsView.{thing_view};
 ghost use Rattle.support.specs.paths.Below.{path_below};
 ghost use Rattle.build.specs.View.{build_view};
 ghost use Rattle.world.specs.Prelude.{arguments_data, data_of, here_view};
@@ -11,10 +11,10 @@ ghost use Rattle.resource_calls.specs.TestCommands.{target_word, thing_in, word_
 
 use arguments::Arguments;
 use build::{BuildTarget, file_path};
-use named_sources::{Thing, strings, thing_of};
+use sources::{Thing, thing_of};
 use std::alloc::{AllocError, Global};
 use support::paths::path_below;
-use values::{Program, Value};
+use values::{Program, Value, strings};
 use world::Here;
 
 // ---- things of the project, as command-line arguments

@@ -6,25 +6,25 @@ ghost use Rattle.resource_calls.specs.Dependency.{answer_of, dependency, depende
 ghost use Rattle.resource_calls.specs.Dependency.{give_noted, none_fits};
 ghost use Rattle.resource_calls.specs.Required.{required_by};
 
-use crate::giving::give_object;
+use crate::call_results::give_object;
 use crate::required::{gives_disabler, object_or, read_required};
 use arguments::{Arguments, Requirement};
 use build::project::Answer;
-use machine::machine_file::Topic;
-use named_sources::resources::{call_question, dependency_that_fits, missing_dependency};
+use machine_file::Topic;
 use ports::{Outputs, Tree};
+use resources::{call_question, dependency_that_fits, missing_dependency};
 use std::alloc::{AllocError, Global};
 use support::faults::Refusal;
 use values::{Dependency, Object, Value};
 use world::{Caller, Stop};
 
-// Returns the dependency with a name if the machine file has it in a version that fits. For the empty name nothing is asked. The question
-// carries what the arguments of the call say.
+// Returns the dependency with a name if the machine file has it in a version that fits. For the empty name, the machine file is not
+// queried. The question carries what the arguments of the call say.
 fn dependency_named<T: Tree, O: Outputs>(
     caller: &mut Caller<'_, T, O>,
     name: &str,
     arguments: &Arguments,
-) -> Result<Option<Result<Dependency, values::Refusal>>, Stop>
+) -> Result<Option<Result<Dependency, values::OperationRefusal>>, Stop>
     ensures { Does T.seen O.seen (λ d. d) (dependency_named name.now (arguments_data arguments.now)) caller.old result caller.new }
 {
     if name.is_empty() {
@@ -43,7 +43,7 @@ fn first_said<T: Tree, O: Outputs>(
     caller: &mut Caller<'_, T, O>,
     names: &[&str],
     arguments: &Arguments,
-) -> Result<Option<Result<Dependency, values::Refusal>>, Stop>
+) -> Result<Option<Result<Dependency, values::OperationRefusal>>, Stop>
     ensures { Does T.seen O.seen (λ d. d) (first_said (arguments_data arguments.now) (map (λ n. n.now) names.now))
         caller.old result caller.new }
 {
@@ -56,11 +56,11 @@ fn first_said<T: Tree, O: Outputs>(
     Ok(None)
 }
 
-// Returns what the machine file says of the first name that fits. Nothing is asked if `required` is a disabled feature.
+// Returns what the machine file says of the first name that fits. If `required` is a disabled feature, the machine file is not queried.
 fn fitting_dependency<T: Tree, O: Outputs>(
     caller: &mut Caller<'_, T, O>,
     arguments: &Arguments,
-) -> Result<Option<Result<Dependency, values::Refusal>>, Stop>
+) -> Result<Option<Result<Dependency, values::OperationRefusal>>, Stop>
     ensures { let a = arguments_data arguments.now in Does T.seen O.seen (λ d. d) (fitting_dependency (required_by a) a)
         caller.old result caller.new }
 {
@@ -86,7 +86,7 @@ fn answer_of(alloc: Global, dependency: &Dependency) -> Result<Answer, AllocErro
 // Records a dependency, and returns it or a disabler in its place. Refuses one that is too large with E22.
 fn give_noted<T: Tree, O: Outputs>(
     caller: &mut Caller<'_, T, O>,
-    said: Result<Dependency, values::Refusal>,
+    said: Result<Dependency, values::OperationRefusal>,
     is_disabled: bool,
 ) -> Result<Option<Value>, Stop>
     ensures { Does T.seen O.seen (option_map data_of) (give_noted said is_disabled) caller.old result caller.new }

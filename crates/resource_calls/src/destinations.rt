@@ -4,22 +4,23 @@ ghost use Rattle.arguments.specs.Each.{each_said};
 ghost use Rattle.arguments.specs.Given.{text_given};
 ghost use Rattle.arguments.specs.Refused.{said_data};
 ghost use Rattle.build.specs.project.View.{install_view};
-ghost use Rattle.named_sources.specs.SourcesView.{named_view};
+ghost use Rattle.sources.specs.SourcesView.{named_view};
 ghost use Rattle.world.specs.Prelude.{arguments_data, state_of};
-ghost use Rattle.resource_calls.specs.Destinations.{folders_in, given_or, install_at, install_folder, install_of, installed, path_said};
+ghost use Rattle.resource_calls.specs.Destinations.{folders_in, given_or, install_at, install_folder, install_of, destination_of_file};
+ghost use Rattle.resource_calls.specs.Destinations.{path_said};
 ghost use Rattle.resource_calls.specs.Destinations.{said_of, usual_folder};
 ghost use Rattle.resource_calls.specs.DestinationsView.{folders_view, said_view};
 
-use arguments::{Arguments, Refused, Rule};
+use arguments::{ArgumentError, Arguments, Rule};
 use build::project::Install;
-use named_sources::resources::{destination, headers_folder, man_folder};
-use named_sources::{NamedSource, sources_of};
 use ports::{Outputs, Tree};
+use resources::{destination, headers_folder, man_folder};
+use sources::{NamedSource, sources_of};
 use std::alloc::{AllocError, Global};
 use support::paths::{path_below, plain_name};
 use world::{Caller, Here};
 
-/// The sort of file that is installed.
+/// Names the sort of file that is installed.
 #[derive(Clone, Copy)]
 pub enum Sort {
     Header,
@@ -28,7 +29,7 @@ pub enum Sort {
     ManPage,
 }
 
-/// The place of the call, and the directories of options in which files are installed.
+/// Holds the place of the call, and the directories of options in which files are installed.
 #[derive(Clone, Copy)]
 pub struct Folders<'a> {
     pub here: Here<'a>,
@@ -40,7 +41,7 @@ pub struct Folders<'a> {
     pub project: &'a str,
 }
 
-/// A call that installs files of one sort.
+/// Describes a call that installs files of one sort.
 #[derive(Clone, Copy)]
 pub struct Call<'f, 'a> {
     pub folders: Folders<'f>,
@@ -48,7 +49,7 @@ pub struct Call<'f, 'a> {
     pub arguments: &'a Arguments,
 }
 
-/// What a call installs.
+/// Says what a call installs.
 #[derive(Drop)]
 pub struct Said {
     /// The files that it names.
@@ -156,9 +157,9 @@ fn path_said(named: &NamedSource) -> &str
 fn installs_of(
     call: &Call<'_, '_>,
     named: &[NamedSource],
-) -> Result<Result<Vec<Install>, Refused>, AllocError>
+) -> Result<Result<Vec<Install>, ArgumentError>, AllocError>
     ensures { IfOk result (λ is. said_data (λ v. map install_view v.items) is
-        ≡ each_said (installed (folders_view call.now.folders) call.now.sort (arguments_data call.now.arguments.now)) []
+        ≡ each_said (destination_of_file (folders_view call.now.folders) call.now.sort (arguments_data call.now.arguments.now)) []
         (map named_view named.now)) }
 {
     let alloc = call.folders.here.alloc;
@@ -177,7 +178,7 @@ fn installs_of(
 
 /// Returns what a call installs, or its refusal. Refused are a path that leads out of the source directory, and a man page without a
 /// section.
-pub fn said_of(call: &Call<'_, '_>) -> Result<Result<Said, Refused>, AllocError>
+pub fn said_of(call: &Call<'_, '_>) -> Result<Result<Said, ArgumentError>, AllocError>
     ensures { IfOk result (λ s. said_data said_view s
         ≡ said_of (folders_view call.now.folders) call.now.sort (arguments_data call.now.arguments.now)) }
 {

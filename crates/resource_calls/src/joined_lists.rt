@@ -1,8 +1,8 @@
 //! Makes the result of `declare_dependency`: its own lists followed by those of its dependencies, all within the limits.
 ghost use Rattle.std.specs.Prelude.{◌≡◌, codes, IfOk, map};
 ghost use Rattle.arguments.specs.Given.{keyword};
-ghost use Rattle.named_sources.specs.SourcesView.{named_view};
-ghost use Rattle.build.specs.LinkedViews.{linked_views};
+ghost use Rattle.sources.specs.SourcesView.{named_view};
+ghost use Rattle.build.specs.DeclaredTargetViews.{declared_target_views};
 ghost use Rattle.world.specs.Prelude.{arguments_data, here_view};
 ghost use Rattle.resource_calls.specs.JoinedLists.{count_at, dependencies_given, joined_dependency, source_of};
 ghost use Rattle.resource_calls.specs.JoinedLists.{sources_within, tree_source, version_or, with_arguments, with_own};
@@ -10,19 +10,19 @@ ghost use Rattle.resource_calls.specs.OwnListsView.{own_view};
 
 use crate::own_lists::Own;
 use arguments::Arguments;
-use build::Linked;
-use named_sources::resources::{dependencies_in, found_dependency, join, within_texts};
-use named_sources::{NamedSource, outputs_at};
+use build::DeclaredTarget;
+use resources::{dependencies_in, found_dependency, join};
+use sources::{NamedSource, outputs_at};
 use std::alloc::{AllocError, Global};
-use values::{Dependency, Refusal, Source, Sources, Text, Texts};
+use values::{Dependency, OperationRefusal, Source, Sources, Text, Texts, within_texts};
 use world::Here;
 
 // ---- sources
 
 // Returns how many outputs a target has.
 #[tactic(auto, using(crate::proofs::Counting::as_many))]
-fn count_at(earlier: &[Linked], number: usize) -> usize
-    ensures { result ≡ count_at (linked_views earlier.now) number }
+fn count_at(earlier: &[DeclaredTarget], number: usize) -> usize
+    ensures { result ≡ count_at (declared_target_views earlier.now) number }
 {
     match outputs_at(earlier, number) {
         Some(paths) => paths.len(),
@@ -30,7 +30,7 @@ fn count_at(earlier: &[Linked], number: usize) -> usize
     }
 }
 
-fn tree_source(alloc: Global, path: &str) -> Result<Result<Source, Refusal>, AllocError>
+fn tree_source(alloc: Global, path: &str) -> Result<Result<Source, OperationRefusal>, AllocError>
     ensures { IfOk result (λ r. r ≡ tree_source path.now) }
 {
     match Text::of_str(alloc, path)? {
@@ -44,10 +44,10 @@ fn tree_source(alloc: Global, path: &str) -> Result<Result<Source, Refusal>, All
 
 fn source_of(
     alloc: Global,
-    earlier: &[Linked],
+    earlier: &[DeclaredTarget],
     named: &NamedSource,
-) -> Result<Result<Source, Refusal>, AllocError>
-    ensures { IfOk result (λ r. r ≡ source_of (linked_views earlier.now) (named_view named.now)) }
+) -> Result<Result<Source, OperationRefusal>, AllocError>
+    ensures { IfOk result (λ r. r ≡ source_of (declared_target_views earlier.now) (named_view named.now)) }
 {
     match named {
         NamedSource::Tree(path) => tree_source(alloc, path.as_str()),
@@ -66,13 +66,13 @@ fn source_of(
     }
 }
 
-// Returns the sources that are named, or `Refusal::Limit` if the path of one is too long for a text.
+// Returns the sources that are named, or `OperationRefusal::Limit` if the path of one is too long for a text.
 fn sources_within(
     alloc: Global,
-    earlier: &[Linked],
+    earlier: &[DeclaredTarget],
     named: &[NamedSource],
-) -> Result<Result<Sources, Refusal>, AllocError>
-    ensures { IfOk result (λ r. r ≡ sources_within (linked_views earlier.now) (map named_view named.now)) }
+) -> Result<Result<Sources, OperationRefusal>, AllocError>
+    ensures { IfOk result (λ r. r ≡ sources_within (declared_target_views earlier.now) (map named_view named.now)) }
 {
     let mut sources = Sources::new(alloc);
     for one in named {
@@ -116,7 +116,7 @@ fn with_arguments(
     alloc: Global,
     project: &str,
     arguments: &Arguments,
-) -> Result<Result<Dependency, Refusal>, AllocError>
+) -> Result<Result<Dependency, OperationRefusal>, AllocError>
     ensures { IfOk result (λ r. r ≡ with_arguments project.now (arguments_data arguments.now)) }
 {
     let compile_args = arguments.texts(alloc, "compile_args")?;
@@ -135,14 +135,14 @@ fn dependencies_given(alloc: Global, arguments: &Arguments) -> Result<Vec<&Depen
     }
 }
 
-/// Returns the dependency of a call with these own lists, in a project of this version, or `Refusal::Limit` if one of its lists is too
-/// long.
+/// Returns the dependency of a call with these own lists, in a project of this version, or `OperationRefusal::Limit` if one of its lists is
+/// too long.
 pub fn joined_dependency(
     here: &Here<'_>,
     project: &str,
     arguments: &Arguments,
     own: &Own,
-) -> Result<Result<Dependency, Refusal>, AllocError>
+) -> Result<Result<Dependency, OperationRefusal>, AllocError>
     ensures { IfOk result (λ r. r
         ≡ joined_dependency project.now (here_view here.now).earlier (arguments_data arguments.now) (own_view own.now)) }
 {

@@ -4,11 +4,11 @@
 //! What a function does is defined as a deed in `specs/`, and its code does that on a [`world::Caller`].
 #![tactic(auto)]
 
+mod call_results;
 mod commands;
-mod declaring;
 mod dependencies;
+mod dependency_declaration;
 mod destinations;
-mod giving;
 mod installs;
 mod joined_lists;
 mod named_files;
@@ -17,10 +17,10 @@ mod programs;
 mod required;
 mod rows;
 mod runs;
-mod testing;
+mod test_calls;
 
-pub use declaring::declare_dependency;
 pub use dependencies::dependency;
+pub use dependency_declaration::declare_dependency;
 pub use destinations::Sort;
 pub use installs::install;
 pub use programs::find_program;
@@ -28,4 +28,4 @@ pub use rows::{
     declare_dependency_row, dependency_row, find_program_row, install_data_row,
     install_headers_row, install_man_row, test_row,
 };
-pub use testing::test;
+pub use test_calls::test;

@@ -1,11 +1,11 @@
 //! Checks that the source files of a call are present.
 ghost use Rattle.std.specs.Prelude.{map};
-ghost use Rattle.named_sources.specs.SourcesView.{named_view};
+ghost use Rattle.sources.specs.SourcesView.{named_view};
 ghost use Rattle.world.specs.Prelude.{Does, MayFail};
 ghost use Rattle.resource_calls.specs.NamedFiles.{file_required, files_required};
 
-use named_sources::NamedSource;
 use ports::{Outputs, Tree};
+use sources::NamedSource;
 use world::{Caller, Stop};
 
 fn require_file<T: Tree, O: Outputs>(

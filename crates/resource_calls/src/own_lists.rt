@@ -2,18 +2,18 @@
 ghost use Rattle.std.specs.Prelude.{◌≡◌, IfOk, codes, option_map};
 ghost use Rattle.arguments.specs.Leaves.{leaves_named};
 ghost use Rattle.arguments.specs.Refused.{said_data};
-ghost use Rattle.build.specs.LinkedViews.{linked_views};
+ghost use Rattle.build.specs.DeclaredTargetViews.{declared_target_views};
 ghost use Rattle.world.specs.Prelude.{arguments_data, here_view};
 ghost use Rattle.resource_calls.specs.OwnLists.{if_libraries, libraries_of, own_lists};
 ghost use Rattle.resource_calls.specs.OwnListsView.{own_view};
 
-use arguments::{Arguments, Refused, Rule};
-use build::{Linked, are_libraries};
-use named_sources::{NamedSource, folders_named, numbers_named, sources_named};
+use arguments::{ArgumentError, Arguments, Rule};
+use build::{DeclaredTarget, are_libraries};
+use sources::{NamedSource, folders_named, numbers_named, sources_named};
 use std::alloc::{AllocError, Global};
 use world::Here;
 
-/// The lists that a call itself gives.
+/// Holds the lists that a call itself gives.
 #[derive(Drop)]
 pub struct Own {
     /// Paths for `include_directories`.
@@ -23,8 +23,8 @@ pub struct Own {
     pub sources: Vec<NamedSource>,
 }
 
-fn if_libraries(earlier: &[Linked], numbers: Vec<usize>) -> Option<Vec<usize>>
-    ensures { option_map (λ v. v.items) result ≡ if_libraries (linked_views earlier.now) numbers.items }
+fn if_libraries(earlier: &[DeclaredTarget], numbers: Vec<usize>) -> Option<Vec<usize>>
+    ensures { option_map (λ v. v.items) result ≡ if_libraries (declared_target_views earlier.now) numbers.items }
 {
     if are_libraries(earlier, &numbers) {
         Some(numbers)
@@ -36,11 +36,11 @@ fn if_libraries(earlier: &[Linked], numbers: Vec<usize>) -> Option<Vec<usize>>
 // Returns the target numbers of the keyword `link_with`, and `None` if one is no library.
 fn libraries_given(
     alloc: Global,
-    earlier: &[Linked],
+    earlier: &[DeclaredTarget],
     arguments: &Arguments,
 ) -> Result<Option<Vec<usize>>, AllocError>
     ensures { IfOk result (λ ns. option_map (λ v. v.items) ns
-        ≡ libraries_of (linked_views earlier.now) (leaves_named (codes "link_with") (arguments_data arguments.now))) }
+        ≡ libraries_of (declared_target_views earlier.now) (leaves_named (codes "link_with") (arguments_data arguments.now))) }
 {
     match numbers_named(alloc, arguments, "link_with")? {
         Some(numbers) => Ok(if_libraries(earlier, numbers)),
@@ -50,7 +50,10 @@ fn libraries_given(
 
 /// Returns the lists that the call itself gives, or its refusal. Refused are a path that leads out of the source directory, and a value of
 /// `link_with` that is no library.
-pub fn own_lists(here: &Here<'_>, arguments: &Arguments) -> Result<Result<Own, Refused>, AllocError>
+pub fn own_lists(
+    here: &Here<'_>,
+    arguments: &Arguments,
+) -> Result<Result<Own, ArgumentError>, AllocError>
     ensures { IfOk result (λ own. said_data own_view own ≡ own_lists (here_view here.now) (arguments_data arguments.now)) }
 {
     let Here {

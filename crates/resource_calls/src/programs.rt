@@ -5,11 +5,11 @@ ghost use Rattle.resource_calls.specs.Programs.{file_named, find_program, first_
 ghost use Rattle.resource_calls.specs.Programs.{program_at, program_named, program_wanted};
 ghost use Rattle.resource_calls.specs.Required.{required_by};
 
-use crate::giving::give_object;
+use crate::call_results::give_object;
 use crate::required::{gives_disabler, object_or, read_required};
 use arguments::{Arguments, Requirement, Rule};
-use named_sources::resources::program_words;
 use ports::{Outputs, Tree};
+use resources::program_words;
 use support::faults::Refusal;
 use support::paths::tree_path;
 use values::{Object, Program, Text, Value};

@@ -20,7 +20,7 @@ pub fn gives_disabler(arguments: &Arguments) -> bool
     arguments.flag("disabler", false)
 }
 
-/// Returns the object, or a disabler in its place.
+/// Returns the object, or a disabler if `is_disabled` is true.
 pub fn object_or(object: Object, is_disabled: bool) -> Object
     ensures { result ≡ object_or object is_disabled }
 {

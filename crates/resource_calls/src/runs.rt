@@ -6,13 +6,13 @@ ghost use Rattle.resource_calls.specs.Runs.{object_rule, program_rule, run_of};
 ghost use Rattle.resource_calls.specs.RunsView.{run_view};
 
 use crate::commands::command_given;
-use arguments::{Arguments, Refused, Rule};
-use named_sources::resources::environment;
+use arguments::{ArgumentError, Arguments, Rule};
+use resources::environment;
 use std::alloc::{AllocError, Global};
 use values::{Object, Value};
 use world::Here;
 
-/// What a test runs.
+/// Says what a test runs.
 #[derive(Drop)]
 pub struct Run {
     /// The program and its arguments.
@@ -42,7 +42,10 @@ fn program_rule(program: Option<&Value>) -> Rule
 
 /// Returns the command and the variables of a call, or its refusal. Refused are a program that cannot run, with the test's name as detail,
 /// and a text that is no variable.
-pub fn run_of(here: &Here<'_>, arguments: &Arguments) -> Result<Result<Run, Refused>, AllocError>
+pub fn run_of(
+    here: &Here<'_>,
+    arguments: &Arguments,
+) -> Result<Result<Run, ArgumentError>, AllocError>
     ensures { IfOk result (λ run. said_data run_view run ≡ run_of (here_view here.now) (arguments_data arguments.now)) }
 {
     let Some(command) = command_given(here, arguments)? else {

@@ -10,7 +10,7 @@ use Rattle.std.proofs.lemmas.List.{append_cancel_left, at_drop_more, map-append,
 use Rattle.std.proofs.lemmas.List.{length-take}
 use Rattle.std.proofs.lemmas.List.Prefix.{front_rest}
 use Rattle.std.proofs.lemmas.Slice.Eq.{bytes_eq-Decides, starts_is}
-use Rattle.support.specs.paths.Paths.{rest_after, and_then, follow_part, follow_parts, named, without_last}
+use Rattle.support.specs.paths.Paths.{rest_after, and_then, follow_part, follow_parts, path_of_parts, without_last}
 
 cond_yes : {A : Type 0} (b : Bool) (x y : A) → b ≡ true → cond b x y ≡ x
 cond_yes true x y e = refl
@@ -106,12 +106,12 @@ pub join_first : (parts : List (Bor (List ℕ))) (i : ℕ) (x : Bor (List ℕ)) 
 join_first parts zero x old path new h none o p n = n ∙ ap (λ l. l ++ (get_or parts 0 x).now) (p ∙ o) ∙ sym (ap (join_with_byte 47) (front_more parts 0 x h))
 join_first parts (suc i) x old path new h none o p n = absurd (omega arith)
 
-named_cons : (folder : List (List ℕ)) → 0 < length folder → named (Some folder) ≡ Some (join_with_byte 47 (reverse folder))
+named_cons : (folder : List (List ℕ)) → 0 < length folder → path_of_parts (Some folder) ≡ Some (join_with_byte 47 (reverse folder))
 named_cons [] h = absurd (omega (arith, h))
 named_cons (part ∷ folder) h = refl
 
 -- the path of a folder's parts
-pub named_parts : (parts : List (List ℕ)) → 0 < length parts → named (Some (reverse parts)) ≡ Some (join_with_byte 47 parts)
+pub named_parts : (parts : List (List ℕ)) → 0 < length parts → path_of_parts (Some (reverse parts)) ≡ Some (join_with_byte 47 parts)
 named_parts parts h = named_cons (reverse parts) (omega (arith, length-reverse parts)) ∙ ap (λ l. Some (join_with_byte 47 l)) (reverse-reverse parts)
 
 some_of : (n : ℕ) → false ≡ (n == 0) → 0 < n
@@ -119,5 +119,5 @@ some_of zero h = cc
 some_of (suc n) h = omega arith
 
 -- the same, where the parts are counted
-pub named_some : (parts : List (List ℕ)) (n : ℕ) → false ≡ (n == 0) → length parts ≡ n → named (Some (reverse parts)) ≡ Some (join_with_byte 47 parts)
+pub named_some : (parts : List (List ℕ)) (n : ℕ) → false ≡ (n == 0) → length parts ≡ n → path_of_parts (Some (reverse parts)) ≡ Some (join_with_byte 47 parts)
 named_some parts n h l = named_parts parts (omega (arith, some_of n h))

@@ -6,7 +6,7 @@ use Rattle.std.specs.List.{list_all}
 use Rattle.std.specs.Str.{bytes_eq}
 use Rattle.std.proofs.lemmas.List.{reverse-append}
 use Rattle.std.proofs.lemmas.List.Splits.{length-slice_split, join_with_byte-slice_split}
-use Rattle.support.specs.paths.Paths.{and_then, follow_parts, named, parts_of}
+use Rattle.support.specs.paths.Paths.{and_then, follow_parts, path_of_parts, parts_of}
 use Rattle.support.proofs.PathTexts.{named_parts}
 
 abbrev pub stays : List ℕ → Bool
@@ -35,8 +35,8 @@ follow_all folder (part ∷ parts) h =
     ∙ follow_all (part ∷ folder) parts s.1 ∙ ap Some (reverse_on part parts folder)
 
 -- a text is the path that it names
-pub named_itself : (text : List ℕ) → list_all stays (parts_of text) ≡ true → named (follow_parts [] (parts_of text)) ≡ Some text
+pub named_itself : (text : List ℕ) → list_all stays (parts_of text) ≡ true → path_of_parts (follow_parts [] (parts_of text)) ≡ Some text
 named_itself text h =
-    ap named (follow_all [] (parts_of text) h ∙ ap Some (append-nil (reverse (parts_of text))))
+    ap path_of_parts (follow_all [] (parts_of text) h ∙ ap Some (append-nil (reverse (parts_of text))))
     ∙ named_parts (parts_of text) (omega (arith, length-slice_split (λ b. Rattle.std.proofs.Common.eqb b 47) text))
     ∙ ap Some (join_with_byte-slice_split 47 text)

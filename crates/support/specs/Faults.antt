@@ -42,14 +42,14 @@ told_of refusals.LeftOut = (23, codes "left out by name")
 told_of refusals.LateArguments = (24, codes "arguments added after a target")
 
 -- Returns the number of a refusal.
-abbrev pub number_of : Refusal → ℕ
-number_of refusal = (told_of refusal).0
+abbrev pub fault_number : Refusal → ℕ
+fault_number refusal = (told_of refusal).0
 
 -- Returns the words of a refusal.
 abbrev pub words_of : Refusal → List ℕ
 words_of refusal = (told_of refusal).1
 
--- Returns what is printed before the detail, and none if the detail is not printed.
+-- Returns the text that is printed before the detail, and none if the detail is not printed.
 abbrev pub detail_sign : Refusal → Option (List ℕ)
 detail_sign refusals.UndefinedName = Some (codes ": ")
 detail_sign refusals.UnknownFunction = Some (codes ": ")
@@ -58,7 +58,7 @@ detail_sign refusals.NotFound = Some (codes ": ")
 detail_sign refusals.Message = Some []
 detail_sign refusal = None
 
--- Returns the detail with what precedes it, and nothing if the detail is not printed.
+-- Returns the detail with the text before it, and nothing if the detail is not printed.
 abbrev pub detail_behind : Option (List ℕ) → List ℕ → List ℕ
 detail_behind None detail = []
 detail_behind (Some sign) detail = sign ++ detail
@@ -69,7 +69,7 @@ detail_text f = detail_behind (detail_sign f.refusal) f.detail
 
 -- Returns `E` with the number, a space, the text and the detail.
 abbrev pub fault_text : FaultData → List ℕ
-fault_text f = codes "E" ++ (decimal (number_of f.refusal) ++ (codes " " ++ (words_of f.refusal ++ detail_text f)))
+fault_text f = codes "E" ++ (decimal (fault_number f.refusal) ++ (codes " " ++ (words_of f.refusal ++ detail_text f)))
 
 -- Returns the line `FILE:LINE: ERROR: TEXT`, with its newline.
 abbrev pub fault_line : FaultData → List ℕ

@@ -1,11 +1,11 @@
 -- Defines the limits of a run, and the range of integers.
 use Rattle.std.specs.Prelude.{ℕ, ℤ, pos, negsuc, ◌^◌, nat_lt, nat_le, Bool, List, length}
 
--- Returns the most bytes of a text and of a build file.
+-- Returns the most bytes of a text and of a definition file.
 abbrev pub text_bytes : ℕ
 text_bytes = 16777216
 
--- Holds if a text is within that limit.
+-- Holds if a text has at most `text_bytes` bytes.
 abbrev pub is_short : List ℕ → Bool
 is_short text = nat_le (length text) text_bytes
 

@@ -1,7 +1,7 @@
-//! Implements the rules of paths: the paths that texts of a build file name, paths below others, and the names of files.
+//! Implements the rules of paths: the paths that texts of a definition file name, paths below others, and the names of files.
 //!
-//! A text is relative to the folder of the build file, or an absolute path below the source root. Parts `.` are removed, and `..` removes
-//! the part before it. The resulting path has no such parts, and is empty for the root.
+//! A text is relative to the folder of the definition file, or an absolute path below the source root. Parts `.` are removed, and `..`
+//! removes the part before it. The resulting path has no such parts, and is empty for the root.
 
 mod below;
 mod folders;

@@ -4,8 +4,8 @@ use Rattle.std.proofs.Common.{arith, length-append}
 use Rattle.std.proofs.lemmas.Bool.{and_from, and_parts}
 use Rattle.syntax.specs.lexer.Lexeme.{Lexeme}
 use Rattle.syntax.specs.lexer.Kinds.{is}
-use Rattle.syntax.specs.declared.lexer.token.Kind.{Kind}
-use Rattle.syntax.specs.declared.stop.Stop.{Stop}
+use Rattle.syntax.specs.declared.lexer.token.TokenKind.{TokenKind}
+use Rattle.syntax.specs.declared.stop.ParseStop.{ParseStop}
 use Rattle.syntax.specs.Form.{Form, token, ◌>>=◌, ◌or◌}
 use Rattle.syntax.specs.Reading.{Reader, begins, or_at, token_at, two_begin}
 use Rattle.syntax.proofs.Ends.{IsEnd, ends-or}
@@ -28,7 +28,7 @@ end_of_two t us more p le = go p.before p.parts
     go (s ∷ u ∷ vs) e = absurd (omega (arith, ap length (tail_same t s us (u ∷ vs ++ more) e), length-append vs more))
 
 -- The first form is a token of kind k and then one of kind l; of the second, a token of kind k alone is a spelling.
-module _ {A : Type 0} (k l : Kind) (G G' : Lexeme → Form A) (Y Y' : Form A) (s s' : Lexeme → Reader A) (r r' : Reader A) (Stops StopsY : List Lexeme → Type 0)
+module _ {A : Type 0} (k l : TokenKind) (G G' : Lexeme → Form A) (Y Y' : Form A) (s s' : Lexeme → Reader A) (r r' : Reader A) (Stops StopsY : List Lexeme → Type 0)
     (starts : (t : Lexeme) → Starts (G t) (λ m. is m l)) (x : (t : Lexeme) → Line (G t) (G' t) (s t) (s' t) Stops 0) (y : Line Y Y' r r' StopsY 1)
     (single : (t : Lexeme) (us : List Lexeme) → t.kind ≡ k → (a : A) × Y.spells a (t ∷ us) us)
     (second : (us : List Lexeme) → begins l us ≡ true → StopsY us)
@@ -45,7 +45,7 @@ module _ {A : Type 0} (k l : Kind) (G G' : Lexeme → Form A) (Y Y' : Form A) (s
       let w = single t us (is-true t.kind k b.0) in
       (w.0, y.reads.complete w.0 (t ∷ us) us w.1 (second us b.1))
 
-  same_rest : (a b : A) (us vs : List Lexeme) → ◌≡◌ {A = Result (A × List Lexeme) Stop} (Ok (a, us)) (Ok (b, vs)) → us ≡ vs
+  same_rest : (a b : A) (us vs : List Lexeme) → ◌≡◌ {A = Result (A × List Lexeme) ParseStop} (Ok (a, us)) (Ok (b, vs)) → us ≡ vs
   same_rest a b us vs h = let p : ◌≡◌ {A = A × List Lexeme} (a, us) (b, vs) = cc in ap (λ (x : A × List Lexeme). x.1) p
 
   x_two : (a : A) (ts rest : List Lexeme) → X.spells a ts rest → two_begin k l ts ≡ true

@@ -2,12 +2,12 @@
 use Rattle.std.proofs.Common.{◌&&◌, ◌≡◌, ℕ, ◌+◌, ◌-◌, ◌<◌, ◌≤◌, Bool, Option, Some, None, true, false, List, [], ◌∷◌, length, get_or, take}
 use Rattle.std.proofs.Common.{drop, Ok, Err, refl, sym, ap, ◌∙◌, arith, inl, inr}
 use Rattle.std.specs.Option.{option_map}
-use Rattle.syntax.specs.declared.lexer.token.Kind.{Kind}
-use Rattle.syntax.specs.declared.lexer.token.Kind.TheVariants as Kinds
+use Rattle.syntax.specs.declared.lexer.token.TokenKind.{TokenKind}
+use Rattle.syntax.specs.declared.lexer.token.TokenKind.TheVariants as Kinds
 use Rattle.syntax.specs.declared.lexer.token.Token.{Token}
 use Rattle.syntax.specs.lexer.Kinds.{is}
 use Rattle.syntax.specs.lexer.Lexeme.{Lexeme, lexeme_of, lexemes}
-use Rattle.syntax.specs.declared.stop.Stop.TheVariants.{Unexpected}
+use Rattle.syntax.specs.declared.stop.ParseStop.TheVariants.{Unexpected}
 use Rattle.syntax.specs.declared.tree.Expression.{Expression}
 use Rattle.syntax.specs.declared.tree.Operator.{Operator}
 use Rattle.syntax.specs.Expressions.{additive, conjunctive, disjunctive, literal_of, multiplicative}
@@ -30,13 +30,13 @@ abbrev Answers : Type 0
 Answers = Bool × Bool × Bool × Bool × Bool × Bool
 
 -- what p says of each kind that ends an expression
-abbrev of_ends : (Kind → Bool) → Answers
+abbrev of_ends : (TokenKind → Bool) → Answers
 of_ends p = (p Kinds.Comma, p Kinds.CloseParenthesis, p Kinds.CloseBracket, p Kinds.CloseBrace, p Kinds.Colon, p Kinds.Newline)
 
-abbrev Silent : (Kind → Bool) → Type 0
+abbrev Silent : (TokenKind → Bool) → Type 0
 Silent p = of_ends p ≡ of_ends (λ k. false)
 
-silent_kind : (p : Kind → Bool) → Silent p → (k : Kind) → ends_expression k ≡ true → p k ≡ false
+silent_kind : (p : TokenKind → Bool) → Silent p → (k : TokenKind) → ends_expression k ≡ true → p k ≡ false
 silent_kind p s Kinds.Comma e = ap (λ (x : Answers). x.0) s
 silent_kind p s Kinds.CloseParenthesis e = ap (λ (x : Answers). x.1) s
 silent_kind p s Kinds.CloseBracket e = ap (λ (x : Answers). x.2) s
@@ -45,7 +45,7 @@ silent_kind p s Kinds.Colon e = ap (λ (x : Answers). x.4) s
 silent_kind p s Kinds.Newline e = ap (λ (x : Answers). x.5) s
 silent_kind p s _ e = absurd cc
 
-silent : (p : Kind → Bool) → Silent p → (ts : List Lexeme) → head_is ends_expression ts ≡ true → head_is p ts ≡ false
+silent : (p : TokenKind → Bool) → Silent p → (ts : List Lexeme) → head_is ends_expression ts ≡ true → head_is p ts ≡ false
 silent p s [] e = refl
 silent p s (t ∷ ts) e = silent_kind p s t.kind e
 
@@ -53,18 +53,18 @@ silent p s (t ∷ ts) e = silent_kind p s t.kind e
 
 module _ (n : ℕ) (b : Bool) (text : List ℕ) (line : ℕ) (rest : List Lexeme) (no_call : begins Kinds.OpenParenthesis rest ≡ false)
     (e : ExpressionTree) where
-  abbrev of_kind : Kind → Lexeme
+  abbrev of_kind : TokenKind → Lexeme
   of_kind k = record { kind = k; text = text; line = line }
 
   -- it is read by itself, and it is no prefix operator
-  abbrev Single : Kind → Type 0
+  abbrev Single : TokenKind → Type 0
   Single k = (base_at (inner_at n) b (of_kind k ∷ rest) ≡ Ok (e, rest)) × (prefix_of (of_kind k ∷ rest) ≡ None)
 
-  reads_as : (k : Kind) (x : ExpressionTree) → base_at (inner_at n) b (of_kind k ∷ rest) ≡ Ok (x, rest)
+  reads_as : (k : TokenKind) (x : ExpressionTree) → base_at (inner_at n) b (of_kind k ∷ rest) ≡ Ok (x, rest)
       → ◌≡◌ {A = Option ExpressionTree} (Some x) (Some e) → base_at (inner_at n) b (of_kind k ∷ rest) ≡ Ok (e, rest)
   reads_as k x h same = h ∙ ap (λ (y : ExpressionTree). Ok (y, rest)) (some_same x e same)
 
-  single_kind : (k : Kind) → single_of (of_kind k) ≡ Some e → Single k
+  single_kind : (k : TokenKind) → single_of (of_kind k) ≡ Some e → Single k
   unfolding base_at or_at atom_at name_at literal_at token_at token_as_at
   single_kind Kinds.Name s = (reads_as Kinds.Name (NameTree text line) (rw no_call refl) s, refl)
   single_kind Kinds.True s = (reads_as Kinds.True _ refl s, refl)
@@ -94,7 +94,7 @@ module _ (n : ℕ) (b : Bool) (t : Lexeme) (rest : List Lexeme) (e : ExpressionT
       let w = single_kind n b t.text t.line rest no_call e t.kind single in
       unary_postfix n b (t ∷ rest) w.1 ∙ postfix_alone (inner_at n) b (t ∷ rest) e rest w.0 (silent links_on refl rest ending)
 
-  rank_alone : (f : Kind → Option Operator) → Silent (stands_for f) → (r : Reader ExpressionTree) → Alone r → Alone (chain_at f r)
+  rank_alone : (f : TokenKind → Option Operator) → Silent (stands_for f) → (r : Reader ExpressionTree) → Alone r → Alone (chain_at f r)
   rank_alone f s r h = chain_alone f r (t ∷ rest) e rest h (silent (stands_for f) s rest ending)
 
   sum_alone : Alone (sum_at (unary_at n b))

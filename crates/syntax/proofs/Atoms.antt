@@ -2,8 +2,8 @@
 use Rattle.std.proofs.Common.{◌≡◌, ◌+◌, Bool, true, false, cond, List, [], ◌∷◌, Some, None, refl, inl, inr, lit≤, arith}
 use Rattle.syntax.specs.lexer.Lexeme.{Lexeme}
 use Rattle.syntax.specs.lexer.Kinds.{is}
-use Rattle.syntax.specs.declared.lexer.token.Kind.{Kind}
-use Rattle.syntax.specs.declared.lexer.token.Kind.TheVariants as Kinds
+use Rattle.syntax.specs.declared.lexer.token.TokenKind.{TokenKind}
+use Rattle.syntax.specs.declared.lexer.token.TokenKind.TheVariants as Kinds
 use Rattle.syntax.specs.ExpressionTree.{ExpressionTree, NameTree, LiteralTree, ListTree, DictionaryTree, ArgumentTree, entries}
 use Rattle.syntax.specs.ExpressionTree.{expressions}
 use Rattle.syntax.specs.Form.{Form, token, give, listed_by, same_state, ◌>>=◌, ◌or◌}
@@ -25,27 +25,27 @@ use Rattle.syntax.proofs.Steps.{IsUnary, line-as, opens_expr, starts-as}
 -- ---- what forms begin with
 
 -- the kinds with which one of two forms begins
-abbrev pub either : (Kind → Bool) → (Kind → Bool) → Kind → Bool
+abbrev pub either : (TokenKind → Bool) → (TokenKind → Bool) → TokenKind → Bool
 either p q k = cond (p k) true (q k)
 
 either_right : (a b : Bool) → b ≡ true → cond a true b ≡ true
 either_right true b e = refl
 either_right false b e = e
 
-pub starts-either : {A : Type 0} (p q : Kind → Bool) (F G : Form A) → Starts F p → Starts G q → Starts (F or G) (either p q)
+pub starts-either : {A : Type 0} (p q : TokenKind → Bool) (F G : Form A) → Starts F p → Starts G q → Starts (F or G) (either p q)
 starts-either p q F G s t = starts-or F G p q (either p q) s t (λ k e. rw e refl) (λ k e. either_right (p k) (q k) e)
 
-head_weaker : (p q : Kind → Bool) → ((k : Kind) → p k ≡ true → q k ≡ true) → (ts : List Lexeme) → head_is p ts ≡ true → head_is q ts ≡ true
+head_weaker : (p q : TokenKind → Bool) → ((k : TokenKind) → p k ≡ true → q k ≡ true) → (ts : List Lexeme) → head_is p ts ≡ true → head_is q ts ≡ true
 head_weaker p q f [] e = absurd cc
 head_weaker p q f (t ∷ ts) e = f t.kind e
 
-pub starts-weaker : {A : Type 0} (p q : Kind → Bool) (F : Form A) → ((k : Kind) → p k ≡ true → q k ≡ true) → Starts F p → Starts F q
+pub starts-weaker : {A : Type 0} (p q : TokenKind → Bool) (F : Form A) → ((k : TokenKind) → p k ≡ true → q k ≡ true) → Starts F p → Starts F q
 starts-weaker p q F f s = record {
   spelled = λ a ts rest h. head_weaker p q f ts (s.spelled a ts rest h);
   begun = λ ts more h. elim (s.begun ts more h) [ inl same ↦ inl same | inr head ↦ inr (head_weaker p q f ts head) ];
 }
 
-abbrev pub of_kind : Kind → Kind → Bool
+abbrev pub of_kind : TokenKind → TokenKind → Bool
 of_kind k l = is l k
 
 -- ---- names and literals
@@ -67,7 +67,7 @@ starts-literal = starts-bind (token_as literal_of) _ (stands_for literal_of) (st
 -- ---- in brackets
 
 -- a list and the bracket behind it
-pub line-closed : {S A B : Type 0} (k : Kind) (F F' : S → Form A) (r r' : S → Reader A) (step : S → A → S) (g : List A → B) (Stops : List Lexeme → Type 0) → opens_expr k ≡ false → is k Kinds.Comma ≡ false
+pub line-closed : {S A B : Type 0} (k : TokenKind) (F F' : S → Form A) (r r' : S → Reader A) (step : S → A → S) (g : List A → B) (Stops : List Lexeme → Type 0) → opens_expr k ≡ false → is k Kinds.Comma ≡ false
     → ((ts : List Lexeme) → begins Kinds.Comma ts ≡ true → Stops ts) → ((ts : List Lexeme) → begins k ts ≡ true → Stops ts) → ((s : S) → Starts (F s) opens_expr) → ((s : S) → Line (F s) (F' s) (r s) (r' s) Stops 1) → (s : S)
     → Line (listed_by F step s >>= λ xs. token k >>= λ c. give (g xs)) (listed_by F' step s >>= λ xs. token k >>= λ c. give (g xs))
     (bind_at (listed_at k r step s) (λ xs. bind_at (token_at k) (λ c. give_at (g xs)))) (bind_at (listed_at k r' step s) (λ xs. bind_at (token_at k) (λ c. give_at (g xs)))) Any 0

@@ -1,13 +1,13 @@
 -- How tightly a token binds what stands before it, and what ends an expression.
 use Rattle.std.proofs.Common.{◌≡◌, ℕ, ◌<◌, true, List, [], ◌∷◌, sym, subst}
 use Rattle.syntax.specs.lexer.Lexeme.{Lexeme}
-use Rattle.syntax.specs.declared.lexer.token.Kind.{Kind}
-use Rattle.syntax.specs.declared.lexer.token.Kind.TheVariants as Kinds
+use Rattle.syntax.specs.declared.lexer.token.TokenKind.{TokenKind}
+use Rattle.syntax.specs.declared.lexer.token.TokenKind.TheVariants as Kinds
 use Rattle.syntax.specs.Reading.{begins}
 use Rattle.syntax.proofs.Numbers.{is-true}
 
 -- 0 the arguments of a call, 1 what is asked of a value, 2 to 6 the operators from `*` to `or`, 7 the question mark, 8 what ends an expression
-abbrev pub binding : Kind → ℕ
+abbrev pub binding : TokenKind → ℕ
 binding Kinds.Dot = 1
 binding Kinds.OpenBracket = 1
 binding Kinds.OpenParenthesis = 0
@@ -42,6 +42,6 @@ abbrev pub AfterExpression : List Lexeme → Type 0
 AfterExpression ts = After 7 ts
 
 -- after a token of a kind that binds less
-pub after_kind : (k : Kind) (rank : ℕ) (ts : List Lexeme) → rank < binding k → begins k ts ≡ true → After rank ts
+pub after_kind : (k : TokenKind) (rank : ℕ) (ts : List Lexeme) → rank < binding k → begins k ts ≡ true → After rank ts
 after_kind k rank [] lt b = absurd cc
-after_kind k rank (t ∷ ts) lt b = subst (λ (l : Kind). rank < binding l) (sym (is-true t.kind k b)) lt
+after_kind k rank (t ∷ ts) lt b = subst (λ (l : TokenKind). rank < binding l) (sym (is-true t.kind k b)) lt

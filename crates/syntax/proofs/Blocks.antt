@@ -4,13 +4,13 @@ use Rattle.std.proofs.Common.{Option}
 use Rattle.std.specs.Prelude.{unwrap_or}
 use Rattle.syntax.specs.lexer.Lexeme.{Lexeme}
 use Rattle.syntax.specs.lexer.Kinds.{is}
-use Rattle.syntax.specs.declared.lexer.token.Kind.{Kind}
-use Rattle.syntax.specs.declared.lexer.token.Kind.TheVariants as Kinds
+use Rattle.syntax.specs.declared.lexer.token.TokenKind.{TokenKind}
+use Rattle.syntax.specs.declared.lexer.token.TokenKind.TheVariants as Kinds
 use Rattle.syntax.specs.ExpressionTree.{ExpressionTree}
 use Rattle.syntax.specs.Tree.{StatementTree, IfTree, ForeachTree, statements, BranchTree, branches}
 use Rattle.syntax.specs.Form.{Form, token, give, never, many, optional, ◌>>=◌, ◌or◌}
 use Rattle.syntax.specs.Expressions.{expr}
-use Rattle.syntax.specs.Statements.{simple, line, given, body, second, names, foreach, branch, elif, parts, last_part, otherwise}
+use Rattle.syntax.specs.Statements.{simple, line, statements_of_lines, body, second, names, foreach, branch, elif, parts, last_part, otherwise}
 use Rattle.syntax.specs.Statements.{conditional, block, stmt}
 use Rattle.syntax.specs.Reading.{Reader, begins, deep_at, many_at, optional_at, or_at}
 use Rattle.syntax.specs.ReadingExpressions.{expr_at}
@@ -31,10 +31,10 @@ use Rattle.syntax.proofs.Words.{cond_true, not_in, no_block, no_end, block_head,
 -- ---- the lines of a body
 
 -- the first token of a statement
-abbrev pub opens_stmt : Kind → Bool
+abbrev pub opens_stmt : TokenKind → Bool
 opens_stmt l = cond (is l Kinds.Foreach) true (cond (is l Kinds.If) true (opens_simple l))
 
-abbrev opens_line : Kind → Bool
+abbrev opens_line : TokenKind → Bool
 opens_line l = cond (is l Kinds.Newline) true (opens_stmt l)
 
 abbrev pub AfterLine : List Lexeme → Type 0
@@ -78,7 +78,7 @@ unfolding body_at
 line-body {S = S} starts f =
     let first = starts-ended S starts in
     weaken (λ ts st. (st, tt)) (omega arith)
-    (give_line (λ (lines : List (Option StatementTree)). given lines)
+    (give_line (λ (lines : List (Option StatementTree)). statements_of_lines lines)
     (line-many in_body (omega arith)
     (λ a ts rest h. in_body_head opens_line (no_end opens_line refl refl refl refl) ts (first.spelled a ts rest h))
     (λ ts e. tt)
@@ -87,15 +87,15 @@ line-body {S = S} starts f =
     (line-ended starts f)))
 
 -- a token at which a body ends
-ends_at_kind : (k : Kind) → ends_body k ≡ true → (ts : List Lexeme) → head_is (λ l. is l k) ts ≡ true → AfterBody ts
+ends_at_kind : (k : TokenKind) → ends_body k ≡ true → (ts : List Lexeme) → head_is (λ l. is l k) ts ≡ true → AfterBody ts
 ends_at_kind k ended = end_head (λ l. is l k) (λ l h. at_kind k ends_body true ended l h)
 
 -- ---- foreach
 
-abbrev is_comma : Kind → Bool
+abbrev is_comma : TokenKind → Bool
 is_comma l = is l Kinds.Comma
 
-abbrev is_colon : Kind → Bool
+abbrev is_colon : TokenKind → Bool
 is_colon l = is l Kinds.Colon
 
 line-second : Line (optional second) (optional second) (optional_at (begins Kinds.Comma) second_at)
@@ -111,7 +111,7 @@ line-second =
 after_second : (ts : List Lexeme) → head_is is_colon ts ≡ true → EndsBefore (begins Kinds.Comma) Any ts
 after_second ts h = (begins-head Kinds.Comma ts ∙ head_not is_colon is_comma (λ l e. at_kind Kinds.Colon is_comma false refl l e) ts h, tt)
 
-starts-kind : {B : Type 0} (k : Kind) (G : Lexeme → Form B) → Starts (token k >>= G) (λ l. is l k)
+starts-kind : {B : Type 0} (k : TokenKind) (G : Lexeme → Form B) → Starts (token k >>= G) (λ l. is l k)
 starts-kind k G = starts-bind (token k) G (λ l. is l k) (starts-token k)
 
 line-names : Line names names names_at names_at Any 2
@@ -154,19 +154,19 @@ unfolding last_part_at
 line-last starts f = then_line (line-token Kinds.Else)
     (λ (w : Lexeme). then_line (line-token Kinds.Newline) (λ (t : Lexeme). line-body starts f))
 
-abbrev is_elif : Kind → Bool
+abbrev is_elif : TokenKind → Bool
 is_elif l = is l Kinds.Elif
 
-abbrev is_else : Kind → Bool
+abbrev is_else : TokenKind → Bool
 is_else l = is l Kinds.Else
 
-abbrev is_endif : Kind → Bool
+abbrev is_endif : TokenKind → Bool
 is_endif l = is l Kinds.EndIf
 
-abbrev else_or_end : Kind → Bool
+abbrev else_or_end : TokenKind → Bool
 else_or_end l = cond (is_else l) true (is_endif l)
 
-ends_else : (l : Kind) → else_or_end l ≡ true → (ends_body l ≡ true) × (is_elif l ≡ false)
+ends_else : (l : TokenKind) → else_or_end l ≡ true → (ends_body l ≡ true) × (is_elif l ≡ false)
 ends_else l h = elim (cases_bool (is_else l)) [
   | inl y ↦ (at_kind Kinds.Else ends_body true refl l y, at_kind Kinds.Else is_elif false refl l y)
   | inr n ↦ let e : is_endif l ≡ true = sym (ap (λ (b : Bool). cond b true (is_endif l)) n)
@@ -253,16 +253,16 @@ line-conditional {S = S} n starts f =
 
 -- ---- blocks
 
-abbrev is_foreach : Kind → Bool
+abbrev is_foreach : TokenKind → Bool
 is_foreach l = is l Kinds.Foreach
 
-abbrev is_if : Kind → Bool
+abbrev is_if : TokenKind → Bool
 is_if l = is l Kinds.If
 
-either_block : (l : Kind) → is_foreach l ≡ true → opens_block l ≡ true
+either_block : (l : TokenKind) → is_foreach l ≡ true → opens_block l ≡ true
 either_block l e = at_kind Kinds.Foreach opens_block true refl l e
 
-or_block : (l : Kind) → is_if l ≡ true → opens_block l ≡ true
+or_block : (l : TokenKind) → is_if l ≡ true → opens_block l ≡ true
 or_block l e = at_kind Kinds.If opens_block true refl l e
 
 starts-block : (inside : Bool) (n : ℕ) → Starts (block inside n) opens_block
@@ -272,7 +272,7 @@ starts-block inside (suc n) = starts-or (foreach (expr n) (block true n or simpl
     (conditional (expr n) (block inside n or simple inside n)) is_foreach is_if opens_block (starts-kind Kinds.Foreach _)
     (starts-kind Kinds.If _) either_block or_block
 
-stmt_begins : (l : Kind) → opens_block l ≡ true → opens_stmt l ≡ true
+stmt_begins : (l : TokenKind) → opens_block l ≡ true → opens_stmt l ≡ true
 stmt_begins l e = elim (cases_bool (is_foreach l)) [
   | inl y ↦ at_kind Kinds.Foreach opens_stmt true refl l y
   | inr n ↦ elim (cases_bool (is_if l)) [

@@ -8,11 +8,11 @@ use Rattle.std.proofs.lemmas.Bool.Decides.{nat_tests}
 use Rattle.std.proofs.lemmas.List.{get_or-drop, get_or_append_left, drop-drop}
 use Rattle.std.proofs.lemmas.Str.{IsCharBoundary-after_ascii, IsCharBoundary-before_ascii, IsCharBoundary-end, IsCharBoundary-start}
 use Rattle.std.proofs.lemmas.Str.{IsUtf8-drop}
-use Rattle.syntax.specs.declared.lexer.token.Kind.{Kind}
+use Rattle.syntax.specs.declared.lexer.token.TokenKind.{TokenKind}
 use Rattle.syntax.specs.declared.lexer.gap.GapPart.{GapPart}
 use Rattle.syntax.specs.declared.lexer.gap.GapPart.TheVariants.{Blank, Comment, Continuation}
 use Rattle.syntax.specs.lexer.Bytes.{newline, hash, backslash, is_blank, continues_word}
-use Rattle.syntax.specs.lexer.Lexing.{continues_line, gap, in_gap, part_after, run, token_at}
+use Rattle.syntax.specs.lexer.Lexing.{continues_line, gap, in_gap, part_after, run_length, token_at}
 use Rattle.syntax.proofs.Gaps.{gap_yes, gap_no}
 use Rattle.syntax.proofs.Runs.{run_le, run_passes}
 use Rattle.syntax.proofs.Lexemes.{continues_ascii, token_sound, token_ascii}
@@ -92,7 +92,7 @@ pub after_gap : (bs rest : List ℕ) (depth n : ℕ) → IsUtf8 bs → n ≡ gap
 after_gap bs rest depth n utf8 e r = subst IsUtf8 (sym r) (IsUtf8-drop bs n utf8 (gap_boundary bs depth n utf8 e))
 
 -- where a word ends
-pub word_boundary : (bs : List ℕ) (n : ℕ) → IsUtf8 bs → n ≡ run continues_word bs → IsCharBoundary bs n
+pub word_boundary : (bs : List ℕ) (n : ℕ) → IsUtf8 bs → n ≡ run_length continues_word bs → IsCharBoundary bs n
 word_boundary bs zero utf8 e = IsCharBoundary-start bs utf8
 word_boundary bs (suc n) utf8 e =
     let passes = run_passes continues_word bs n (omega (arith, e)) in
@@ -100,7 +100,7 @@ word_boundary bs (suc n) utf8 e =
     (IsCharBoundary-after_ascii bs n utf8 (omega (arith, e, run_le continues_word bs)) (continues_ascii (get_or bs n 0) passes))
 
 -- where a token ends
-pub token_boundary : (bs : List ℕ) (k : Kind) (n : ℕ) → IsUtf8 bs → token_at bs ≡ Some (k, n) → IsCharBoundary bs n
+pub token_boundary : (bs : List ℕ) (k : TokenKind) (n : ℕ) → IsUtf8 bs → token_at bs ≡ Some (k, n) → IsCharBoundary bs n
 token_boundary bs k n utf8 e =
     let f = token_sound bs k n e in
     let within : n - 1 < length bs = omega (arith, f.size, f.some, ap length f.parts, length-append f.text f.rest) in

@@ -4,9 +4,9 @@ use Rattle.std.proofs.Common.{◌≡◌, ℕ, ◌+◌, ◌≤◌, Bool, true, fa
 use Rattle.std.proofs.Common.{inr, arith, Some, None}
 use Rattle.syntax.specs.lexer.Lexeme.{Lexeme}
 use Rattle.syntax.specs.lexer.Kinds.{is}
-use Rattle.syntax.specs.declared.lexer.token.Kind.{Kind}
-use Rattle.syntax.specs.declared.stop.Stop.{Stop}
-use Rattle.syntax.specs.declared.stop.Stop.TheVariants.{Unexpected, TooDeep}
+use Rattle.syntax.specs.declared.lexer.token.TokenKind.{TokenKind}
+use Rattle.syntax.specs.declared.stop.ParseStop.{ParseStop}
+use Rattle.syntax.specs.declared.stop.ParseStop.TheVariants.{Unexpected, TooDeep}
 use Rattle.syntax.specs.Form.{Form, give, never, many, Repeats, optional, ◌or◌}
 use Rattle.syntax.specs.Form.{◌>>=◌ as ◌then◌}
 use Rattle.syntax.specs.Reading.{Reader, many_at, or_at, optional_at, tokens_left}
@@ -29,7 +29,7 @@ then_line {F = F} {F' = F'} {G = G} {G' = G'} {r = r} {r' = r'} {s = s} {s' = s'
 
 -- where what comes next begins with kinds before which the first may end
 pub before_line : {A B : Type 0} {F F' : Form A} {G G' : A → Form B} {r r' : Reader A} {s s' : A → Reader B} {Stops More : List Lexeme
-    → Type 0} {i j : ℕ} (q : Kind → Bool)
+    → Type 0} {i j : ℕ} (q : TokenKind → Bool)
     → ((ts : List Lexeme) → head_is q ts ≡ true → Stops ts) → ((a : A) → Starts (G a) q)
     → Line F F' r r' Stops i → ((a : A) → Line (G a) (G' a) (s a) (s' a) More j)
     → Line (F then G) (F' then G') (bind_at r s) (bind_at r' s') More (i + j)
@@ -39,7 +39,7 @@ before_line {F = F} {F' = F'} {G = G} {G' = G'} {r = r} {r' = r'} {s = s} {s' = 
     (λ a ts more h. elim ((starts a).begun ts more h) [ inl same ↦ inl same | inr head ↦ inr (stops ts head) ])
 
 -- what is true of a kind, where a token has it
-pub at_kind : (k : Kind) (p : Kind → Bool) (b : Bool) → p k ≡ b → (l : Kind) → is l k ≡ true → p l ≡ b
+pub at_kind : (k : TokenKind) (p : TokenKind → Bool) (b : Bool) → p k ≡ b → (l : TokenKind) → is l k ≡ true → p l ≡ b
 at_kind k p b e l h = ap p (is-true l k h) ∙ e
 
 -- ---- a form or nothing
@@ -118,8 +118,8 @@ line-or {F = F} {F' = F'} {G = G} {G' = G'} {r = r} {r' = r'} {s = s} {s' = s'} 
 
 -- where both begin with kinds of their own
 pub line-apart : {A : Type 0} {F F' G G' : Form A} {r r' s s' : Reader A} {Stops : List Lexeme → Type 0} {i : ℕ}
-    (first : List Lexeme → Bool) (p q : Kind → Bool)
-    → ((ts : List Lexeme) → first ts ≡ head_is p ts) → ((k : Kind) → q k ≡ true → p k ≡ false) → Starts F p → Starts G q
+    (first : List Lexeme → Bool) (p q : TokenKind → Bool)
+    → ((ts : List Lexeme) → first ts ≡ head_is p ts) → ((k : TokenKind) → q k ≡ true → p k ≡ false) → Starts F p → Starts G q
     → Line F F' r r' Stops i → Line G G' s s' Stops i → Line (F or G) (F' or G') (or_at first r s) (or_at first r' s') Stops i
 line-apart {F = F} {G = G} first p q is_first apart sf sg f g = line-or first
     (λ a ts rest h. is_first ts ∙ sf.spelled a ts rest h)
@@ -133,7 +133,7 @@ line-apart {F = F} {G = G} first p q is_first apart sf sg f g = line-or first
     [ inl same ↦ subst (G.front ts) (sym same) (g.form.nothing ts) | inr head ↦ let o = is_first ts ∙ head in absurd cc ])
     f g
 
-pub starts-weaker : {A : Type 0} (F : Form A) (p q : Kind → Bool) → ((k : Kind) → p k ≡ true → q k ≡ true) → Starts F p → Starts F q
+pub starts-weaker : {A : Type 0} (F : Form A) (p q : TokenKind → Bool) → ((k : TokenKind) → p k ≡ true → q k ≡ true) → Starts F p → Starts F q
 starts-weaker F p q pq s = record {
   spelled = λ a ts rest h. weaker ts (s.spelled a ts rest h);
   begun = λ ts more h. elim (s.begun ts more h) [ inl same ↦ inl same | inr head ↦ inr (weaker ts head) ];
@@ -146,11 +146,11 @@ starts-weaker F p q pq s = record {
 -- ---- what may be nothing
 
 -- a form of no token, or one that begins with these kinds
-pub record Leads {A : Type 0} (F : Form A) (q : Kind → Bool) : Type 0 where
+pub record Leads {A : Type 0} (F : Form A) (q : TokenKind → Bool) : Type 0 where
   pub spelled : (a : A) (ts rest : List Lexeme) → F.spells a ts rest → (rest ≡ ts) ⊎ (head_is q ts ≡ true)
   pub begun : (ts more : List Lexeme) → F.front ts more → (more ≡ ts) ⊎ (head_is q ts ≡ true)
 
-pub leads-optional : {A : Type 0} (F : Form A) (q : Kind → Bool) → Starts F q → Leads (optional F) q
+pub leads-optional : {A : Type 0} (F : Form A) (q : TokenKind → Bool) → Starts F q → Leads (optional F) q
 leads-optional F q f = record {
   spelled = λ a ts rest h. elim h [ inl p ↦ inr (f.spelled p.0 ts p.1 p.2) | inr p ↦ inl (sym p.1) ];
   begun = λ ts more h. elim h [
@@ -159,7 +159,7 @@ leads-optional F q f = record {
   ];
 }
 
-pub leads-many : {A : Type 0} (F : Form A) (q : Kind → Bool) → Starts F q → Leads (many F) q
+pub leads-many : {A : Type 0} (F : Form A) (q : TokenKind → Bool) → Starts F q → Leads (many F) q
 leads-many {A} F q f = record {
   spelled = λ xs ts rest h. repeated xs ts rest h;
   begun = λ ts more h. elim (repeated h.0 ts h.1 h.2) [
@@ -173,7 +173,7 @@ leads-many {A} F q f = record {
     repeated [] ts mid h = inl (sym h)
     repeated (x ∷ xs) ts mid h = inr (f.spelled x ts h.0 h.1)
 
-pub leads-give : {A B : Type 0} (F : Form A) (g : A → B) (q : Kind → Bool) → Leads F q → Leads (F then λ a. give (g a)) q
+pub leads-give : {A B : Type 0} (F : Form A) (g : A → B) (q : TokenKind → Bool) → Leads F q → Leads (F then λ a. give (g a)) q
 leads-give F g q f = record {
   spelled = λ b ts rest h. elim (f.spelled h.0 ts h.1 h.2) [ inl same ↦ inl (sym h.3.1 ∙ same) | inr head ↦ inr head ];
   begun = λ ts more h. elim h [
@@ -182,7 +182,7 @@ leads-give F g q f = record {
   ];
 }
 
-pub starts-behind : {A B : Type 0} (F : Form A) (G : A → Form B) (q : Kind → Bool) → Leads F q → ((a : A) → Starts (G a) q)
+pub starts-behind : {A B : Type 0} (F : Form A) (G : A → Form B) (q : TokenKind → Bool) → Leads F q → ((a : A) → Starts (G a) q)
     → Starts (F then G) q
 starts-behind F G q f g = record {
   spelled = λ b ts rest h. elim (f.spelled h.0 ts h.1 h.2) [
@@ -201,7 +201,7 @@ starts-behind F G q f g = record {
 
 -- one part, and then what may be nothing
 pub before_leads : {A B : Type 0} {F F' : Form A} {G G' : A → Form B} {r r' : Reader A} {s s' : A → Reader B} {Stops More : List Lexeme
-    → Type 0} {i j : ℕ} (q : Kind → Bool)
+    → Type 0} {i j : ℕ} (q : TokenKind → Bool)
     → ((ts : List Lexeme) → head_is q ts ≡ true → Stops ts) → ((ts : List Lexeme) → More ts → Stops ts) → ((a : A) → Leads (G a) q)
     → Line F F' r r' Stops i → ((a : A) → Line (G a) (G' a) (s a) (s' a) More j)
     → Line (F then G) (F' then G') (bind_at r s) (bind_at r' s') More (i + j)
@@ -229,13 +229,13 @@ line-none {A} = record {
   takes = takes-never 1;
 }
   where
-    none_left : (ts : List Lexeme) (f : Stop) → ◌≡◌ {A = Result (A × List Lexeme) Stop} (Err (Unexpected (length ts))) (Err f)
+    none_left : (ts : List Lexeme) (f : ParseStop) → ◌≡◌ {A = Result (A × List Lexeme) ParseStop} (Err (Unexpected (length ts))) (Err f)
         → length ts ≡ tokens_left f
     none_left ts f e = ap left_of e
 
-    not_deep : (ts : List Lexeme) (left : ℕ) → ◌≡◌ {A = Result (A × List Lexeme) Stop} (Err (Unexpected (length ts))) (Err (TooDeep left))
+    not_deep : (ts : List Lexeme) (left : ℕ) → ◌≡◌ {A = Result (A × List Lexeme) ParseStop} (Err (Unexpected (length ts))) (Err (TooDeep left))
         → ⊥
-    not_deep ts left e = let e' : ◌≡◌ {A = Stop} (Unexpected (length ts)) (TooDeep left) = cc in cc
+    not_deep ts left e = let e' : ◌≡◌ {A = ParseStop} (Unexpected (length ts)) (TooDeep left) = cc in cc
 
 -- ---- two forms with the same spellings and fronts
 

@@ -2,7 +2,7 @@
 use Rattle.std.proofs.Common.{◌≡◌, ℕ, ◌+◌, Bool, true, false, List, [], ◌∷◌, length, Option, Some, None, sym, subst, ◌∙◌, ◌⊎◌, inl, inr}
 use Rattle.std.proofs.Common.{arith}
 use Rattle.syntax.specs.lexer.Lexeme.{Lexeme}
-use Rattle.syntax.specs.declared.lexer.token.Kind.{Kind}
+use Rattle.syntax.specs.declared.lexer.token.TokenKind.{TokenKind}
 use Rattle.syntax.specs.Form.{Form, give, many, optional, Repeats, ◌>>=◌, ◌or◌}
 use Rattle.syntax.specs.Reading.{Reader, head_is, many_at, optional_at, or_at}
 use Rattle.syntax.proofs.Ends.{ends-bind, ends-give, ends-many, ends-or}
@@ -20,8 +20,8 @@ line-map F F' g r r' Stops i f =
     (λ a b ts rest h st. subst Stops (sym h.1) st) (λ a ts more h. inl (sym h)))
 
 -- two forms, of which the first begins with some kinds, and the second with others
-pub line-either : {A : Type 0} (p q : Kind → Bool) (F F' G G' : Form A) (r r' s s' : Reader A) (Stops : List Lexeme → Type 0) (i : ℕ)
-    → Starts F p → Starts G q → ((k : Kind) → q k ≡ true → p k ≡ false) → Line F F' r r' Stops i → Line G G' s s' Stops i → Line (F or G) (F' or G') (or_at (head_is p) r s) (or_at (head_is p) r' s') Stops i
+pub line-either : {A : Type 0} (p q : TokenKind → Bool) (F F' G G' : Form A) (r r' s s' : Reader A) (Stops : List Lexeme → Type 0) (i : ℕ)
+    → Starts F p → Starts G q → ((k : TokenKind) → q k ≡ true → p k ≡ false) → Line F F' r r' Stops i → Line G G' s s' Stops i → Line (F or G) (F' or G') (or_at (head_is p) r s) (or_at (head_is p) r' s') Stops i
 line-either p q F F' G G' r r' s s' Stops i sf sg apart f g = record {
   form = IsForm-or F G f.form g.form;
   reads = reads-or F G r s (head_is p) Stops f.reads g.reads
@@ -34,7 +34,7 @@ line-either p q F F' G G' r r' s s' Stops i sf sg apart f g = record {
   takes = takes-or F G i f.takes g.takes;
 }
 
-module _ {A : Type 0} (F F' : Form A) (r r' : Reader A) (p : Kind → Bool) (Stops : List Lexeme → Type 0) (s : Starts F p) (f : Line F F' r r' Stops 1) where
+module _ {A : Type 0} (F F' : Form A) (r r' : Reader A) (p : TokenKind → Bool) (Stops : List Lexeme → Type 0) (s : Starts F p) (f : Line F F' r r' Stops 1) where
   unbegun : (ts more : List Lexeme) → F.front ts more → head_is p ts ≡ false → more ≡ ts
   unbegun ts more h b = elim (s.begun ts more h) [ inl same ↦ same | inr head ↦ absurd cc ]
 

@@ -1,7 +1,7 @@
 -- What reading comparisons answers, step by step.
 use Rattle.std.proofs.Common.{◌≡◌, ◌∙◌, true, false, List, [], ◌∷◌, Result, Ok, Err, refl, sym, ap}
 use Rattle.syntax.specs.lexer.Lexeme.{Lexeme}
-use Rattle.syntax.specs.declared.stop.Stop.{Stop}
+use Rattle.syntax.specs.declared.stop.ParseStop.{ParseStop}
 use Rattle.syntax.specs.declared.stop.ReadError.{ReadError}
 use Rattle.syntax.specs.declared.stop.ReadError.TheVariants as errors
 use Rattle.syntax.specs.declared.tree.Operator.{Operator}
@@ -29,20 +29,20 @@ module _ (part : Reader ExpressionTree) (ts : List Lexeme) where
     compared_reads v rest l = rw (g, l) refl
 
 -- what the one comparison is
-one_of : (read : Result (OperandTree × List Lexeme) Stop) (os : List OperandTree) (rest : List Lexeme)
+one_of : (read : Result (OperandTree × List Lexeme) ParseStop) (os : List OperandTree) (rest : List Lexeme)
     → ◌>>=◌ {B = List OperandTree × List Lexeme} read (λ o. Ok (o.0 ∷ [], o.1)) ≡ Ok (os, rest) → (o : OperandTree) × (read ≡ Ok (o, rest)) × (os ≡ o ∷ [])
 one_of (Ok x) os rest e =
-    let same : ◌≡◌ {A = Result (List OperandTree × List Lexeme) Stop} (Ok (x.0 ∷ [], x.1)) (Ok (os, rest)) = e in
+    let same : ◌≡◌ {A = Result (List OperandTree × List Lexeme) ParseStop} (Ok (x.0 ∷ [], x.1)) (Ok (os, rest)) = e in
     let pair : ◌≡◌ {A = List OperandTree × List Lexeme} (x.0 ∷ [], x.1) (os, rest) = cc in
     (x.0, ap (λ (q : List OperandTree × List Lexeme). Ok (x.0, q.1)) pair, sym (ap (λ (q : List OperandTree × List Lexeme). q.0) pair))
 one_of (Err f) os rest e = absurd cc
 
-one_stops : (read : Result (OperandTree × List Lexeme) Stop) (f : Stop)
+one_stops : (read : Result (OperandTree × List Lexeme) ParseStop) (f : ParseStop)
     → ◌>>=◌ {B = List OperandTree × List Lexeme} read (λ o. Ok (o.0 ∷ [], o.1)) ≡ Err f → read ≡ Err f
 one_stops (Ok x) f e = absurd cc
 one_stops (Err g) f e =
-    let same : ◌≡◌ {A = Result (List OperandTree × List Lexeme) Stop} (Err g) (Err f) = e in
-    let stop : g ≡ f = cc in ap (λ (h : Stop). Err h) stop
+    let same : ◌≡◌ {A = Result (List OperandTree × List Lexeme) ParseStop} (Err g) (Err f) = e in
+    let stop : g ≡ f = cc in ap (λ (h : ParseStop). Err h) stop
 
 -- ---- comparisons
 

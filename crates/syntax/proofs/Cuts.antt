@@ -4,12 +4,12 @@ use Rattle.std.proofs.Common.{ap, ◌∙◌, arith, Some, None, Result, Ok, Err}
 use Rattle.std.specs.Prelude.{◌==◌}
 use Rattle.std.specs.Char.{is_ascii_digit}
 use Rattle.std.proofs.lemmas.Bool.{ne_eqb, cond-true, cond-false}
-use Rattle.syntax.specs.declared.lexer.token.Kind.{Kind}
-use Rattle.syntax.specs.declared.lexer.token.Kind.TheVariants as Kinds
+use Rattle.syntax.specs.declared.lexer.token.TokenKind.{TokenKind}
+use Rattle.syntax.specs.declared.lexer.token.TokenKind.TheVariants as Kinds
 use Rattle.syntax.specs.lexer.Bytes.{quote, is_letter, continues_word, opens_format}
 use Rattle.syntax.specs.lexer.Kinds.{word_kind, single_kind}
 use Rattle.syntax.specs.lexer.Numbers.{is_number}
-use Rattle.syntax.specs.lexer.Lexing.{run, word_at, number_at, string_at, format_at, double_kind, symbol_at, token_at, lex, lexed}
+use Rattle.syntax.specs.lexer.Lexing.{run_length, word_at, number_at, string_at, format_at, double_kind, symbol_at, token_at, lex, lexed_tokens}
 use Rattle.syntax.specs.declared.lexer.fault.SyntaxFault.{SyntaxFault}
 use Rattle.syntax.specs.lexer.Lexeme.{Lexeme}
 use Rattle.syntax.specs.lexer.Tokens.{Place}
@@ -17,11 +17,11 @@ use Rattle.syntax.proofs.Runs.{run_le, take_all}
 
 -- ---- symbols
 
-pub symbol_two : (a : ℕ) (bs : List ℕ) (k : Kind) → double_kind a bs ≡ Some k → symbol_at a bs ≡ Some (k, 2)
+pub symbol_two : (a : ℕ) (bs : List ℕ) (k : TokenKind) → double_kind a bs ≡ Some k → symbol_at a bs ≡ Some (k, 2)
 unfolding symbol_at
 symbol_two a bs k e = rw e refl
 
-pub symbol_one : (a : ℕ) (bs : List ℕ) (k : Kind) → double_kind a bs ≡ None → single_kind a ≡ Some k → symbol_at a bs ≡ Some (k, 1)
+pub symbol_one : (a : ℕ) (bs : List ℕ) (k : TokenKind) → double_kind a bs ≡ None → single_kind a ≡ Some k → symbol_at a bs ≡ Some (k, 1)
 unfolding symbol_at
 symbol_one a bs k e f = rw (e, f) refl
 
@@ -31,20 +31,20 @@ symbol_none a bs e f = rw (e, f) refl
 
 -- ---- words
 
-pub word_is : (bs : List ℕ) (n : ℕ) → run continues_word bs ≡ n → word_at bs ≡ (word_kind (take n bs), n)
+pub word_is : (bs : List ℕ) (n : ℕ) → run_length continues_word bs ≡ n → word_at bs ≡ (word_kind (take n bs), n)
 unfolding word_at
 word_is bs n e = rw e refl
 
-pub word_fits : (bs : List ℕ) (n : ℕ) → n ≡ run continues_word bs → n ≤ length bs
+pub word_fits : (bs : List ℕ) (n : ℕ) → n ≡ run_length continues_word bs → n ≤ length bs
 word_fits bs n e = omega (arith, run_le continues_word bs)
 
 -- ---- numbers
 
-pub number_some : (bs : List ℕ) (n : ℕ) → run continues_word bs ≡ n → is_number (take n bs) ≡ true → number_at bs ≡ Some (Kinds.Number, n)
+pub number_some : (bs : List ℕ) (n : ℕ) → run_length continues_word bs ≡ n → is_number (take n bs) ≡ true → number_at bs ≡ Some (Kinds.Number, n)
 unfolding number_at
 number_some bs n e f = rw e (cond-true (is_number (take n bs)) _ _ f)
 
-pub number_none : (bs : List ℕ) (n : ℕ) → run continues_word bs ≡ n → is_number (take n bs) ≡ false → number_at bs ≡ None
+pub number_none : (bs : List ℕ) (n : ℕ) → run_length continues_word bs ≡ n → is_number (take n bs) ≡ false → number_at bs ≡ None
 unfolding number_at
 number_none bs n e f = rw e (cond-false (is_number (take n bs)) _ _ f)
 
@@ -94,7 +94,7 @@ with_front ts (Err f) = Err f
 
 -- the tokens of the source are those that were cut and those from the place on
 abbrev pub StillLexes : List ℕ → List Lexeme → Place → Type 0
-StillLexes source ts p = (n : ℕ) × (length p.rest < n) × (lexed source ≡ with_front ts (lex n p))
+StillLexes source ts p = (n : ℕ) × (length p.rest < n) × (lexed_tokens source ≡ with_front ts (lex n p))
 
 pub ruleset token_cases = (token_nothing, token_format, token_word, token_number, token_symbol, token_string)
 

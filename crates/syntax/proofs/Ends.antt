@@ -5,7 +5,7 @@ use Rattle.std.proofs.lemmas.Bool.{cases_lt}
 use Rattle.std.proofs.lemmas.List.{drop_at, take-append-drop}
 use Rattle.std.proofs.lemmas.List.{drop-drop}
 use Rattle.syntax.specs.lexer.Lexeme.{Lexeme}
-use Rattle.syntax.specs.declared.lexer.token.Kind.{Kind}
+use Rattle.syntax.specs.declared.lexer.token.TokenKind.{TokenKind}
 use Rattle.syntax.specs.Form.{Form, token, give, ◌>>=◌, ◌or◌, never, many, Repeats}
 use Rattle.syntax.proofs.Laws.{IsForm}
 
@@ -70,7 +70,7 @@ between_none ts mid more e p q = sym (end_whole ts mid p (omega (arith, ap lengt
 
 -- ---- the forms
 
-pub ends-token : (k : Kind) → Ends (token k)
+pub ends-token : (k : TokenKind) → Ends (token k)
 ends-token k = record {
   spelled = λ t ts rest h. record { before = t ∷ []; parts = h.0 };
   begun = λ ts more h. elim h [ inl e ↦ end_same ts more e | inr w ↦ record { before = w.0 ∷ []; parts = w.1 } ];

@@ -9,7 +9,7 @@ use Rattle.std.proofs.lemmas.List.{at_drop_more, drop_all}
 use Rattle.std.proofs.lemmas.Bool.{cases_Bool, cond-true, cond-false}
 use Rattle.syntax.specs.lexer.Bytes.{quote}
 use Rattle.syntax.specs.lexer.Numbers.{is_octal_digit}
-use Rattle.syntax.specs.lexer.Escapes.{control, digit_count, hexadecimal, octal, sized, named, escape_at, names_none, is_bad_escape}
+use Rattle.syntax.specs.lexer.Escapes.{control, digit_count, hexadecimal, octal, escape_of_size, named_escape, escape_at, names_none, is_bad_escape}
 use Rattle.syntax.proofs.Runs.{take_all}
 
 -- ---- none reaches beyond a quote
@@ -24,15 +24,15 @@ octal_before zero value size text rest = refl
 octal_before (suc n) value size [] rest = refl
 octal_before (suc n) value size (b ∷ text) rest = ap (λ (o : ℕ × ℕ). if is_octal_digit b then o else (value, size)) (octal_before n (8 * value + digit_value b) (size + 1) text rest)
 
-named_before : (b : ℕ) (o : Option ℕ) (text rest : List ℕ) → named b o (text ++ quote ∷ rest) ≡ named b o text
+named_before : (b : ℕ) (o : Option ℕ) (text rest : List ℕ) → named_escape b o (text ++ quote ∷ rest) ≡ named_escape b o text
 named_before b None text rest = refl
-named_before b (Some n) text rest = ap (sized (n + 1)) (hex_before n 0 text rest)
+named_before b (Some n) text rest = ap (escape_of_size (n + 1)) (hex_before n 0 text rest)
 
 escape_before : (b : ℕ) (text rest : List ℕ) → escape_at (b ∷ (text ++ quote ∷ rest)) ≡ escape_at (b ∷ text)
 unfolding escape_at
 escape_before b text rest =
     let choice : ℕ × ℕ → Option (ℕ × ℕ) → Option (ℕ × ℕ) = λ o e. if is_octal_digit b then Some o else e in
-    ap (λ (o : ℕ × ℕ). choice o (named b (digit_count b) (text ++ quote ∷ rest))) (octal_before 3 0 0 (b ∷ text) rest) ∙ ap (choice (octal 3 0 0 (b ∷ text))) (named_before b (digit_count b) text rest)
+    ap (λ (o : ℕ × ℕ). choice o (named_escape b (digit_count b) (text ++ quote ∷ rest))) (octal_before 3 0 0 (b ∷ text) rest) ∙ ap (choice (octal 3 0 0 (b ∷ text))) (named_before b (digit_count b) text rest)
 
 pub bad_before : (b : ℕ) (text rest : List ℕ) → is_bad_escape (b ∷ (text ++ quote ∷ rest)) ≡ is_bad_escape (b ∷ text)
 bad_before b text rest = ap names_none (escape_before b text rest)
@@ -141,27 +141,27 @@ unfolding escape_at
 escape_octal [] lt d = absurd (omega arith)
 escape_octal (b ∷ s) lt d = cond-true (is_octal_digit b) _ _ d
 
-escape_named : (b : ℕ) (s : List ℕ) (o : Option ℕ) → is_octal_digit b ≡ false → digit_count b ≡ o → escape_at (b ∷ s) ≡ named b o s
+escape_named : (b : ℕ) (s : List ℕ) (o : Option ℕ) → is_octal_digit b ≡ false → digit_count b ≡ o → escape_at (b ∷ s) ≡ named_escape b o s
 unfolding escape_at
-escape_named b s o d e = cond-false (is_octal_digit b) _ _ d ∙ ap (λ (x : Option ℕ). named b x s) e
+escape_named b s o d e = cond-false (is_octal_digit b) _ _ d ∙ ap (λ (x : Option ℕ). named_escape b x s) e
 
 pub escape_digits : (s : List ℕ) (n code : ℕ) → 0 < length s → is_octal_digit (get_or s 0 0) ≡ false → digit_count (get_or s 0 0) ≡ Some n
     → hexadecimal n 0 (take (length s - 1) (drop 1 s)) ≡ Some code → escape_at s ≡ Some (code, n + 1)
 escape_digits [] n code lt d e h = absurd (omega arith)
-escape_digits (b ∷ s) n code lt d e h = escape_named b s (Some n) d e ∙ ap (sized (n + 1)) (ap (hexadecimal n 0) (sym (tail_is b s)) ∙ h)
+escape_digits (b ∷ s) n code lt d e h = escape_named b s (Some n) d e ∙ ap (escape_of_size (n + 1)) (ap (hexadecimal n 0) (sym (tail_is b s)) ∙ h)
 
 pub escape_short : (s : List ℕ) (n : ℕ) → 0 < length s → is_octal_digit (get_or s 0 0) ≡ false → digit_count (get_or s 0 0) ≡ Some n
     → hexadecimal n 0 (take (length s - 1) (drop 1 s)) ≡ None → escape_at s ≡ None
 escape_short [] n lt d e h = absurd (omega arith)
-escape_short (b ∷ s) n lt d e h = escape_named b s (Some n) d e ∙ ap (sized (n + 1)) (ap (hexadecimal n 0) (sym (tail_is b s)) ∙ h)
+escape_short (b ∷ s) n lt d e h = escape_named b s (Some n) d e ∙ ap (escape_of_size (n + 1)) (ap (hexadecimal n 0) (sym (tail_is b s)) ∙ h)
 
 pub escape_control : (s : List ℕ) (code : ℕ) → 0 < length s → is_octal_digit (get_or s 0 0) ≡ false → digit_count (get_or s 0 0) ≡ None → control (get_or s 0 0) ≡ Some code → escape_at s ≡ Some (code, 1)
 escape_control [] code lt d e h = absurd (omega arith)
-escape_control (b ∷ s) code lt d e h = escape_named b s None d e ∙ ap (sized 1) h
+escape_control (b ∷ s) code lt d e h = escape_named b s None d e ∙ ap (escape_of_size 1) h
 
 pub escape_other : (s : List ℕ) → 0 < length s → is_octal_digit (get_or s 0 0) ≡ false → digit_count (get_or s 0 0) ≡ None → control (get_or s 0 0) ≡ None → escape_at s ≡ None
 escape_other [] lt d e h = absurd (omega arith)
-escape_other (b ∷ s) lt d e h = escape_named b s None d e ∙ ap (sized 1) h
+escape_other (b ∷ s) lt d e h = escape_named b s None d e ∙ ap (escape_of_size 1) h
 
 pub ruleset hex_steps = (hex_short, hex_yes, hex_no, hex_end)
 

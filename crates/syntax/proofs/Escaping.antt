@@ -7,7 +7,7 @@ use Rattle.std.specs.List.{list_all}
 use Rattle.std.proofs.lemmas.Bool.Decides.{nat_tests}
 use Rattle.std.proofs.lemmas.List.{take-append-drop, length-take-le}
 use Rattle.std.proofs.lemmas.Bool.{cases_Bool, cond-true, cond-false}
-use Rattle.syntax.specs.lexer.Escapes.{control, digit_count, hexadecimal, octal, sized, named, escape_at, is_character, names_none, is_bad_escape}
+use Rattle.syntax.specs.lexer.Escapes.{control, digit_count, hexadecimal, octal, escape_of_size, named_escape, escape_at, is_character, names_none, is_bad_escape}
 use Rattle.syntax.specs.lexer.Escapes.{NamesCharacters, begins_octal, IsEscape, alone, sixteen, eight}
 use Rattle.syntax.specs.lexer.Numbers.{is_octal_digit}
 use Rattle.syntax.proofs.Runs.{all_both, all_first}
@@ -83,7 +83,7 @@ control_octal b code e = (grind (arith, nat_tests), grind (arith, nat_tests))
 count_octal : (b n : ℕ) → digit_count b ≡ Some n → is_octal_digit b ≡ false
 count_octal b n e = grind (arith, nat_tests)
 
-named_sound : (b : ℕ) (o : Option ℕ) (s : List ℕ) (code size : ℕ) → digit_count b ≡ o → named b o s ≡ Some (code, size) → IsEscape code (take size (b ∷ s)) (drop size (b ∷ s))
+named_sound : (b : ℕ) (o : Option ℕ) (s : List ℕ) (code size : ℕ) → digit_count b ≡ o → named_escape b o s ≡ Some (code, size) → IsEscape code (take size (b ∷ s)) (drop size (b ∷ s))
 named_sound b None s code size d e =
     let w = sized_some 1 (control b) code size e in
     subst (λ (m : ℕ). IsEscape code (take m (b ∷ s)) (drop m (b ∷ s))) w.1 (alone b code s w.0)
@@ -130,10 +130,10 @@ eight_complete (b ∷ digits) rest some few h ends =
 pub escape_complete : (code : ℕ) (written rest : List ℕ) → IsEscape code written rest → escape_at (written ++ rest) ≡ Some (code, length written)
 unfolding escape_at
 escape_complete _ _ _ (alone b code rest e) =
-    let w = control_octal b code e in cond-false (is_octal_digit b) _ _ w.0 ∙ ap (λ (o : Option ℕ). named b o rest) w.1 ∙ ap (sized 1) e
+    let w = control_octal b code e in cond-false (is_octal_digit b) _ _ w.0 ∙ ap (λ (o : Option ℕ). named_escape b o rest) w.1 ∙ ap (escape_of_size 1) e
 escape_complete _ _ _ (sixteen b digits rest e h) =
-    cond-false (is_octal_digit b) _ _ (count_octal b (length digits) e) ∙ ap (λ (o : Option ℕ). named b o (digits ++ rest)) e
-    ∙ ap (sized (length digits + 1)) (hex_complete 0 digits rest h)
+    cond-false (is_octal_digit b) _ _ (count_octal b (length digits) e) ∙ ap (λ (o : Option ℕ). named_escape b o (digits ++ rest)) e
+    ∙ ap (escape_of_size (length digits + 1)) (hex_complete 0 digits rest h)
     ∙ ap (λ (n : ℕ). Some (more_digits 16 0 digits, n)) (let q : length digits + 1 ≡ length (b ∷ digits) = omega arith in q)
 escape_complete _ _ _ (eight digits rest some few h ends) = eight_complete digits rest some few h ends
 

@@ -1,11 +1,11 @@
 -- What the functions that read expressions answer, case by case.
 use Rattle.std.proofs.Common.{◌⊎◌, ◌&&◌, ◌||◌, subst, inl, inr, take, drop, get_or, Bool, Option, Some, None, ◌≡◌, ℕ, zero, suc, ◌-◌}
 use Rattle.std.proofs.Common.{◌≤◌, ◌<◌, true, false, List, [], ◌∷◌, length, Result, Ok, Err, refl, sym, ap, ◌∙◌, arith, sub-one}
-use Rattle.syntax.specs.declared.lexer.token.Kind.{Kind}
+use Rattle.syntax.specs.declared.lexer.token.TokenKind.{TokenKind}
 use Rattle.syntax.specs.declared.lexer.token.Token.{Token}
-use Rattle.syntax.specs.declared.lexer.token.Kind.TheVariants as Kinds
-use Rattle.syntax.specs.declared.stop.Stop.{Stop}
-use Rattle.syntax.specs.declared.stop.Stop.TheVariants.{Unexpected, TooDeep}
+use Rattle.syntax.specs.declared.lexer.token.TokenKind.TheVariants as Kinds
+use Rattle.syntax.specs.declared.stop.ParseStop.{ParseStop}
+use Rattle.syntax.specs.declared.stop.ParseStop.TheVariants.{Unexpected, TooDeep}
 use Rattle.syntax.specs.declared.stop.ReadError.{ReadError}
 use Rattle.syntax.specs.declared.stop.ReadError.TheVariants as errors
 use Rattle.syntax.specs.lexer.Kinds.{is}
@@ -26,7 +26,7 @@ use Rattle.syntax.specs.declared.parser.expression.Rank.TheVariants as ranks
 use Rattle.std.specs.Option.{is_some}
 use Rattle.syntax.specs.declared.tree.Operator.{Operator}
 use Rattle.syntax.specs.Expressions.{comparative, ternary_tree}
-use Rattle.syntax.specs.Parts.{after_as, first_line, opened_at, stands_for, taken, token_as_at}
+use Rattle.syntax.specs.Parts.{after_as, first_line, opened_at, stands_for, taken_token, token_as_at}
 use Rattle.syntax.specs.ReadingExpressions.{argument_at, atom_at, base_at, branches_at, call_at, chain_at, ternary_at}
 use Rattle.syntax.specs.ReadingExpressions.{comparison_operator_at, dictionary_at, disjunction_at, enter_at, entered_at}
 use Rattle.syntax.specs.ReadingExpressions.{group_at, index_at, inner_at, items_at, link_at, list_at, label_at, links_at, links_on}
@@ -43,25 +43,25 @@ some_same x y e = cc
 pub some_none : {B : Type 0} (x : B) → ◌≡◌ {A = Option B} (Some x) None → ⊥
 some_none x e = cc
 
-module _ {B : Type 0} (f : Kind → Option B) where
-  pub taken_end : (ts : List Token) → length ts < 1 → (None, lexemes ts) ≡ taken f (lexemes ts)
-  unfolding taken
+module _ {B : Type 0} (f : TokenKind → Option B) where
+  pub taken_end : (ts : List Token) → length ts < 1 → (None, lexemes ts) ≡ taken_token f (lexemes ts)
+  unfolding taken_token
   taken_end [] lt = refl
   taken_end (t ∷ ts) lt = absurd (omega arith)
 
-  pub taken_missing : (ts : List Token) (d : Token) → 1 ≤ length ts → f (get_or ts 0 d).kind ≡ None → (None, lexemes ts) ≡ taken f (lexemes ts)
-  unfolding taken
+  pub taken_missing : (ts : List Token) (d : Token) → 1 ≤ length ts → f (get_or ts 0 d).kind ≡ None → (None, lexemes ts) ≡ taken_token f (lexemes ts)
+  unfolding taken_token
   taken_missing [] d le e = absurd (omega arith)
   taken_missing (t ∷ ts) d le e = rw e refl
 
-  pub taken_found : (ts : List Token) (d : Token) (x : B) → 1 ≤ length ts → f (get_or ts 0 d).kind ≡ Some x → (Some x, lexemes (take (length ts - 1) (drop 1 ts))) ≡ taken f (lexemes ts)
-  unfolding taken
+  pub taken_found : (ts : List Token) (d : Token) (x : B) → 1 ≤ length ts → f (get_or ts 0 d).kind ≡ Some x → (Some x, lexemes (take (length ts - 1) (drop 1 ts))) ≡ taken_token f (lexemes ts)
+  unfolding taken_token
   taken_found [] d x le e = absurd (omega arith)
   taken_found (t ∷ ts) d x le e = rw e (ap (λ (us : List Token). (Some x, lexemes us)) (sym (rest_is t ts)))
 
   -- what was taken
-  pub taken_some : (x : B) (ts rest : List Lexeme) → (Some x, rest) ≡ taken f ts → (t : Lexeme) × (token_as_at f ts ≡ Ok ((x, t), rest)) × (head_is (stands_for f) ts ≡ true)
-  unfolding taken token_as_at
+  pub taken_some : (x : B) (ts rest : List Lexeme) → (Some x, rest) ≡ taken_token f ts → (t : Lexeme) × (token_as_at f ts ≡ Ok ((x, t), rest)) × (head_is (stands_for f) ts ≡ true)
+  unfolding taken_token token_as_at
   taken_some x [] rest e = absurd (some_none x (ap (λ (p : Option B × List Lexeme). p.0) e))
   taken_some x (t ∷ ts) rest e = elim (cases_option (f t.kind)) [
     | inl n ↦ absurd (some_none x (ap (λ (p : Option B × List Lexeme). p.0) (e ∙ ap (λ (o : Option B). after_as o t ts) n)))
@@ -72,47 +72,47 @@ module _ {B : Type 0} (f : Kind → Option B) where
         (t, rw here (ap (λ (us : List Lexeme). Ok ((x, t), us)) (sym (ap (λ (p : Option B × List Lexeme). p.1) e2))), ap is_some here)
   ]
 
-  pub taken_none : (ts rest : List Lexeme) → (None, rest) ≡ taken f ts → (rest ≡ ts) × (head_is (stands_for f) ts ≡ false)
-  unfolding taken
+  pub taken_none : (ts rest : List Lexeme) → (None, rest) ≡ taken_token f ts → (rest ≡ ts) × (head_is (stands_for f) ts ≡ false)
+  unfolding taken_token
   taken_none [] rest e = (ap (λ (p : Option B × List Lexeme). p.1) e, refl)
   taken_none (t ∷ ts) rest e = elim (cases_option (f t.kind)) [
     | inl n ↦ (ap (λ (p : Option B × List Lexeme). p.1) (e ∙ ap (λ (o : Option B). after_as o t ts) n), ap is_some n)
     | inr w ↦ absurd (some_none w.0 (sym (ap (λ (p : Option B × List Lexeme). p.0) (e ∙ ap (λ (o : Option B). after_as o t ts) w.1))))
   ]
 
-pub taken_other : {B : Type 0} (f : Kind → Option B) (o : Option B) (ts rest : List Lexeme) → (o, rest) ≡ taken f ts → o ≡ None → (rest ≡ ts) × (head_is (stands_for f) ts ≡ false)
+pub taken_other : {B : Type 0} (f : TokenKind → Option B) (o : Option B) (ts rest : List Lexeme) → (o, rest) ≡ taken_token f ts → o ≡ None → (rest ≡ ts) × (head_is (stands_for f) ts ≡ false)
 taken_other f o ts rest e n = taken_none f ts rest (ap (λ (p : Option _). (p, rest)) (sym n) ∙ e)
 
-pub comparison_plain : (o : Option Operator) (x : Operator) (ts rest : List Lexeme) → (o, rest) ≡ taken comparative ts → o ≡ Some x → comparison_operator_at ts ≡ Ok (x, rest)
+pub comparison_plain : (o : Option Operator) (x : Operator) (ts rest : List Lexeme) → (o, rest) ≡ taken_token comparative ts → o ≡ Some x → comparison_operator_at ts ≡ Ok (x, rest)
 unfolding comparison_operator_at or_at plain_comparison_at
 comparison_plain o x ts rest e s = let w = taken_some comparative x ts rest (ap (λ (p : Option Operator). (p, rest)) (sym s) ∙ e) in rw (w.2, w.1) refl
 
-pub comparison_other : (o : Option Operator) (ts rest : List Lexeme) → (o, rest) ≡ taken comparative ts → o ≡ None → comparison_operator_at ts ≡ not_in_at rest
+pub comparison_other : (o : Option Operator) (ts rest : List Lexeme) → (o, rest) ≡ taken_token comparative ts → o ≡ None → comparison_operator_at ts ≡ not_in_at rest
 unfolding comparison_operator_at or_at
 comparison_other o ts rest e n = let w = taken_other comparative o ts rest e n in rw w.1 (ap not_in_at (sym w.0))
 
-pub taken_head : {B : Type 0} (f : Kind → Option B) (o : Option B) (x : B) (ts rest : List Lexeme) → (o, rest) ≡ taken f ts → o ≡ Some x → head_is (stands_for f) ts ≡ true
+pub taken_head : {B : Type 0} (f : TokenKind → Option B) (o : Option B) (x : B) (ts rest : List Lexeme) → (o, rest) ≡ taken_token f ts → o ≡ Some x → head_is (stands_for f) ts ≡ true
 taken_head f o x ts rest e s = (taken_some f x ts rest (ap (λ (p : Option _). (p, rest)) (sym s) ∙ e)).2
 
-pub operand_reads : (f : Kind → Option Operator) (part : Reader ExpressionTree) (o : Option Operator) (x : Operator) (ts mid : List Lexeme) (a : ExpressionTree) (rest : List Lexeme)
-    → (o, mid) ≡ taken f ts → o ≡ Some x → part mid ≡ Ok (a, rest) → operand_at f part ts ≡ Ok ((x, a), rest)
+pub operand_reads : (f : TokenKind → Option Operator) (part : Reader ExpressionTree) (o : Option Operator) (x : Operator) (ts mid : List Lexeme) (a : ExpressionTree) (rest : List Lexeme)
+    → (o, mid) ≡ taken_token f ts → o ≡ Some x → part mid ≡ Ok (a, rest) → operand_at f part ts ≡ Ok ((x, a), rest)
 unfolding operand_at
 operand_reads f part o x ts mid a rest e s h = let w = taken_some f x ts mid (ap (λ (p : Option Operator). (p, mid)) (sym s) ∙ e) in rw (w.1, h) refl
 
-pub operand_fails : (f : Kind → Option Operator) (part : Reader ExpressionTree) (o : Option Operator) (x : Operator) (ts mid : List Lexeme) (d : ReadError)
-    → (o, mid) ≡ taken f ts → o ≡ Some x → Fails d (part mid) → Fails d (operand_at f part ts)
+pub operand_fails : (f : TokenKind → Option Operator) (part : Reader ExpressionTree) (o : Option Operator) (x : Operator) (ts mid : List Lexeme) (d : ReadError)
+    → (o, mid) ≡ taken_token f ts → o ≡ Some x → Fails d (part mid) → Fails d (operand_at f part ts)
 unfolding operand_at
 operand_fails f part o x ts mid errors.Memory e s h = tt
 operand_fails f part o x ts mid (errors.Stop d) e s h = let w = taken_some f x ts mid (ap (λ (p : Option Operator). (p, mid)) (sym s) ∙ e) in rw (w.1, h) refl
 
 -- ---- chains and ternaries
 
-pub chain_alone : (f : Kind → Option Operator) (part : Reader ExpressionTree) (ts : List Lexeme) (a : ExpressionTree) (mid : List Lexeme)
+pub chain_alone : (f : TokenKind → Option Operator) (part : Reader ExpressionTree) (ts : List Lexeme) (a : ExpressionTree) (mid : List Lexeme)
     → part ts ≡ Ok (a, mid) → head_is (stands_for f) mid ≡ false → chain_at f part ts ≡ Ok (a, mid)
 unfolding chain_at operands_at
 chain_alone f part ts a mid h b = rw (h, many_none (head_is (stands_for f)) (operand_at f part) (length mid) mid b) refl
 
-pub chain_more : (f : Kind → Option Operator) (part : Reader ExpressionTree) (ts : List Lexeme) (a : ExpressionTree) (mid : List Lexeme)
+pub chain_more : (f : TokenKind → Option Operator) (part : Reader ExpressionTree) (ts : List Lexeme) (a : ExpressionTree) (mid : List Lexeme)
     (os : List OperandTree) (rest : List Lexeme) → part ts ≡ Ok (a, mid) → head_is (stands_for f) mid ≡ true
     → operands_at f part mid ≡ Ok (os, rest) → chain_at f part ts ≡ Ok (ChainTree a (operands os) (first_line ts), rest)
 unfolding chain_at operands_at
@@ -121,7 +121,7 @@ chain_more f part ts a mid os rest h b e =
     rw (h, e, w.2) refl
 
 module _ (u : Bool → Reader ExpressionTree) (b : Bool) (ts : List Lexeme) where
-  abbrev asked : Bool → Result (ExpressionTree × List Lexeme) Stop
+  abbrev asked : Bool → Result (ExpressionTree × List Lexeme) ParseStop
   asked z = disjunction_at (u z) ts >>= λ test. optional_at (λ us. z && begins Kinds.Question us) (branches_at (disjunction_at (u false))) test.1
       >>= λ rest. Ok (ternary_tree (first_line ts) test.0 rest.0, rest.1)
 
@@ -192,7 +192,7 @@ module _ (part : Reader ExpressionTree) (ts : List Lexeme) where
 
 -- ---- what opens a level
 
-module _ {A : Type 0} (k : Kind) (f : (Bool → Reader ExpressionTree) → Lexeme → Reader A) where
+module _ {A : Type 0} (k : TokenKind) (f : (Bool → Reader ExpressionTree) → Lexeme → Reader A) where
   pub opened_entered : (n : ℕ) (ts : List Lexeme) → opened_at k (inner_at n) f ts ≡ entered_at k n f ts
   unfolding opened_at entered_at enter_at deep_at
   opened_entered zero ts = elim (cases_bool (begins k ts)) [ inl b ↦ rw b refl | inr b ↦ rw b refl ]
@@ -201,23 +201,23 @@ module _ {A : Type 0} (k : Kind) (f : (Bool → Reader ExpressionTree) → Lexem
   pub opened_is : (n : ℕ) → opened_at k (inner_at n) f ≡ entered_at k n f
   opened_is n = λ i ts. opened_entered n ts i
 
-pub enter_found : (k : Kind) (n : ℕ) (ts : List Lexeme) (t : Lexeme) (rest : List Lexeme) → 0 < n → token_at k ts ≡ Ok (t, rest) → enter_at k n ts ≡ Ok ((t, n - 1), rest)
+pub enter_found : (k : TokenKind) (n : ℕ) (ts : List Lexeme) (t : Lexeme) (rest : List Lexeme) → 0 < n → token_at k ts ≡ Ok (t, rest) → enter_at k n ts ≡ Ok ((t, n - 1), rest)
 unfolding enter_at
 enter_found k zero ts t rest lt e = absurd (omega arith)
 enter_found k (suc n) ts t rest lt e = rw (e, sub-one) refl
 
-pub enter_fails : (k : Kind) (n : ℕ) (ts : List Lexeme) (e : ReadError) → 0 < n → Fails e (token_at k ts) → Fails e (enter_at k n ts)
+pub enter_fails : (k : TokenKind) (n : ℕ) (ts : List Lexeme) (e : ReadError) → 0 < n → Fails e (token_at k ts) → Fails e (enter_at k n ts)
 unfolding enter_at
 enter_fails k n ts errors.Memory lt h = tt
 enter_fails k zero ts (errors.Stop f) lt h = absurd (omega arith)
 enter_fails k (suc n) ts (errors.Stop f) lt h = rw h refl
 
-pub enter_deep : (k : Kind) (n : ℕ) (ts : List Token) → n ≤ 0 → begins k (lexemes ts) ≡ true → enter_at k n (lexemes ts) ≡ Err (TooDeep (length ts))
+pub enter_deep : (k : TokenKind) (n : ℕ) (ts : List Token) → n ≤ 0 → begins k (lexemes ts) ≡ true → enter_at k n (lexemes ts) ≡ Err (TooDeep (length ts))
 unfolding enter_at deep_at
 enter_deep k zero ts le b = rw b (ap (λ (m : ℕ). Err (TooDeep m)) (length_lexemes ts))
 enter_deep k (suc n) ts le b = absurd (omega arith)
 
-pub enter_missing : (k : Kind) (n : ℕ) (ts : List Token) → n ≤ 0 → begins k (lexemes ts) ≡ false → enter_at k n (lexemes ts) ≡ Err (Unexpected (length ts))
+pub enter_missing : (k : TokenKind) (n : ℕ) (ts : List Token) → n ≤ 0 → begins k (lexemes ts) ≡ false → enter_at k n (lexemes ts) ≡ Err (Unexpected (length ts))
 unfolding enter_at deep_at
 enter_missing k zero ts le b = rw b (ap (λ (m : ℕ). Err (Unexpected m)) (length_lexemes ts))
 enter_missing k (suc n) ts le b = absurd (omega arith)
@@ -225,9 +225,9 @@ enter_missing k (suc n) ts le b = absurd (omega arith)
 -- ---- atoms
 
 -- a token of one kind is none of another
-begins_other : (k l : Kind) → is k l ≡ false → (ts : List Lexeme) → begins k ts ≡ true → begins l ts ≡ false
+begins_other : (k l : TokenKind) → is k l ≡ false → (ts : List Lexeme) → begins k ts ≡ true → begins l ts ≡ false
 begins_other k l other [] e = refl
-begins_other k l other (t ∷ ts) e = subst (λ (m : Kind). is m l ≡ false) (sym (is-true t.kind k e)) other
+begins_other k l other (t ∷ ts) e = subst (λ (m : TokenKind). is m l ≡ false) (sym (is-true t.kind k e)) other
 
 module _ (n : ℕ) (b : Bool) (ts : List Lexeme) where
   pub base_call : two_begin Kinds.Name Kinds.OpenParenthesis ts ≡ true → base_at (inner_at n) b ts ≡ call_at (entered_at Kinds.OpenParenthesis n (λ e. items_at e b)) ts

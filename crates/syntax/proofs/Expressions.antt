@@ -3,15 +3,15 @@ use Rattle.std.proofs.Common.{◌≡◌, ℕ, zero, suc, ◌+◌, ◌<◌, Bool,
 use Rattle.std.proofs.Common.{inl, inr, lit≤, arith}
 use Rattle.syntax.specs.lexer.Lexeme.{Lexeme}
 use Rattle.syntax.specs.lexer.Kinds.{is}
-use Rattle.syntax.specs.declared.lexer.token.Kind.{Kind}
-use Rattle.syntax.specs.declared.lexer.token.Kind.TheVariants as Kinds
+use Rattle.syntax.specs.declared.lexer.token.TokenKind.{TokenKind}
+use Rattle.syntax.specs.declared.lexer.token.TokenKind.TheVariants as Kinds
 use Rattle.syntax.specs.declared.tree.Prefix.{Prefix}
 use Rattle.syntax.specs.declared.tree.Prefix.TheVariants as prefixes
 use Rattle.syntax.specs.ExpressionTree.{ExpressionTree, NameTree, FunctionTree, MethodTree, IndexTree, PrefixTree, arguments}
 use Rattle.syntax.specs.Form.{Form, token, give, ◌or◌}
-use Rattle.syntax.specs.Parts.{Inner, Closed, Inside, here, here_at, opened, stands_for}
+use Rattle.syntax.specs.Parts.{Inner, Closed, Inside, here, here_at, form_after_token, stands_for}
 use Rattle.syntax.specs.Expressions.{atom, call, ternary, dictionary, expr, group, in_parentheses, index, is_named, items, link, list}
-use Rattle.syntax.specs.Expressions.{literal, literal_of, method, name, postfix, postfix_tree, prefixed, unary, unary_in, argument}
+use Rattle.syntax.specs.Expressions.{literal, literal_of, method, name, postfix, postfix_tree, prefix_expression, unary, unary_in, argument}
 use Rattle.syntax.specs.Reading.{Reader, begins, token_at}
 use Rattle.syntax.specs.ReadingExpressions.{argument_at, atom_at, base_at, call_at, ternary_at, dictionary_at, expr_at, group_at}
 use Rattle.syntax.specs.ReadingExpressions.{in_parentheses_at, index_at, items_at, link_at, links_at, links_on, list_at, literal_at}
@@ -32,21 +32,21 @@ use Rattle.syntax.proofs.Steps.{IsInside, IsUnary, line-here, line-opened, opens
 
 -- ---- atoms
 
-abbrev after_name : Kind → Bool
+abbrev after_name : TokenKind → Bool
 after_name = either (of_kind Kinds.OpenParenthesis) (either (of_kind Kinds.OpenBracket) (either (of_kind Kinds.OpenBrace) (stands_for literal_of)))
 
-abbrev opens_atom : Kind → Bool
+abbrev opens_atom : TokenKind → Bool
 opens_atom = either (of_kind Kinds.Name) after_name
 
 module _ (u : Inner) (b : Bool) where
   abbrev grouped : Form ExpressionTree
-  grouped = opened Kinds.OpenParenthesis u (λ e. group e b)
+  grouped = form_after_token Kinds.OpenParenthesis u (λ e. group e b)
 
   abbrev listing : Form ExpressionTree
-  listing = opened Kinds.OpenBracket u (λ e. list e b)
+  listing = form_after_token Kinds.OpenBracket u (λ e. list e b)
 
   abbrev mapping : Form ExpressionTree
-  mapping = opened Kinds.OpenBrace u (λ e. dictionary e b)
+  mapping = form_after_token Kinds.OpenBrace u (λ e. dictionary e b)
 
   starts-mapping : Starts (mapping or literal) (either (of_kind Kinds.OpenBrace) (stands_for literal_of))
   starts-mapping = starts-either (of_kind Kinds.OpenBrace) (stands_for literal_of) mapping literal (starts-opened Kinds.OpenBrace (λ e. dictionary e b) u) starts-literal
@@ -84,11 +84,11 @@ module _ (u u' : Inner) (v v' : Option (Bool → Reader ExpressionTree)) (h : Is
       (λ ts c. (after_kind Kinds.Comma 7 ts (lit≤ tt) c, not_colon Kinds.Comma refl ts c)) (λ ts c. (after_kind Kinds.CloseParenthesis 7 ts (lit≤ tt) c, not_colon Kinds.CloseParenthesis refl ts c))
       starts_argument (line-argument G G' s s' i b) false
     where
-      not_colon : (k : Kind) → is k Kinds.Colon ≡ false → (ts : List Lexeme) → begins k ts ≡ true → begins Kinds.Colon ts ≡ false
+      not_colon : (k : TokenKind) → is k Kinds.Colon ≡ false → (ts : List Lexeme) → begins k ts ≡ true → begins Kinds.Colon ts ≡ false
       not_colon k e [] c = refl
-      not_colon k e (t ∷ ts) c = subst (λ (l : Kind). is l Kinds.Colon ≡ false) (sym (is-true t.kind k c)) e
+      not_colon k e (t ∷ ts) c = subst (λ (l : TokenKind). is l Kinds.Colon ≡ false) (sym (is-true t.kind k c)) e
 
-      from_name : (k : Kind) → is k Kinds.Name ≡ true → opens_expr k ≡ true
+      from_name : (k : TokenKind) → is k Kinds.Name ≡ true → opens_expr k ≡ true
       from_name k e = ap opens_expr (is-true k Kinds.Name e)
 
       starts_argument : (n : Bool) → Starts (argument (ternary G b) n) opens_expr
@@ -101,7 +101,7 @@ module _ (u u' : Inner) (v v' : Option (Bool → Reader ExpressionTree)) (h : Is
   not_call : (ts : List Lexeme) → After 0 ts → begins Kinds.OpenParenthesis ts ≡ false
   not_call ts st = begins-head Kinds.OpenParenthesis ts ∙ head_ends (of_kind Kinds.OpenParenthesis) 0 call_ends ts st
     where
-      call_ends : (k : Kind) → 0 < binding k → of_kind Kinds.OpenParenthesis k ≡ false
+      call_ends : (k : TokenKind) → 0 < binding k → of_kind Kinds.OpenParenthesis k ≡ false
       call_ends Kinds.OpenParenthesis lt = absurd (omega arith)
       call_ends _ lt = refl
 
@@ -133,7 +133,7 @@ module _ (u u' : Inner) (v v' : Option (Bool → Reader ExpressionTree)) (h : Is
   starts-method : Starts (method (in_parentheses u b)) (of_kind Kinds.Dot)
   starts-method = starts-bind (token Kinds.Dot) _ (of_kind Kinds.Dot) (starts-token Kinds.Dot)
 
-  starts-index : Starts (opened Kinds.OpenBracket u (λ e. index e b)) (of_kind Kinds.OpenBracket)
+  starts-index : Starts (form_after_token Kinds.OpenBracket u (λ e. index e b)) (of_kind Kinds.OpenBracket)
   starts-index = starts-opened Kinds.OpenBracket (λ e. index e b) u
 
   line-link : Line (link u b) (link u' b) (link_at v b) (link_at v' b) Any 1
@@ -144,12 +144,12 @@ module _ (u u' : Inner) (v v' : Option (Bool → Reader ExpressionTree)) (h : Is
   starts-link : Starts (link u b) links_on
   starts-link = starts-either (of_kind Kinds.Dot) (of_kind Kinds.OpenBracket) _ _ starts-method starts-index
 
-  links_bind : (k : Kind) → links_on k ≡ true → 0 < binding k
+  links_bind : (k : TokenKind) → links_on k ≡ true → 0 < binding k
   links_bind Kinds.Dot e = lit≤ tt
   links_bind Kinds.OpenBracket e = lit≤ tt
   links_bind _ e = absurd cc
 
-  links_end : (k : Kind) → 1 < binding k → links_on k ≡ false
+  links_end : (k : TokenKind) → 1 < binding k → links_on k ≡ false
   links_end Kinds.Dot lt = absurd (omega arith)
   links_end Kinds.OpenBracket lt = absurd (omega arith)
   links_end _ lt = refl
@@ -173,28 +173,28 @@ module _ (u u' : Inner) (v v' : Option (Bool → Reader ExpressionTree)) (h : Is
 
   -- ---- prefix operators
 
-  line-prefixed : (p : Prefix) (G G' : Bool → Form ExpressionTree) (s s' : Bool → Reader ExpressionTree) → ((b : Bool) → IsUnary (G b) (G' b) (s b) (s' b)) → (o : Lexeme) → Line (prefixed p G b o) (prefixed p G' b o) (prefixed_at p s b o) (prefixed_at p s' b o) (After 1) 0
+  line-prefixed : (p : Prefix) (G G' : Bool → Form ExpressionTree) (s s' : Bool → Reader ExpressionTree) → ((b : Bool) → IsUnary (G b) (G' b) (s b) (s' b)) → (o : Lexeme) → Line (prefix_expression p G b o) (prefix_expression p G' b o) (prefixed_at p s b o) (prefixed_at p s' b o) (After 1) 0
   unfolding prefixed_at
   line-prefixed p G G' s s' i o = line-stops _ _ _ _ (After 1) (After 1) 1 0 (λ ts st. st) (omega arith) (line-map (G b) (G' b) (λ e. PrefixTree p e o.line) (s b) (s' b) (After 1) 1 (i b).line)
 
   abbrev negative : Inner → Form ExpressionTree
-  negative w = opened Kinds.Minus w (λ e. prefixed prefixes.Negative e b)
+  negative w = form_after_token Kinds.Minus w (λ e. prefix_expression prefixes.Negative e b)
 
   abbrev negated : Inner → Form ExpressionTree
-  negated w = opened Kinds.Not w (λ e. prefixed prefixes.Not e b)
+  negated w = form_after_token Kinds.Not w (λ e. prefix_expression prefixes.Not e b)
 
   starts-negative : Starts (negative u or postfix u b) (either (of_kind Kinds.Minus) opens_atom)
-  starts-negative = starts-either (of_kind Kinds.Minus) opens_atom (negative u) (postfix u b) (starts-opened Kinds.Minus (λ e. prefixed prefixes.Negative e b) u) starts-postfix
+  starts-negative = starts-either (of_kind Kinds.Minus) opens_atom (negative u) (postfix u b) (starts-opened Kinds.Minus (λ e. prefix_expression prefixes.Negative e b) u) starts-postfix
 
   line-unary-in : Line (unary_in u b) (unary_in u' b) (unary_in_at v b) (unary_in_at v' b) (After 1) 1
   unfolding unary_in_at
   line-unary-in =
-      line-choice Kinds.Not (either (of_kind Kinds.Minus) opens_atom) (negated u) (negated u') _ _ _ _ _ _ (After 1) 1 (starts-opened Kinds.Not (λ e. prefixed prefixes.Not e b) u) starts-negative refl
-      (line-opened Kinds.Not (λ e. prefixed prefixes.Not e b) (λ e. prefixed_at prefixes.Not e b) (After 1) (line-prefixed prefixes.Not) u u' v v' h)
-      (line-choice Kinds.Minus opens_atom (negative u) (negative u') (postfix u b) (postfix u' b) _ _ (postfix_at v b) (postfix_at v' b) (After 1) 1 (starts-opened Kinds.Minus (λ e. prefixed prefixes.Negative e b) u) starts-postfix refl
-      (line-opened Kinds.Minus (λ e. prefixed prefixes.Negative e b) (λ e. prefixed_at prefixes.Negative e b) (After 1) (line-prefixed prefixes.Negative) u u' v v' h) line-postfix)
+      line-choice Kinds.Not (either (of_kind Kinds.Minus) opens_atom) (negated u) (negated u') _ _ _ _ _ _ (After 1) 1 (starts-opened Kinds.Not (λ e. prefix_expression prefixes.Not e b) u) starts-negative refl
+      (line-opened Kinds.Not (λ e. prefix_expression prefixes.Not e b) (λ e. prefixed_at prefixes.Not e b) (After 1) (line-prefixed prefixes.Not) u u' v v' h)
+      (line-choice Kinds.Minus opens_atom (negative u) (negative u') (postfix u b) (postfix u' b) _ _ (postfix_at v b) (postfix_at v' b) (After 1) 1 (starts-opened Kinds.Minus (λ e. prefix_expression prefixes.Negative e b) u) starts-postfix refl
+      (line-opened Kinds.Minus (λ e. prefix_expression prefixes.Negative e b) (λ e. prefixed_at prefixes.Negative e b) (After 1) (line-prefixed prefixes.Negative) u u' v v' h) line-postfix)
 
-  atom_opens : (k : Kind) → opens_atom k ≡ true → opens_expr k ≡ true
+  atom_opens : (k : TokenKind) → opens_atom k ≡ true → opens_expr k ≡ true
   atom_opens Kinds.Name e = refl
   atom_opens Kinds.OpenParenthesis e = refl
   atom_opens Kinds.OpenBracket e = refl
@@ -204,8 +204,8 @@ module _ (u u' : Inner) (v v' : Option (Bool → Reader ExpressionTree)) (h : Is
   atom_opens k e = e
 
   starts-unary-in : Starts (unary_in u b) opens_expr
-  starts-unary-in = starts-or (negated u) _ (of_kind Kinds.Not) opens_expr opens_expr (starts-opened Kinds.Not (λ e. prefixed prefixes.Not e b) u)
-      (starts-or (negative u) (postfix u b) (of_kind Kinds.Minus) opens_atom opens_expr (starts-opened Kinds.Minus (λ e. prefixed prefixes.Negative e b) u) starts-postfix (λ k e. ap opens_expr (is-true k Kinds.Minus e)) atom_opens)
+  starts-unary-in = starts-or (negated u) _ (of_kind Kinds.Not) opens_expr opens_expr (starts-opened Kinds.Not (λ e. prefix_expression prefixes.Not e b) u)
+      (starts-or (negative u) (postfix u b) (of_kind Kinds.Minus) opens_atom opens_expr (starts-opened Kinds.Minus (λ e. prefix_expression prefixes.Negative e b) u) starts-postfix (λ k e. ap opens_expr (is-true k Kinds.Minus e)) atom_opens)
       (λ k e. ap opens_expr (is-true k Kinds.Not e)) (λ k e. e)
 
   is-unary-in : IsUnary (unary_in u b) (unary_in u' b) (unary_in_at v b) (unary_in_at v' b)

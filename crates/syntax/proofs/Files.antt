@@ -1,10 +1,10 @@
 -- The lines of files, each but the first behind a newline.
 use Rattle.std.proofs.Common.{ℕ, suc, false, List, ◌∷◌, length, sym, ◌∙◌, inl, inr, arith, Option}
 use Rattle.syntax.specs.lexer.Lexeme.{Lexeme}
-use Rattle.syntax.specs.declared.lexer.token.Kind.TheVariants as Kinds
+use Rattle.syntax.specs.declared.lexer.token.TokenKind.TheVariants as Kinds
 use Rattle.syntax.specs.Tree.{StatementTree, FileTree}
 use Rattle.syntax.specs.Form.{Form, token, give, many, optional, ◌>>=◌}
-use Rattle.syntax.specs.Statements.{stmt, given}
+use Rattle.syntax.specs.Statements.{stmt, statements_of_lines}
 use Rattle.syntax.specs.Reading.{Reader, begins, many_at}
 use Rattle.syntax.specs.ReadingStatements.{file_at, line_at, next_line_at}
 use Rattle.syntax.proofs.Blocks.{AfterLine, after_newline, line-maybe, line-stmt, starts-stmt}
@@ -51,14 +51,14 @@ line-nexts n = line-many (begins Kinds.Newline) (omega arith)
 -- ---- [stmt] {NL [stmt]}
 
 abbrev pub others : ℕ → Option StatementTree → Form FileTree
-others n first = many (next n) >>= λ os. give (given (first ∷ os))
+others n first = many (next n) >>= λ os. give (statements_of_lines (first ∷ os))
 
 abbrev others_at : ℕ → Option StatementTree → Reader FileTree
-others_at n first = bind_at (nexts_at n) (λ os. give_at (given (first ∷ os)))
+others_at n first = bind_at (nexts_at n) (λ os. give_at (statements_of_lines (first ∷ os)))
 
 line-others : (n : ℕ) (first : Option StatementTree)
     → Line (others n first) (others (suc n) first) (others_at n first) (others_at (suc n) first) AfterLines 0
-line-others n first = give_line (λ (os : List (Option StatementTree)). given (first ∷ os)) (line-nexts n)
+line-others n first = give_line (λ (os : List (Option StatementTree)). statements_of_lines (first ∷ os)) (line-nexts n)
 
 -- the lines, each but the first behind a newline
 abbrev pub lines : ℕ → Form FileTree
@@ -67,6 +67,6 @@ lines n = maybe n >>= others n
 pub line-lines : (n : ℕ) → Line (lines n) (lines (suc n)) (file_at n) (file_at (suc n)) AfterLines 0
 unfolding file_at
 line-lines n = before_leads is_newline after_newline (λ ts st. st.1)
-    (λ (first : Option StatementTree). leads-give (many (next n)) (λ (os : List (Option StatementTree)). given (first ∷ os)) is_newline
+    (λ (first : Option StatementTree). leads-give (many (next n)) (λ (os : List (Option StatementTree)). statements_of_lines (first ∷ os)) is_newline
     (leads-many (next n) is_newline (starts-next n)))
     (line-first n) (line-others n)

@@ -7,7 +7,7 @@ use Rattle.std.proofs.lemmas.Bool.{eqb-true, and_from, and_parts, cond-true, con
 use Rattle.std.proofs.lemmas.Bool.Decides.{nat_tests}
 use Rattle.std.proofs.lemmas.Str.{IsCharBoundary-after_ascii}
 use Rattle.syntax.specs.lexer.Bytes.{quote}
-use Rattle.syntax.specs.lexer.Texts.{is_framed, between}
+use Rattle.syntax.specs.lexer.Texts.{is_framed, text_between_quotes}
 
 le_true : (a b : ℕ) → a ≤ b → nat_le a b ≡ true
 le_true a b h = grind (arith, nat_tests)
@@ -51,12 +51,12 @@ framed_start front back text utf8 some more h =
     subst (IsCharBoundary text) (let q : (front - 1) + 1 ≡ front = omega arith in q)
     (IsCharBoundary-after_ascii text (front - 1) utf8 (omega (arith, w.within)) (subst (λ (x : ℕ). x < 128) (sym w.before) (lit< tt)))
 
-pub between_framed : (front back : ℕ) (text : List ℕ) → is_framed front back text ≡ true → between front back text ≡ slice_range text front (length text - back)
-unfolding between
+pub between_framed : (front back : ℕ) (text : List ℕ) → is_framed front back text ≡ true → text_between_quotes front back text ≡ slice_range text front (length text - back)
+unfolding text_between_quotes
 between_framed front back text h = cond-true (is_framed front back text) _ _ h
 
-pub between_all : (front back : ℕ) (text : List ℕ) → is_framed front back text ≡ false → between front back text ≡ text
-unfolding between
+pub between_all : (front back : ℕ) (text : List ℕ) → is_framed front back text ≡ false → text_between_quotes front back text ≡ text
+unfolding text_between_quotes
 between_all front back text h = cond-false (is_framed front back text) _ _ h
 
 pub ruleset framed_cases = (framed_short, framed_enough)

@@ -3,11 +3,11 @@ use Rattle.std.proofs.Common.{◌≡◌, ℕ, zero, suc, ◌≤◌, ◌<◌, Boo
 use Rattle.std.proofs.Common.{◌∙◌, arith, Option, Some, None, append_assoc}
 use Rattle.std.proofs.lemmas.List.{append-nil}
 use Rattle.syntax.specs.lexer.Lexeme.{Lexeme}
-use Rattle.syntax.specs.declared.lexer.token.Kind.{Kind}
-use Rattle.syntax.specs.declared.stop.Stop.{Stop}
+use Rattle.syntax.specs.declared.lexer.token.TokenKind.{TokenKind}
+use Rattle.syntax.specs.declared.stop.ParseStop.{ParseStop}
 use Rattle.syntax.specs.declared.stop.ReadError.{ReadError}
 use Rattle.syntax.specs.declared.stop.ReadError.TheVariants as errors
-use Rattle.syntax.specs.Statements.{given}
+use Rattle.syntax.specs.Statements.{statements_of_lines}
 use Rattle.syntax.specs.Tree.{StatementTree}
 use Rattle.syntax.specs.Reading.{Reader, ◌>>=◌, Fails, begins, head_is, many_at}
 
@@ -21,38 +21,38 @@ module _ {A B : Type 0} (next : List Lexeme → Bool) (r : Reader A) (gathered :
     (nothing : (before : List B) → before ++ gathered [] ≡ before) (regroup : (before : List B) (a : A) (more : List A)
     → before ++ gathered (a ∷ more) ≡ put before a ++ gathered more)
     (long : (ts : List Lexeme) → next ts ≡ true → 0 < length ts) where
-  abbrev pub with_more : List B → Result (List A × List Lexeme) Stop → Result (List B × List Lexeme) Stop
+  abbrev pub with_more : List B → Result (List A × List Lexeme) ParseStop → Result (List B × List Lexeme) ParseStop
   with_more before read = read >>= λ x. Ok (before ++ gathered x.0, x.1)
 
-  abbrev pub StillReads : List B → List Lexeme → Result (List B × List Lexeme) Stop → Type 0
+  abbrev pub StillReads : List B → List Lexeme → Result (List B × List Lexeme) ParseStop → Type 0
   StillReads before ts total = (fuel : ℕ) × (length ts ≤ fuel) × (with_more before (many_at next r fuel ts) ≡ total)
 
-  more_regroup : (before : List B) (a : A) (read : Result (List A × List Lexeme) Stop)
+  more_regroup : (before : List B) (a : A) (read : Result (List A × List Lexeme) ParseStop)
       → with_more before (read >>= λ x. Ok (a ∷ x.0, x.1)) ≡ with_more (put before a) read
   more_regroup before a (Ok x) = ap (λ (bs : List B). Ok (bs, x.1)) (regroup before a x.0)
   more_regroup before a (Err f) = refl
 
-  pub still_more : (before : List B) (ts : List Lexeme) (total : Result (List B × List Lexeme) Stop) (a : A) (rest : List Lexeme)
+  pub still_more : (before : List B) (ts : List Lexeme) (total : Result (List B × List Lexeme) ParseStop) (a : A) (rest : List Lexeme)
       → StillReads before ts total → next ts ≡ true → r ts ≡ Ok (a, rest) → length rest < length ts → StillReads (put before a) rest total
   still_more before ts total a rest (zero, le, e) b h lt = absurd (omega arith)
   still_more before ts total a rest (suc k, le, e) b h lt =
       (k, omega arith, sym (more_regroup before a (many_at next r k rest)) ∙ sym (rw (b, h) refl) ∙ e)
 
-  pub still_fails : (before : List B) (ts : List Lexeme) (total : Result (List B × List Lexeme) Stop) (e : ReadError)
+  pub still_fails : (before : List B) (ts : List Lexeme) (total : Result (List B × List Lexeme) ParseStop) (e : ReadError)
       → StillReads before ts total → next ts ≡ true → Fails e (r ts) → Fails e total
   still_fails before ts total errors.Memory s b h = tt
   still_fails before ts total (errors.Stop f) (zero, le, e) b h = absurd (omega (arith, long ts b))
   still_fails before ts total (errors.Stop f) (suc k, le, e) b h = sym e ∙ rw (b, h) refl
 
-  pub still_end : (before : List B) (ts : List Lexeme) (total : Result (List B × List Lexeme) Stop) → StillReads before ts total
+  pub still_end : (before : List B) (ts : List Lexeme) (total : Result (List B × List Lexeme) ParseStop) → StillReads before ts total
       → next ts ≡ false → total ≡ Ok (before, ts)
   still_end before ts total (k, le, e) b = sym e ∙ rw (many_none next r k ts b) (ap (λ (bs : List B). Ok (bs, ts)) (nothing before))
 
-pub begins_long : (k : Kind) (ts : List Lexeme) → begins k ts ≡ true → 0 < length ts
+pub begins_long : (k : TokenKind) (ts : List Lexeme) → begins k ts ≡ true → 0 < length ts
 begins_long k [] b = absurd cc
 begins_long k (t ∷ ts) b = omega arith
 
-pub head_long : (p : Kind → Bool) (ts : List Lexeme) → head_is p ts ≡ true → 0 < length ts
+pub head_long : (p : TokenKind → Bool) (ts : List Lexeme) → head_is p ts ≡ true → 0 < length ts
 head_long p [] b = absurd cc
 head_long p (t ∷ ts) b = omega arith
 
@@ -70,9 +70,9 @@ one_regroup before a more = simp append_assoc
 -- ---- lines, of which some are empty
 
 abbrev pub with_line : List StatementTree → Option StatementTree → List StatementTree
-with_line before o = before ++ given (o ∷ [])
+with_line before o = before ++ statements_of_lines (o ∷ [])
 
 pub line_regroup : (before : List StatementTree) (o : Option StatementTree) (more : List (Option StatementTree))
-    → before ++ given (o ∷ more) ≡ with_line before o ++ given more
-line_regroup before None more = ap (λ (l : List StatementTree). l ++ given more) (sym (append-nil before))
+    → before ++ statements_of_lines (o ∷ more) ≡ with_line before o ++ statements_of_lines more
+line_regroup before None more = ap (λ (l : List StatementTree). l ++ statements_of_lines more) (sym (append-nil before))
 line_regroup before (Some s) more = simp append_assoc

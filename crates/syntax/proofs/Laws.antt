@@ -2,9 +2,9 @@
 use Rattle.std.proofs.Common.{◌≡◌, ℕ, zero, suc, ◌+◌, ◌≤◌, ◌<◌, Bool, true, false, List, [], ◌∷◌, length, Result, Ok, Err, refl, sym, ap}
 use Rattle.std.proofs.Common.{subst, ◌∙◌, ◌⊎◌, inl, inr, arith, Option, Some, None}
 use Rattle.syntax.specs.lexer.Lexeme.{Lexeme}
-use Rattle.syntax.specs.declared.lexer.token.Kind.{Kind}
-use Rattle.syntax.specs.declared.stop.Stop.{Stop}
-use Rattle.syntax.specs.declared.stop.Stop.TheVariants.{Unexpected}
+use Rattle.syntax.specs.declared.lexer.token.TokenKind.{TokenKind}
+use Rattle.syntax.specs.declared.stop.ParseStop.{ParseStop}
+use Rattle.syntax.specs.declared.stop.ParseStop.TheVariants.{Unexpected}
 use Rattle.syntax.specs.Form.{◌>>=◌ as ◌then◌}
 use Rattle.syntax.specs.Form.{Form, token, give, ◌or◌, many, Repeats, optional}
 use Rattle.syntax.specs.lexer.Kinds.{is}
@@ -12,7 +12,7 @@ use Rattle.syntax.specs.Reading.{Reader, ◌>>=◌, tokens_left, token_at, many_
 use Rattle.syntax.proofs.Numbers.{is-true, eq-is}
 
 -- how many tokens are left where reading stops
-abbrev pub left_of : {A : Type 0} → Result (A × List Lexeme) Stop → ℕ
+abbrev pub left_of : {A : Type 0} → Result (A × List Lexeme) ParseStop → ℕ
 left_of (Ok x) = length x.1
 left_of (Err f) = tokens_left f
 
@@ -24,20 +24,20 @@ pub record IsForm {A : Type 0} (F : Form A) : Type 0 where
 pub record Reads {A : Type 0} (F : Form A) (r : Reader A) (Stops : List Lexeme → Type 0) : Type 0 where
   pub sound : (ts : List Lexeme) (a : A) (rest : List Lexeme) → r ts ≡ Ok (a, rest) → F.spells a ts rest
   pub complete : (a : A) (ts rest : List Lexeme) → F.spells a ts rest → Stops rest → r ts ≡ Ok (a, rest)
-  pub faults : (ts : List Lexeme) (f : Stop) → r ts ≡ Err f → (rest : List Lexeme) × (length rest ≡ tokens_left f) × F.front ts rest
+  pub faults : (ts : List Lexeme) (f : ParseStop) → r ts ≡ Err f → (rest : List Lexeme) × (length rest ≡ tokens_left f) × F.front ts rest
   pub reaches : (ts more : List Lexeme) → F.front ts more → left_of (r ts) ≤ length more
 
 -- ---- results
 
-pub bind_ok : {A B : Type 0} (r : Result A Stop) (f : A → Result B Stop) (y : B) → (r >>= f) ≡ Ok y → (x : A) × (r ≡ Ok x) × (f x ≡ Ok y)
+pub bind_ok : {A B : Type 0} (r : Result A ParseStop) (f : A → Result B ParseStop) (y : B) → (r >>= f) ≡ Ok y → (x : A) × (r ≡ Ok x) × (f x ≡ Ok y)
 bind_ok (Ok x) f y e = (x, refl, e)
 bind_ok (Err d) f y e = absurd cc
 
-pub bind_err : {A B : Type 0} (r : Result A Stop) (f : A → Result B Stop) (d : Stop) → (r >>= f) ≡ Err d → (r ≡ Err d) ⊎ ((x : A) × (r ≡ Ok x) × (f x ≡ Err d))
+pub bind_err : {A B : Type 0} (r : Result A ParseStop) (f : A → Result B ParseStop) (d : ParseStop) → (r >>= f) ≡ Err d → (r ≡ Err d) ⊎ ((x : A) × (r ≡ Ok x) × (f x ≡ Err d))
 bind_err (Ok x) f d e = inr (x, refl, e)
 bind_err (Err d') f d e = inl cc
 
-pub cases_result : {A : Type 0} (r : Result A Stop) → ((x : A) × (r ≡ Ok x)) ⊎ ((d : Stop) × (r ≡ Err d))
+pub cases_result : {A : Type 0} (r : Result A ParseStop) → ((x : A) × (r ≡ Ok x)) ⊎ ((d : ParseStop) × (r ≡ Err d))
 cases_result (Ok x) = inl (x, refl)
 cases_result (Err d) = inr (d, refl)
 
@@ -81,7 +81,7 @@ module _ {A B : Type 0} (F : Form A) (G : A → Form B) (r : Reader A) (s : A �
     (isF : IsForm F) (isG : (a : A) → IsForm (G a)) (fr : Reads F r StopsF) (gr : (a : A) → Reads (G a) (s a) StopsG)
     (follows : (a : A) (b : B) (ts rest : List Lexeme) → (G a).spells b ts rest → StopsG rest → StopsF ts)
     (goes_on : (a : A) (ts more : List Lexeme) → (G a).front ts more → (more ≡ ts) ⊎ StopsF ts) where
-  bind_left : (more : List Lexeme) (x : Result (A × List Lexeme) Stop) → left_of x ≤ length more → left_of (x >>= λ y. s y.0 y.1) ≤ length more
+  bind_left : (more : List Lexeme) (x : Result (A × List Lexeme) ParseStop) → left_of x ≤ length more → left_of (x >>= λ y. s y.0 y.1) ≤ length more
   bind_left more (Ok y) le = omega (arith, at_most (G y.0) (s y.0) StopsG (isG y.0) (gr y.0) y.1)
   bind_left more (Err d) le = le
 
@@ -90,10 +90,10 @@ module _ {A B : Type 0} (F : Form A) (G : A → Form B) (r : Reader A) (s : A �
   bind_reaches ts more (inr (a, mid, p, q)) =
       elim (goes_on a mid more q) [
         | inl same ↦ bind_left more (r ts) (fr.reaches ts more (subst (F.front ts) (sym same) (isF.whole a ts mid p)))
-        | inr stops ↦ subst (λ (x : Result (A × List Lexeme) Stop). left_of (x >>= λ y. s y.0 y.1) ≤ length more) (sym (fr.complete a ts mid p stops)) ((gr a).reaches mid more q)
+        | inr stops ↦ subst (λ (x : Result (A × List Lexeme) ParseStop). left_of (x >>= λ y. s y.0 y.1) ≤ length more) (sym (fr.complete a ts mid p stops)) ((gr a).reaches mid more q)
       ]
 
-  bind_faults : (ts : List Lexeme) (f : Stop) → bind_at r s ts ≡ Err f → (rest : List Lexeme) × (length rest ≡ tokens_left f) × (F then G).front ts rest
+  bind_faults : (ts : List Lexeme) (f : ParseStop) → bind_at r s ts ≡ Err f → (rest : List Lexeme) × (length rest ≡ tokens_left f) × (F then G).front ts rest
   bind_faults ts f e =
       elim (bind_err (r ts) (λ x. s x.0 x.1) f e) [
         | inl e1 ↦ let h = fr.faults ts f e1 in (h.0, h.1, inl h.2)
@@ -107,7 +107,7 @@ module _ {A B : Type 0} (F : Form A) (G : A → Form B) (r : Reader A) (s : A �
         (w.0.0, w.0.1, fr.sound ts w.0.0 w.0.1 w.1, (gr w.0.0).sound w.0.1 b rest w.2);
     complete = λ b ts rest h st.
         let e1 = fr.complete h.0 ts h.1 h.2 (follows h.0 b h.1 rest h.3 st) in
-        subst (λ (x : Result (A × List Lexeme) Stop). (x >>= λ y. s y.0 y.1) ≡ Ok (b, rest)) (sym e1) ((gr h.0).complete b h.1 rest h.3 st);
+        subst (λ (x : Result (A × List Lexeme) ParseStop). (x >>= λ y. s y.0 y.1) ≡ Ok (b, rest)) (sym e1) ((gr h.0).complete b h.1 rest h.3 st);
     faults = bind_faults;
     reaches = bind_reaches;
   }
@@ -149,29 +149,29 @@ module _ {A : Type 0} (F G : Form A) (r s : Reader A) (first : List Lexeme → B
       | inr t ↦ let h = gr.faults ts f (sym (or_no ts t) ∙ e) in (h.0, h.1, inr h.2)
     ];
     reaches = λ ts more h. elim (cases_bool (first ts)) [
-      | inl t ↦ subst (λ (x : Result (A × List Lexeme) Stop). left_of x ≤ length more) (sym (or_yes ts t)) (fr.reaches ts more (elim h [ inl p ↦ p | inr q ↦ yes_front ts more t q ]))
-      | inr t ↦ subst (λ (x : Result (A × List Lexeme) Stop). left_of x ≤ length more) (sym (or_no ts t)) (gr.reaches ts more (elim h [ inl p ↦ no_front ts more t p | inr q ↦ q ]))
+      | inl t ↦ subst (λ (x : Result (A × List Lexeme) ParseStop). left_of x ≤ length more) (sym (or_yes ts t)) (fr.reaches ts more (elim h [ inl p ↦ p | inr q ↦ yes_front ts more t q ]))
+      | inr t ↦ subst (λ (x : Result (A × List Lexeme) ParseStop). left_of x ≤ length more) (sym (or_no ts t)) (gr.reaches ts more (elim h [ inl p ↦ no_front ts more t p | inr q ↦ q ]))
     ];
   }
 
 -- ---- one token
 
-pub IsForm-token : (k : Kind) → IsForm (token k)
+pub IsForm-token : (k : TokenKind) → IsForm (token k)
 IsForm-token k = record { nothing = λ ts. inl refl; whole = λ t ts rest h. inr (t, h.0, h.1) }
 
-token_yes : (k : Kind) (u : Lexeme) (us : List Lexeme) → is u.kind k ≡ true → token_at k (u ∷ us) ≡ Ok (u, us)
+token_yes : (k : TokenKind) (u : Lexeme) (us : List Lexeme) → is u.kind k ≡ true → token_at k (u ∷ us) ≡ Ok (u, us)
 unfolding token_at
 token_yes k u us e = rw e
 
-token_no : (k : Kind) (u : Lexeme) (us : List Lexeme) → is u.kind k ≡ false → token_at k (u ∷ us) ≡ Err (Unexpected (length us + 1))
+token_no : (k : TokenKind) (u : Lexeme) (us : List Lexeme) → is u.kind k ≡ false → token_at k (u ∷ us) ≡ Err (Unexpected (length us + 1))
 unfolding token_at
 token_no k u us e = rw e
 
-token_none : (k : Kind) → token_at k [] ≡ Err (Unexpected 0)
+token_none : (k : TokenKind) → token_at k [] ≡ Err (Unexpected 0)
 unfolding token_at
 token_none k = refl
 
-token_sound : (k : Kind) (ts : List Lexeme) (t : Lexeme) (rest : List Lexeme) → token_at k ts ≡ Ok (t, rest) → (token k).spells t ts rest
+token_sound : (k : TokenKind) (ts : List Lexeme) (t : Lexeme) (rest : List Lexeme) → token_at k ts ≡ Ok (t, rest) → (token k).spells t ts rest
 token_sound k [] t rest e = let n = token_none k in absurd cc
 token_sound k (u ∷ us) t rest e = elim (cases_bool (is u.kind k)) [
   | inl y ↦ let yes = token_yes k u us y in let e' : ◌≡◌ {A = Lexeme × List Lexeme} (u, us) (t, rest) = cc in
@@ -179,24 +179,24 @@ token_sound k (u ∷ us) t rest e = elim (cases_bool (is u.kind k)) [
   | inr n ↦ let no = token_no k u us n in absurd cc
 ]
 
-token_complete : (k : Kind) (t : Lexeme) (ts rest : List Lexeme) → (token k).spells t ts rest → token_at k ts ≡ Ok (t, rest)
+token_complete : (k : TokenKind) (t : Lexeme) (ts rest : List Lexeme) → (token k).spells t ts rest → token_at k ts ≡ Ok (t, rest)
 token_complete k t ts rest h = rw h.0 (token_yes k t rest (eq-is t.kind k h.1))
 
-token_faults : (k : Kind) (ts : List Lexeme) (f : Stop) → token_at k ts ≡ Err f → (rest : List Lexeme) × (length rest ≡ tokens_left f) × (token k).front ts rest
+token_faults : (k : TokenKind) (ts : List Lexeme) (f : ParseStop) → token_at k ts ≡ Err f → (rest : List Lexeme) × (length rest ≡ tokens_left f) × (token k).front ts rest
 token_faults k [] f e = ([], ap left_of (sym (token_none k) ∙ e), inl refl)
 token_faults k (u ∷ us) f e = elim (cases_bool (is u.kind k)) [
   | inl y ↦ let yes = token_yes k u us y in absurd cc
   | inr n ↦ (u ∷ us, omega (arith, ap left_of (sym (token_no k u us n) ∙ e)), inl refl)
 ]
 
-token_at_most : (k : Kind) (ts : List Lexeme) → left_of (token_at k ts) ≤ length ts
+token_at_most : (k : TokenKind) (ts : List Lexeme) → left_of (token_at k ts) ≤ length ts
 token_at_most k [] = rw token_none (omega arith)
 token_at_most k (u ∷ us) = elim (cases_bool (is u.kind k)) [
   | inl y ↦ omega (arith, ap left_of (token_yes k u us y))
   | inr n ↦ omega (arith, ap left_of (token_no k u us n))
 ]
 
-pub reads-token : (k : Kind) → Reads (token k) (token_at k) (λ ts. Unit {0})
+pub reads-token : (k : TokenKind) → Reads (token k) (token_at k) (λ ts. Unit {0})
 reads-token k = record {
   sound = token_sound k;
   complete = λ t ts rest h st. token_complete k t ts rest h;
@@ -229,7 +229,7 @@ module _ {A : Type 0} (F : Form A) (r : Reader A) (next : List Lexeme → Bool) 
   many_no zero ts e = refl
   many_no (suc k) ts e = rw e
 
-  many_ended : (ts : List Lexeme) (xs : List A) (rest : List Lexeme) → ◌≡◌ {A = Result (List A × List Lexeme) Stop} (Ok ([], ts)) (Ok (xs, rest)) → Repeats F xs ts rest
+  many_ended : (ts : List Lexeme) (xs : List A) (rest : List Lexeme) → ◌≡◌ {A = Result (List A × List Lexeme) ParseStop} (Ok ([], ts)) (Ok (xs, rest)) → Repeats F xs ts rest
   many_ended ts xs rest e = let e' : ◌≡◌ {A = List A × List Lexeme} ([], ts) (xs, rest) = cc in subst (λ (p : List A × List Lexeme). Repeats F p.0 ts p.1) e' refl
 
   many_sound : (k : ℕ) (ts : List Lexeme) (xs : List A) (rest : List Lexeme) → many_at next r k ts ≡ Ok (xs, rest) → Repeats F xs ts rest
@@ -256,26 +256,26 @@ module _ {A : Type 0} (F : Form A) (r : Reader A) (next : List Lexeme → Bool) 
       let e2 = many_complete xs k h.0 rest (omega (arith, takes x ts h.0 h.1)) h.2 st in
       many_yes k ts (begin x ts h.0 h.1) ∙ rw (e1, e2) refl
 
-  many_left : (x : A) (z : Result (List A × List Lexeme) Stop) → left_of (z >>= λ y. Ok (x ∷ y.0, y.1)) ≡ left_of z
+  many_left : (x : A) (z : Result (List A × List Lexeme) ParseStop) → left_of (z >>= λ y. Ok (x ∷ y.0, y.1)) ≡ left_of z
   many_left x (Ok y) = refl
   many_left x (Err d) = refl
 
   -- what is left once the first has been read
-  then_left : (k : ℕ) (more : List Lexeme) → ((ts : List Lexeme) → left_of (many_at next r k ts) ≤ length ts) → (x : Result (A × List Lexeme) Stop) → left_of x ≤ length more → left_of (x >>= λ y. many_at next r k y.1 >>= λ z. Ok (y.0 ∷ z.0, z.1)) ≤ length more
+  then_left : (k : ℕ) (more : List Lexeme) → ((ts : List Lexeme) → left_of (many_at next r k ts) ≤ length ts) → (x : Result (A × List Lexeme) ParseStop) → left_of x ≤ length more → left_of (x >>= λ y. many_at next r k y.1 >>= λ z. Ok (y.0 ∷ z.0, z.1)) ≤ length more
   then_left k more at_most_k (Ok y) le = omega (arith, many_left y.0 (many_at next r k y.1), at_most_k y.1)
   then_left k more at_most_k (Err d) le = le
 
   many_at_most : (k : ℕ) (ts : List Lexeme) → left_of (many_at next r k ts) ≤ length ts
   many_at_most zero ts = omega arith
   many_at_most (suc k) ts = elim (cases_bool (next ts)) [
-    | inl t ↦ subst (λ (x : Result (List A × List Lexeme) Stop). left_of x ≤ length ts) (sym (many_yes k ts t)) (then_left k ts (many_at_most k) (r ts) (at_most F r Stops isF fr ts))
+    | inl t ↦ subst (λ (x : Result (List A × List Lexeme) ParseStop). left_of x ≤ length ts) (sym (many_yes k ts t)) (then_left k ts (many_at_most k) (r ts) (at_most F r Stops isF fr ts))
     | inr f ↦ omega (arith, ap left_of (many_no (suc k) ts f))
   ]
 
   first_reaches : (k : ℕ) (ts more : List Lexeme) → length ts ≤ k → F.front ts more → left_of (many_at next r k ts) ≤ length more
   first_reaches zero ts more le h = omega arith
   first_reaches (suc k) ts more le h = elim (cases_bool (next ts)) [
-    | inl t ↦ subst (λ (x : Result (List A × List Lexeme) Stop). left_of x ≤ length more) (sym (many_yes k ts t)) (then_left k more (many_at_most k) (r ts) (fr.reaches ts more h))
+    | inl t ↦ subst (λ (x : Result (List A × List Lexeme) ParseStop). left_of x ≤ length more) (sym (many_yes k ts t)) (then_left k more (many_at_most k) (r ts) (fr.reaches ts more h))
     | inr f ↦ omega (arith, ap left_of (many_no (suc k) ts f), ap length (begin_front ts more h f))
   ]
 
@@ -296,7 +296,7 @@ module _ {A : Type 0} (F : Form A) (r : Reader A) (next : List Lexeme → Bool) 
     | inr f ↦ first_reaches (suc k) ts more le (last_front xs x ts q.0 last more q.1 q.2 h f)
   ]
 
-  many_faults : (k : ℕ) (ts : List Lexeme) (f : Stop) → many_at next r k ts ≡ Err f → (rest : List Lexeme) × (length rest ≡ tokens_left f) × (many F).front ts rest
+  many_faults : (k : ℕ) (ts : List Lexeme) (f : ParseStop) → many_at next r k ts ≡ Err f → (rest : List Lexeme) × (length rest ≡ tokens_left f) × (many F).front ts rest
   many_faults zero ts f e = absurd cc
   many_faults (suc k) ts f e = elim (cases_bool (next ts)) [
     | inl t ↦ elim (bind_err (r ts) (λ x. many_at next r k x.1 >>= λ y. Ok (x.0 ∷ y.0, y.1)) f (sym (many_yes k ts t) ∙ e)) [

@@ -4,8 +4,8 @@ use Rattle.syntax.specs.Form.{Form, token, give, ◌>>=◌, ◌or◌}
 use Rattle.syntax.specs.lexer.Kinds.{is}
 use Rattle.syntax.specs.lexer.Lexeme.{Lexeme}
 use Rattle.syntax.specs.Reading.{Reader, begins, head_is, or_at, token_at}
-use Rattle.syntax.specs.declared.stop.Stop.TheVariants.{Unexpected, TooDeep}
-use Rattle.syntax.specs.declared.lexer.token.Kind.{Kind}
+use Rattle.syntax.specs.declared.stop.ParseStop.TheVariants.{Unexpected, TooDeep}
+use Rattle.syntax.specs.declared.lexer.token.TokenKind.{TokenKind}
 use Rattle.syntax.proofs.Ends.{Ends, ends-bind, ends-give, ends-or, ends-token}
 use Rattle.syntax.proofs.Laws.{bind_at, cases_bool, give_at, IsForm, IsForm-bind, IsForm-give, IsForm-or, IsForm-token, reads-bind}
 use Rattle.syntax.proofs.Laws.{reads-give, reads-or, reads-stops, reads-token, Reads}
@@ -24,7 +24,7 @@ pub record Line {A : Type 0} (F F' : Form A) (r r' : Reader A) (Stops : List Lex
 abbrev pub Any : List Lexeme → Type 0
 Any ts = Unit {0}
 
-token_flat : (k : Kind) (ts : List Lexeme) (left : ℕ) → token_at k ts ≡ Err (TooDeep left) → ⊥
+token_flat : (k : TokenKind) (ts : List Lexeme) (left : ℕ) → token_at k ts ≡ Err (TooDeep left) → ⊥
 unfolding token_at
 token_flat k [] left e = cc
 token_flat k (t ∷ ts) left e = elim (cases_bool (is t.kind k)) [
@@ -32,19 +32,19 @@ token_flat k (t ∷ ts) left e = elim (cases_bool (is t.kind k)) [
   | inr n ↦ let no = token_no k t ts n in cc
 ]
   where
-    token_yes : (k : Kind) (u : Lexeme) (us : List Lexeme) → is u.kind k ≡ true → token_at k (u ∷ us) ≡ Ok (u, us)
+    token_yes : (k : TokenKind) (u : Lexeme) (us : List Lexeme) → is u.kind k ≡ true → token_at k (u ∷ us) ≡ Ok (u, us)
     token_yes k u us e = rw e
 
-    token_no : (k : Kind) (u : Lexeme) (us : List Lexeme) → is u.kind k ≡ false → token_at k (u ∷ us) ≡ Err (Unexpected (length us + 1))
+    token_no : (k : TokenKind) (u : Lexeme) (us : List Lexeme) → is u.kind k ≡ false → token_at k (u ∷ us) ≡ Err (Unexpected (length us + 1))
     token_no k u us e = rw e
 
-pub raises-token : (k : Kind) → Raises (token k) (token k) (token_at k) (token_at k)
+pub raises-token : (k : TokenKind) → Raises (token k) (token k) (token_at k) (token_at k)
 raises-token k = raises-flat (token k) (token_at k) (token_flat k)
 
 pub raises-give : {A : Type 0} (a : A) → Raises (give a) (give a) (give_at a) (give_at a)
 raises-give a = raises-flat (give a) (give_at a) (λ ts left e. absurd cc)
 
-pub line-token : (k : Kind) → Line (token k) (token k) (token_at k) (token_at k) Any 1
+pub line-token : (k : TokenKind) → Line (token k) (token k) (token_at k) (token_at k) Any 1
 line-token k = record { form = IsForm-token k; reads = reads-token k; raises = raises-token k; ends = ends-token k; takes = takes-token k }
 
 pub line-give : {A : Type 0} (a : A) (Stops : List Lexeme → Type 0) → Line (give a) (give a) (give_at a) (give_at a) Stops 0
@@ -75,7 +75,7 @@ line-then F F' G G' r r' s s' StopsG i j f g = line-bind F F' G G' r r' s s' Any
 -- ---- one of two
 
 -- two forms, of which the first begins with one kind, and the second with none such
-pub line-choice : {A : Type 0} (k : Kind) (q : Kind → Bool) (F F' G G' : Form A) (r r' s s' : Reader A) (Stops : List Lexeme → Type 0) (i : ℕ)
+pub line-choice : {A : Type 0} (k : TokenKind) (q : TokenKind → Bool) (F F' G G' : Form A) (r r' s s' : Reader A) (Stops : List Lexeme → Type 0) (i : ℕ)
     → Starts F (λ l. is l k) → Starts G q → q k ≡ false → Line F F' r r' Stops i → Line G G' s s' Stops i → Line (F or G) (F' or G') (or_at (begins k) r s) (or_at (begins k) r' s') Stops i
 line-choice k q F F' G G' r r' s s' Stops i sf sg apart f g = record {
   form = IsForm-or F G f.form g.form;
@@ -101,10 +101,10 @@ line-choice k q F F' G G' r r' s s' Stops i sf sg apart f g = record {
 
 -- ---- behind a token
 
-pub begins_token : {B : Type 0} (k : Kind) (G : Lexeme → Form B) (b : B) (ts rest : List Lexeme) → (token k >>= G).spells b ts rest → begins k ts ≡ true
+pub begins_token : {B : Type 0} (k : TokenKind) (G : Lexeme → Form B) (b : B) (ts rest : List Lexeme) → (token k >>= G).spells b ts rest → begins k ts ≡ true
 begins_token k G b ts rest h = rw h.2.0 (eq-is h.0.kind k h.2.1)
 
-pub begun_token : {B : Type 0} (k : Kind) (G : Lexeme → Form B) (ts more : List Lexeme) → (token k >>= G).front ts more → (more ≡ ts) ⊎ (begins k ts ≡ true)
+pub begun_token : {B : Type 0} (k : TokenKind) (G : Lexeme → Form B) (ts more : List Lexeme) → (token k >>= G).front ts more → (more ≡ ts) ⊎ (begins k ts ≡ true)
 begun_token k G ts more (inl (inl same)) = inl (sym same)
 begun_token k G ts more (inl (inr (t, e, l))) = inr (rw e (eq-is t.kind k l))
 begun_token k G ts more (inr (t, m, h, f)) = inr (rw h.0 (eq-is t.kind k h.1))

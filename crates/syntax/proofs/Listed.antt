@@ -2,8 +2,8 @@
 use Rattle.std.proofs.Common.{◌≡◌, ℕ, zero, suc, ◌+◌, ◌≤◌, ◌<◌, Bool, true, false, List, [], ◌∷◌, length, Result, Ok, Err, refl, sym, ap}
 use Rattle.std.proofs.Common.{subst, ◌∙◌, ◌⊎◌, inl, inr, arith, Option, Some, None}
 use Rattle.syntax.specs.lexer.Lexeme.{Lexeme}
-use Rattle.syntax.specs.declared.lexer.token.Kind.TheVariants as Kinds
-use Rattle.syntax.specs.declared.stop.Stop.{Stop}
+use Rattle.syntax.specs.declared.lexer.token.TokenKind.TheVariants as Kinds
+use Rattle.syntax.specs.declared.stop.ParseStop.{ParseStop}
 use Rattle.syntax.specs.Form.{Form, token, optional, comma_then, Further, further, listed_by, state_after}
 use Rattle.syntax.specs.Reading.{Reader, ◌>>=◌, begins, token_at, tail_at, items_by, tokens_left}
 use Rattle.syntax.proofs.Laws.{Reads, IsForm, bind_ok, bind_err, cases_bool, left_of, reads-token, at_most}
@@ -39,7 +39,7 @@ module _ {S A : Type 0} (F : S → Form A) (r : S → Reader A) (step : S → A 
   abbrev L : S → Form (List A)
   L s = listed_by F step s
 
-  abbrev items_then : ℕ → S → Result (A × List Lexeme) Stop → Result (List A × List Lexeme) Stop
+  abbrev items_then : ℕ → S → Result (A × List Lexeme) ParseStop → Result (List A × List Lexeme) ParseStop
   items_then k s x = x >>= λ a. tail_at (items_by stop r step k (step s a.0)) a.1 >>= λ y. Ok (a.0 ∷ y.0, y.1)
 
   items_stop : (k : ℕ) (s : S) (ts : List Lexeme) → stop ts ≡ true → At k s ts ≡ Ok ([], ts)
@@ -64,7 +64,7 @@ module _ {S A : Type 0} (F : S → Form A) (r : S → Reader A) (step : S → A 
   none_here ts = (None, inr (refl, refl))
 
   -- an end that the reader's list says
-  ended : (xs : List A) (ts rest : List Lexeme) → ◌≡◌ {A = Result (List A × List Lexeme) Stop} (Ok ([], ts)) (Ok (xs, rest)) → (xs ≡ []) × (ts ≡ rest)
+  ended : (xs : List A) (ts rest : List Lexeme) → ◌≡◌ {A = Result (List A × List Lexeme) ParseStop} (Ok ([], ts)) (Ok (xs, rest)) → (xs ≡ []) × (ts ≡ rest)
   ended xs ts rest e = let e' : ◌≡◌ {A = List A × List Lexeme} ([], ts) (xs, rest) = cc in (sym (ap (λ (p : List A × List Lexeme). p.0) e'), ap (λ (p : List A × List Lexeme). p.1) e')
 
   tail_after : (s : S) (xs : List A) (ts rest : List Lexeme) (c : Lexeme) (mid : List Lexeme) → ts ≡ c ∷ mid → c.kind ≡ Kinds.Comma → (L s).spells xs mid rest → Tail s xs ts rest
@@ -81,7 +81,7 @@ module _ {S A : Type 0} (F : S → Form A) (r : S → Reader A) (step : S → A 
         subst (λ (l : List A). Tail s l ts rest) (sym h.0) (subst (λ (l : List Lexeme). Tail s [] ts l) h.1 (ts, refl, none_here ts))
   ]
 
-  ended_listed : (s : S) (xs : List A) (ts rest : List Lexeme) → ◌≡◌ {A = Result (List A × List Lexeme) Stop} (Ok ([], ts)) (Ok (xs, rest)) → (L s).spells xs ts rest
+  ended_listed : (s : S) (xs : List A) (ts rest : List Lexeme) → ◌≡◌ {A = Result (List A × List Lexeme) ParseStop} (Ok ([], ts)) (Ok (xs, rest)) → (L s).spells xs ts rest
   ended_listed s xs ts rest e = inr (ended xs ts rest e)
 
   items_sound : (k : ℕ) (s : S) (ts : List Lexeme) (xs : List A) (rest : List Lexeme) → At k s ts ≡ Ok (xs, rest) → (L s).spells xs ts rest
@@ -130,7 +130,7 @@ module _ {S A : Type 0} (F : S → Form A) (r : S → Reader A) (step : S → A 
 
   -- ---- how far reading comes
 
-  cons_left : (a : A) (z : Result (List A × List Lexeme) Stop) → left_of (z >>= λ y. Ok (a ∷ y.0, y.1)) ≡ left_of z
+  cons_left : (a : A) (z : Result (List A × List Lexeme) ParseStop) → left_of (z >>= λ y. Ok (a ∷ y.0, y.1)) ≡ left_of z
   cons_left a (Ok y) = refl
   cons_left a (Err d) = refl
 
@@ -140,7 +140,7 @@ module _ {S A : Type 0} (F : S → Form A) (r : S → Reader A) (step : S → A 
     | inr b ↦ omega (arith, ap left_of (tail_no (At k s) ts b))
   ]
 
-  items_then_left : (k : ℕ) (s : S) (more : List Lexeme) → ((s : S) (ts : List Lexeme) → left_of (At k s ts) ≤ length ts) → (x : Result (A × List Lexeme) Stop) → left_of x ≤ length more → left_of (items_then k s x) ≤ length more
+  items_then_left : (k : ℕ) (s : S) (more : List Lexeme) → ((s : S) (ts : List Lexeme) → left_of (At k s ts) ≤ length ts) → (x : Result (A × List Lexeme) ParseStop) → left_of x ≤ length more → left_of (items_then k s x) ≤ length more
   items_then_left k s more ih (Ok a) le = omega (arith, cons_left a.0 (tail_at (At k (step s a.0)) a.1), tail_left k (step s a.0) (ih (step s a.0)) a.1)
   items_then_left k s more ih (Err d) le = le
 
@@ -148,14 +148,14 @@ module _ {S A : Type 0} (F : S → Form A) (r : S → Reader A) (step : S → A 
   items_left zero s ts = omega (arith, ap left_of (items_zero s ts))
   items_left (suc k) s ts = elim (cases_bool (stop ts)) [
     | inl b ↦ omega (arith, ap left_of (items_stop (suc k) s ts b))
-    | inr b ↦ subst (λ (x : Result (List A × List Lexeme) Stop). left_of x ≤ length ts) (sym (items_go k s ts b)) (items_then_left k s ts (items_left k) (r s ts) (at_most (F s) (r s) Stops (isF s) (fr s) ts))
+    | inr b ↦ subst (λ (x : Result (List A × List Lexeme) ParseStop). left_of x ≤ length ts) (sym (items_go k s ts b)) (items_then_left k s ts (items_left k) (r s ts) (at_most (F s) (r s) Stops (isF s) (fr s) ts))
   ]
 
   items_first : (k : ℕ) (s : S) (ts more : List Lexeme) → length ts ≤ k → (F s).front ts more → left_of (At k s ts) ≤ length more
   items_first zero s ts more le h = omega (arith, ap left_of (items_zero s ts))
   items_first (suc k) s ts more le h = elim (cases_bool (stop ts)) [
     | inl b ↦ omega (arith, ap left_of (items_stop (suc k) s ts b), ap length (begin_front s ts more h b))
-    | inr b ↦ subst (λ (x : Result (List A × List Lexeme) Stop). left_of x ≤ length more) (sym (items_go k s ts b)) (items_then_left k s more (items_left k) (r s ts) ((fr s).reaches ts more h))
+    | inr b ↦ subst (λ (x : Result (List A × List Lexeme) ParseStop). left_of x ≤ length more) (sym (items_go k s ts b)) (items_then_left k s more (items_left k) (r s ts) ((fr s).reaches ts more h))
   ]
 
   -- a front of what follows an element ends so
@@ -222,20 +222,20 @@ module _ {S A : Type 0} (F : S → Form A) (r : S → Reader A) (step : S → A 
   abbrev FaultFront : S → List Lexeme → List Lexeme → Type 0
   FaultFront s ts rest = (F s).front ts rest ⊎ ((a : A) × (m : List Lexeme) × (F s).spells a ts m × (further F step (step s a)).front m rest)
 
-  abbrev FaultAt : (List Lexeme → List Lexeme → Type 0) → List Lexeme → Stop → Type 0
+  abbrev FaultAt : (List Lexeme → List Lexeme → Type 0) → List Lexeme → ParseStop → Type 0
   FaultAt Front ts f = (rest : List Lexeme) × (length rest ≡ tokens_left f) × Front ts rest
 
   goes_further : (s : S) (ts : List Lexeme) (c : Lexeme) (m rest : List Lexeme) → ts ≡ c ∷ m → c.kind ≡ Kinds.Comma → FaultFront s m rest → (further F step s).front ts rest
   goes_further s ts c m rest e kc (inl h) = ([], ts, refl, inr (c, m, (e, kc), h))
   goes_further s ts c m rest e kc (inr (a, m1, p, (xs, mid, q, h))) = (a ∷ xs, mid, (m1, (c, m, (e, kc), p), q), h)
 
-  tail_faults : (k : ℕ) (s : S) → ((ts : List Lexeme) (f : Stop) → At k s ts ≡ Err f → FaultAt (FaultFront s) ts f) → (ts : List Lexeme) (f : Stop) → tail_at (At k s) ts ≡ Err f → FaultAt (further F step s).front ts f
+  tail_faults : (k : ℕ) (s : S) → ((ts : List Lexeme) (f : ParseStop) → At k s ts ≡ Err f → FaultAt (FaultFront s) ts f) → (ts : List Lexeme) (f : ParseStop) → tail_at (At k s) ts ≡ Err f → FaultAt (further F step s).front ts f
   tail_faults k s ih ts f e = elim (cases_bool (begins Kinds.Comma ts)) [
     | inl b ↦ let w = comma_yes ts b in let h = ih w.1 f (sym (tail_yes (At k s) ts w.0 w.1 b w.4) ∙ e) in (h.0, h.1, goes_further s ts w.0 w.1 h.0 w.2 w.3 h.2)
     | inr b ↦ let x = tail_no (At k s) ts b in absurd cc
   ]
 
-  items_faults : (k : ℕ) (s : S) (ts : List Lexeme) (f : Stop) → At k s ts ≡ Err f → FaultAt (FaultFront s) ts f
+  items_faults : (k : ℕ) (s : S) (ts : List Lexeme) (f : ParseStop) → At k s ts ≡ Err f → FaultAt (FaultFront s) ts f
   items_faults zero s ts f e = let x = items_zero s ts in absurd cc
   items_faults (suc k) s ts f e = elim (cases_bool (stop ts)) [
     | inl b ↦ let x = items_stop (suc k) s ts b in absurd cc

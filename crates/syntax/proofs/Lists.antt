@@ -2,10 +2,10 @@
 use Rattle.std.proofs.Common.{◌≡◌, ℕ, ◌≤◌, zero, suc, ◌+◌, Bool, true, false, List, [], ◌∷◌, length, Result, Ok, Err, refl, sym, ap, subst}
 use Rattle.std.proofs.Common.{◌∙◌, ◌⊎◌, inl, inr, arith, Some, None}
 use Rattle.syntax.specs.lexer.Lexeme.{Lexeme}
-use Rattle.syntax.specs.declared.lexer.token.Kind.{Kind}
-use Rattle.syntax.specs.declared.lexer.token.Kind.TheVariants as Kinds
-use Rattle.syntax.specs.declared.stop.Stop.{Stop}
-use Rattle.syntax.specs.declared.stop.Stop.TheVariants.{TooDeep}
+use Rattle.syntax.specs.declared.lexer.token.TokenKind.{TokenKind}
+use Rattle.syntax.specs.declared.lexer.token.TokenKind.TheVariants as Kinds
+use Rattle.syntax.specs.declared.stop.ParseStop.{ParseStop}
+use Rattle.syntax.specs.declared.stop.ParseStop.TheVariants.{TooDeep}
 use Rattle.syntax.specs.Form.{Form, token, give, optional, comma_then, Further, further, some_listed_by, listed_by, state_after}
 use Rattle.syntax.specs.Form.{◌>>=◌ as ◌then◌}
 use Rattle.syntax.specs.lexer.Kinds.{is}
@@ -55,7 +55,7 @@ module _ {S A : Type 0} (F F' : S → Form A) (r r' : S → Reader A) (step : S 
   abbrev At : (S → Reader A) → ℕ → S → Reader (List A)
   At q k s = items_by stop q step k s
 
-  abbrev items_then : (S → Reader A) → ℕ → S → Result (A × List Lexeme) Stop → Result (List A × List Lexeme) Stop
+  abbrev items_then : (S → Reader A) → ℕ → S → Result (A × List Lexeme) ParseStop → Result (List A × List Lexeme) ParseStop
   items_then q k s x = x >>= λ a. tail_at (At q k (step s a.0)) a.1 >>= λ y. Ok (a.0 ∷ y.0, y.1)
 
   tail_yes : (items : Reader (List A)) (ts : List Lexeme) (c : Lexeme) (rest : List Lexeme) → begins Kinds.Comma ts ≡ true → token_at Kinds.Comma ts ≡ Ok (c, rest) → tail_at items ts ≡ items rest
@@ -127,11 +127,11 @@ module _ {S A : Type 0} (F F' : S → Form A) (r r' : S → Reader A) (step : S 
     | inr b ↦ inr (tail_no (At r k s) ts b ∙ sym (tail_no (At r' k s) ts b))
   ]
 
-  after_same : (k : ℕ) (s : S) → ((s : S) (ts : List Lexeme) → TooDeepAt (At r k s ts) ⊎ (At r k s ts ≡ At r' k s ts)) → (x : Result (A × List Lexeme) Stop)
+  after_same : (k : ℕ) (s : S) → ((s : S) (ts : List Lexeme) → TooDeepAt (At r k s ts) ⊎ (At r k s ts ≡ At r' k s ts)) → (x : Result (A × List Lexeme) ParseStop)
       → TooDeepAt (items_then r k s x) ⊎ (items_then r k s x ≡ items_then r' k s x)
   after_same k s ih (Ok y) = elim (tail_same k (step s y.0) (ih (step s y.0)) y.1) [
     | inl d ↦ inl (d.0, rw d.1 refl)
-    | inr e ↦ inr (ap (λ (x : Result (List A × List Lexeme) Stop). x >>= λ z. Ok (y.0 ∷ z.0, z.1)) e)
+    | inr e ↦ inr (ap (λ (x : Result (List A × List Lexeme) ParseStop). x >>= λ z. Ok (y.0 ∷ z.0, z.1)) e)
   ]
   after_same k s ih (Err d) = inr refl
 
@@ -223,7 +223,7 @@ module _ {S A : Type 0} (F : S → Form A) (step : S → A → S) where
       (takes-give [])
 
 -- the list stops at this kind, with which no element begins
-pub line-listed : {S A : Type 0} (k : Kind) (q : Kind → Bool) (F F' : S → Form A) (r r' : S → Reader A) (step : S → A → S) (Stops : List Lexeme → Type 0) → q k ≡ false → is k Kinds.Comma ≡ false → ((s : S) → Starts (F s) q)
+pub line-listed : {S A : Type 0} (k : TokenKind) (q : TokenKind → Bool) (F F' : S → Form A) (r r' : S → Reader A) (step : S → A → S) (Stops : List Lexeme → Type 0) → q k ≡ false → is k Kinds.Comma ≡ false → ((s : S) → Starts (F s) q)
     → ((ts : List Lexeme) → begins Kinds.Comma ts ≡ true → Stops ts) → ((ts : List Lexeme) → begins k ts ≡ true → Stops ts) → ((s : S) → Line (F s) (F' s) (r s) (r' s) Stops 1)
     → (s : S) → Line (listed_by F step s) (listed_by F' step s) (listed_at k r step s) (listed_at k r' step s) (λ ts. begins k ts ≡ true) 0
 unfolding listed_at
@@ -250,4 +250,4 @@ line-listed {S} {A} k q F F' r r' step Stops apart comma starts at_comma at_end 
 
     not_comma : (ts : List Lexeme) → begins k ts ≡ true → begins Kinds.Comma ts ≡ false
     not_comma [] b = refl
-    not_comma (t ∷ ts) b = subst (λ (l : Kind). is l Kinds.Comma ≡ false) (sym (is-true t.kind k b)) comma
+    not_comma (t ∷ ts) b = subst (λ (l : TokenKind). is l Kinds.Comma ≡ false) (sym (is-true t.kind k b)) comma

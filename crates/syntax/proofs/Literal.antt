@@ -2,13 +2,13 @@
 use Rattle.std.proofs.Common.{◌≡◌, ℕ, suc, false, List, [], ◌∷◌, ◌++◌, refl, sym, ap, subst, ◌∙◌, inl, inr, Option, Ok, Err, ◌-◌, ◌≤◌}
 use Rattle.std.proofs.Common.{length}
 use Rattle.syntax.specs.lexer.Lexeme.{Lexeme}
-use Rattle.syntax.specs.declared.lexer.token.Kind.TheVariants as Kinds
-use Rattle.syntax.specs.declared.stop.Stop.{Stop}
-use Rattle.syntax.specs.declared.stop.Stop.TheVariants.{Unexpected, TooDeep}
+use Rattle.syntax.specs.declared.lexer.token.TokenKind.TheVariants as Kinds
+use Rattle.syntax.specs.declared.stop.ParseStop.{ParseStop}
+use Rattle.syntax.specs.declared.stop.ParseStop.TheVariants.{Unexpected, TooDeep}
 use Rattle.syntax.specs.Tree.{StatementTree, FileTree}
 use Rattle.syntax.specs.Form.{Form, token, Repeats}
 use Rattle.syntax.specs.Grammar.{file}
-use Rattle.syntax.specs.Statements.{given, stmt, line as ended_line}
+use Rattle.syntax.specs.Statements.{statements_of_lines, stmt, line as ended_line}
 use Rattle.syntax.specs.Outcome.{BeginsBy, IsUnexpected, IsTooDeep}
 use Rattle.syntax.specs.Reading.{all_of, tokens_left}
 use Rattle.syntax.specs.ReadingStatements.{file_at}
@@ -63,12 +63,12 @@ to_ended n (o ∷ os) first ts mid rest p (m1, (t, m2, nl, q), h) =
 file_lines : (n : ℕ) (f : FileTree) (ts rest : List Lexeme) → (file n).spells f ts rest → (lines n).spells f ts rest
 file_lines n f ts rest (ls, mid, h, (last, m1, q, same)) =
     let w = to_begun n ls last ts mid m1 h q in
-    (w.0, w.3.0, w.3.1, (w.1, m1, w.3.2, (same.0 ∙ ap given w.2, same.1)))
+    (w.0, w.3.0, w.3.1, (w.1, m1, w.3.2, (same.0 ∙ ap statements_of_lines w.2, same.1)))
 
 lines_file : (n : ℕ) (f : FileTree) (ts rest : List Lexeme) → (lines n).spells f ts rest → (file n).spells f ts rest
 lines_file n f ts rest (first, mid, p, (os, m1, h, same)) =
     let w = to_ended n os first ts mid m1 p h in
-    (w.0, w.3.0, w.3.1, (w.1, m1, w.3.2, (same.0 ∙ ap given w.2, same.1)))
+    (w.0, w.3.0, w.3.1, (w.1, m1, w.3.2, (same.0 ∙ ap statements_of_lines w.2, same.1)))
 
 -- ---- fronts
 
@@ -178,7 +178,7 @@ pub file_too_deep : (n : ℕ) (ts : List Lexeme) (left : ℕ) → all_of (file_a
 file_too_deep = whole.all_too_deep file file_at AfterLines (λ n. (line-file n).form) (λ n. (line-file n).reads)
     (λ n. (line-file n).raises) (λ n. (line-file n).ends) at_end
 
-pub file_left : (n : ℕ) (ts : List Lexeme) (f : Stop) → all_of (file_at n) ts ≡ Err f → tokens_left f ≤ length ts
+pub file_left : (n : ℕ) (ts : List Lexeme) (f : ParseStop) → all_of (file_at n) ts ≡ Err f → tokens_left f ≤ length ts
 file_left = whole.all_left_le file file_at AfterLines (λ n. (line-file n).form) (λ n. (line-file n).reads) (λ n. (line-file n).raises)
     (λ n. (line-file n).ends) at_end
 

@@ -5,11 +5,11 @@ use Rattle.std.proofs.lemmas.List.{append-nil}
 use Rattle.syntax.specs.lexer.Kinds.{is}
 use Rattle.syntax.specs.lexer.Lexeme.{Lexeme, lexeme_of, lexemes}
 use Rattle.syntax.specs.declared.lexer.token.Token.{Token}
-use Rattle.syntax.specs.declared.stop.Stop.{Stop}
+use Rattle.syntax.specs.declared.stop.ParseStop.{ParseStop}
 use Rattle.syntax.specs.declared.stop.ReadError.{ReadError}
 use Rattle.syntax.specs.declared.stop.ReadError.TheVariants as errors
-use Rattle.syntax.specs.declared.lexer.token.Kind.{Kind}
-use Rattle.syntax.specs.declared.lexer.token.Kind.TheVariants as Kinds
+use Rattle.syntax.specs.declared.lexer.token.TokenKind.{TokenKind}
+use Rattle.syntax.specs.declared.lexer.token.TokenKind.TheVariants as Kinds
 use Rattle.syntax.specs.Reading.{Reader, ◌>>=◌, Fails, begins, head_is, items_by, listed_at, many_at, more_at, tail_at, token_at}
 use Rattle.syntax.proofs.Gathered as gathered
 use Rattle.syntax.proofs.Gathered.{all, head_long, one_regroup, with_one}
@@ -17,48 +17,48 @@ use Rattle.syntax.proofs.Laws.{cases_bool}
 use Rattle.syntax.proofs.Tails.{rest_is}
 
 -- what was read before, and what is still read
-abbrev pub with_front : {A : Type 0} → List A → Result (List A × List Lexeme) Stop → Result (List A × List Lexeme) Stop
+abbrev pub with_front : {A : Type 0} → List A → Result (List A × List Lexeme) ParseStop → Result (List A × List Lexeme) ParseStop
 with_front front read = read >>= λ x. Ok (front ++ x.0, x.1)
 
-nothing_before : {A : Type 0} (read : Result (List A × List Lexeme) Stop) → with_front [] read ≡ read
+nothing_before : {A : Type 0} (read : Result (List A × List Lexeme) ParseStop) → with_front [] read ≡ read
 nothing_before (Ok x) = refl
 nothing_before (Err f) = refl
 
-regroup : {A : Type 0} (front : List A) (a : A) (read : Result (List A × List Lexeme) Stop) → with_front front (read >>= λ x. Ok (a ∷ x.0, x.1)) ≡ with_front (front ++ a ∷ []) read
+regroup : {A : Type 0} (front : List A) (a : A) (read : Result (List A × List Lexeme) ParseStop) → with_front front (read >>= λ x. Ok (a ∷ x.0, x.1)) ≡ with_front (front ++ a ∷ []) read
 regroup {A} front a (Ok x) = ap (λ (ns : List A). Ok (ns, x.1)) (simp append_assoc)
 regroup front a (Err f) = refl
 
 -- ---- values that are read while the first token is of these kinds
 
-module _ {A : Type 0} (p : Kind → Bool) (r : Reader A) where
-  abbrev pub StillReads : List A → List Lexeme → Result (List A × List Lexeme) Stop → Type 0
+module _ {A : Type 0} (p : TokenKind → Bool) (r : Reader A) where
+  abbrev pub StillReads : List A → List Lexeme → Result (List A × List Lexeme) ParseStop → Type 0
   StillReads = gathered.StillReads (head_is p) r all with_one append-nil one_regroup (head_long p)
 
   pub still_first : (ts : List Lexeme) → StillReads [] ts (many_at (head_is p) r (length ts) ts)
   still_first ts = (length ts, omega arith, nothing_before (many_at (head_is p) r (length ts) ts))
 
-  pub still_more : (before : List A) (ts : List Lexeme) (total : Result (List A × List Lexeme) Stop) (a : A) (rest : List Lexeme)
+  pub still_more : (before : List A) (ts : List Lexeme) (total : Result (List A × List Lexeme) ParseStop) (a : A) (rest : List Lexeme)
       → StillReads before ts total → head_is p ts ≡ true → r ts ≡ Ok (a, rest) → length rest < length ts → StillReads (before ++ a ∷ []) rest total
   still_more = gathered.still_more (head_is p) r all with_one append-nil one_regroup (head_long p)
 
-  pub still_fails : (before : List A) (ts : List Lexeme) (total : Result (List A × List Lexeme) Stop) (d : ReadError)
+  pub still_fails : (before : List A) (ts : List Lexeme) (total : Result (List A × List Lexeme) ParseStop) (d : ReadError)
       → StillReads before ts total → head_is p ts ≡ true → Fails d (r ts) → Fails d total
   still_fails = gathered.still_fails (head_is p) r all with_one append-nil one_regroup (head_long p)
 
-  pub still_ends : (before : List A) (ts : List Lexeme) (total : Result (List A × List Lexeme) Stop)
+  pub still_ends : (before : List A) (ts : List Lexeme) (total : Result (List A × List Lexeme) ParseStop)
       → StillReads before ts total → head_is p ts ≡ false → total ≡ Ok (before, ts)
   still_ends = gathered.still_end (head_is p) r all with_one append-nil one_regroup (head_long p)
 
-abbrev cons_to : {A : Type 0} → A → Result (List A × List Lexeme) Stop → Result (List A × List Lexeme) Stop
+abbrev cons_to : {A : Type 0} → A → Result (List A × List Lexeme) ParseStop → Result (List A × List Lexeme) ParseStop
 cons_to a read = read >>= λ y. Ok (a ∷ y.0, y.1)
 
-abbrev first_then : {A : Type 0} → (List Lexeme → Result (List A × List Lexeme) Stop) → Result (A × List Lexeme) Stop → Result (List A × List Lexeme) Stop
+abbrev first_then : {A : Type 0} → (List Lexeme → Result (List A × List Lexeme) ParseStop) → Result (A × List Lexeme) ParseStop → Result (List A × List Lexeme) ParseStop
 first_then others first = first >>= λ x. cons_to x.0 (others x.1)
 
-cons_result : {A : Type 0} (a : A) (read : Result (List A × List Lexeme) Stop) (xs : List A) (rest : List Lexeme)
+cons_result : {A : Type 0} (a : A) (read : Result (List A × List Lexeme) ParseStop) (xs : List A) (rest : List Lexeme)
     → cons_to a read ≡ Ok (xs, rest) → (b : A) × (more : List A) × (xs ≡ b ∷ more)
 cons_result {A} a (Ok y) xs rest e =
-    let same : ◌≡◌ {A = Result (List A × List Lexeme) Stop} (Ok (a ∷ y.0, y.1)) (Ok (xs, rest)) = e in
+    let same : ◌≡◌ {A = Result (List A × List Lexeme) ParseStop} (Ok (a ∷ y.0, y.1)) (Ok (xs, rest)) = e in
     let pair : ◌≡◌ {A = List A × List Lexeme} (a ∷ y.0, y.1) (xs, rest) = cc in (a, y.0, sym (ap (λ (q : List A × List Lexeme). q.0) pair))
 cons_result a (Err f) xs rest e = absurd cc
 
@@ -68,17 +68,17 @@ pub many_some : {A : Type 0} (next : List Lexeme → Bool) (r : Reader A) (ts : 
 many_some next r [] xs rest b lt e = absurd (omega arith)
 many_some {A} next r (t ∷ ts) xs rest b lt e = once (r (t ∷ ts)) (sym (rw b refl) ∙ e)
   where
-    once : (first : Result (A × List Lexeme) Stop) → first_then (many_at next r (length ts)) first ≡ Ok (xs, rest) → (a : A) × (more : List A) × (xs ≡ a ∷ more)
+    once : (first : Result (A × List Lexeme) ParseStop) → first_then (many_at next r (length ts)) first ≡ Ok (xs, rest) → (a : A) × (more : List A) × (xs ≡ a ∷ more)
     once (Ok x) h = cons_result x.0 (many_at next r (length ts) x.1) xs rest h
     once (Err f) h = absurd cc
 
 -- ---- a list with commas
 
 -- what is still to be read from ts on, and that together with what was read it is the whole
-abbrev pub StillItems : {S A : Type 0} → (List Lexeme → Bool) → (S → Reader A) → (S → A → S) → S → List A → List Lexeme → Result (List A × List Lexeme) Stop → Type 0
+abbrev pub StillItems : {S A : Type 0} → (List Lexeme → Bool) → (S → Reader A) → (S → A → S) → S → List A → List Lexeme → Result (List A × List Lexeme) ParseStop → Type 0
 StillItems stop r step s before ts total = (fuel : ℕ) × (length ts < fuel) × (with_front before (items_by stop r step fuel s ts) ≡ total)
 
-pub items_first : {S A : Type 0} (k : Kind) (r : S → Reader A) (step : S → A → S) (s : S) (ts : List Lexeme) → StillItems (begins k) r step s [] ts (listed_at k r step s ts)
+pub items_first : {S A : Type 0} (k : TokenKind) (r : S → Reader A) (step : S → A → S) (s : S) (ts : List Lexeme) → StillItems (begins k) r step s [] ts (listed_at k r step s ts)
 unfolding listed_at
 items_first k r step s ts = (length ts + 1, omega arith, nothing_before (items_by (begins k) r step (length ts + 1) s ts))
 
@@ -100,7 +100,7 @@ module _ {S A : Type 0} (stop : List Lexeme → Bool) (r : S → Reader A) (step
   unfolding tail_at
   tail_none items ts b = rw b refl
 
-  module _ (s : S) (before : List A) (ts : List Lexeme) (total : Result (List A × List Lexeme) Stop) (still : StillItems stop r step s before ts total) where
+  module _ (s : S) (before : List A) (ts : List Lexeme) (total : Result (List A × List Lexeme) ParseStop) (still : StillItems stop r step s before ts total) where
     pub items_closed : stop ts ≡ true → total ≡ Ok (before, ts)
     items_closed b = sym still.2 ∙ rw (items_stop still.0 s ts b) (ap (λ (xs : List A). Ok (xs, ts)) (append-nil before))
 
@@ -129,27 +129,27 @@ module _ {S A : Type 0} (stop : List Lexeme → Bool) (r : S → Reader A) (step
 
 -- ---- a list that goes on where an element comes
 
-more_comma_head : (k : Kind) (t : Lexeme) (ts : List Lexeme) → is t.kind Kinds.Comma ≡ true → more_at k (t ∷ ts) ≡ (not (begins k ts), ts)
+more_comma_head : (k : TokenKind) (t : Lexeme) (ts : List Lexeme) → is t.kind Kinds.Comma ≡ true → more_at k (t ∷ ts) ≡ (not (begins k ts), ts)
 unfolding more_at
 more_comma_head k t ts e = rw e refl
 
-more_other_head : (k : Kind) (t : Lexeme) (ts : List Lexeme) → is t.kind Kinds.Comma ≡ false → more_at k (t ∷ ts) ≡ (false, t ∷ ts)
+more_other_head : (k : TokenKind) (t : Lexeme) (ts : List Lexeme) → is t.kind Kinds.Comma ≡ false → more_at k (t ∷ ts) ≡ (false, t ∷ ts)
 unfolding more_at
 more_other_head k t ts e = rw e refl
 
-more_nothing : (k : Kind) → more_at k [] ≡ (false, [])
+more_nothing : (k : TokenKind) → more_at k [] ≡ (false, [])
 unfolding more_at
 more_nothing k = refl
 
-pub more_end : (k : Kind) (ts : List Token) → length ts < 1 → (false, lexemes ts) ≡ more_at k (lexemes ts)
+pub more_end : (k : TokenKind) (ts : List Token) → length ts < 1 → (false, lexemes ts) ≡ more_at k (lexemes ts)
 more_end k [] lt = sym (more_nothing k)
 more_end k (t ∷ ts) lt = absurd (omega arith)
 
-pub more_none : (k : Kind) (ts : List Token) (d : Token) → 1 ≤ length ts → is (get_or ts 0 d).kind Kinds.Comma ≡ false → (false, lexemes ts) ≡ more_at k (lexemes ts)
+pub more_none : (k : TokenKind) (ts : List Token) (d : Token) → 1 ≤ length ts → is (get_or ts 0 d).kind Kinds.Comma ≡ false → (false, lexemes ts) ≡ more_at k (lexemes ts)
 more_none k [] d le e = absurd (omega arith)
 more_none k (t ∷ ts) d le e = sym (more_other_head k (lexeme_of t) (lexemes ts) e)
 
-pub more_comma : (k : Kind) (ts : List Token) (d : Token) → 1 ≤ length ts → is (get_or ts 0 d).kind Kinds.Comma ≡ true
+pub more_comma : (k : TokenKind) (ts : List Token) (d : Token) → 1 ≤ length ts → is (get_or ts 0 d).kind Kinds.Comma ≡ true
     → (not (begins k (lexemes (take (length ts - 1) (drop 1 ts)))), lexemes (take (length ts - 1) (drop 1 ts))) ≡ more_at k (lexemes ts)
 more_comma k [] d le e = absurd (omega arith)
 more_comma k (t ∷ ts) d le e = ap (λ (us : List Token). (not (begins k (lexemes us)), lexemes us)) (sym (rest_is t ts)) ∙ sym (more_comma_head k (lexeme_of t) (lexemes ts) e)
@@ -158,13 +158,13 @@ comma_taken : (t : Lexeme) (ts : List Lexeme) → is t.kind Kinds.Comma ≡ true
 unfolding token_at
 comma_taken t ts e = rw e refl
 
-module _ {S A : Type 0} (k : Kind) (r : S → Reader A) (step : S → A → S) where
+module _ {S A : Type 0} (k : TokenKind) (r : S → Reader A) (step : S → A → S) where
   -- what was read, and whether an element comes, make the whole
-  abbrev pub Pending : Bool → S → List A → List Lexeme → Result (List A × List Lexeme) Stop → Type 0
+  abbrev pub Pending : Bool → S → List A → List Lexeme → Result (List A × List Lexeme) ParseStop → Type 0
   Pending true s before ts total = (begins k ts ≡ false) × StillItems (begins k) r step s before ts total
   Pending false s before ts total = total ≡ Ok (before, ts)
 
-  pending_at : (b : Bool) (s : S) (before : List A) (ts : List Lexeme) (total : Result (List A × List Lexeme) Stop) → begins k ts ≡ b
+  pending_at : (b : Bool) (s : S) (before : List A) (ts : List Lexeme) (total : Result (List A × List Lexeme) ParseStop) → begins k ts ≡ b
       → StillItems (begins k) r step s before ts total → Pending (not b) s before ts total
   pending_at true s before ts total e still = items_closed (begins k) r step s before ts total still e
   pending_at false s before ts total e still = (e, still)
@@ -173,7 +173,7 @@ module _ {S A : Type 0} (k : Kind) (r : S → Reader A) (step : S → A → S) w
   pending_first more s ts e = subst (λ (m : Bool). Pending m s [] ts (listed_at k r step s ts)) (sym e)
       (pending_at (begins k ts) s [] ts (listed_at k r step s ts) refl (items_first k r step s ts))
 
-  module _ (more : Bool) (s : S) (before : List A) (ts : List Lexeme) (total : Result (List A × List Lexeme) Stop) (pending : Pending more s before ts total) where
+  module _ (more : Bool) (s : S) (before : List A) (ts : List Lexeme) (total : Result (List A × List Lexeme) ParseStop) (pending : Pending more s before ts total) where
     still_pending : more ≡ true → Pending true s before ts total
     still_pending e = let P : Bool → Type 0 = λ m. Pending m s before ts total in subst P e pending
 

@@ -3,15 +3,15 @@ use Rattle.std.proofs.Common.{◌≡◌, ◌∙◌, true, List, Result, Ok, Err,
 use Rattle.std.specs.Result.{is_err}
 use Rattle.std.specs.Global.{Global}
 use Rattle.syntax.specs.lexer.Lexeme.{Lexeme}
-use Rattle.syntax.specs.declared.lexer.token.Kind.{Kind}
-use Rattle.syntax.specs.declared.stop.Stop.{Stop}
+use Rattle.syntax.specs.declared.lexer.token.TokenKind.{TokenKind}
+use Rattle.syntax.specs.declared.stop.ParseStop.{ParseStop}
 use Rattle.syntax.specs.declared.stop.ReadError.{ReadError}
 use Rattle.syntax.specs.declared.stop.ReadError.TheVariants as errors
 use Rattle.syntax.specs.Reading.{Reader, Fails, Gives, GoesOn, ended_at, first_of, token_at}
 
 module _ {X Z : Type 0} (made : X → Z → Type 0) where
   -- where nothing was made, reading failed, or memory ran out
-  pub made_fails : {Y : Type 0} (view : X → Y) (r : Result X ReadError) (e : ReadError) (rest : List Lexeme) (read : Result (Y × List Lexeme) Stop)
+  pub made_fails : {Y : Type 0} (view : X → Y) (r : Result X ReadError) (e : ReadError) (rest : List Lexeme) (read : Result (Y × List Lexeme) ParseStop)
       → GoesOn made r (Err e) → Gives view r rest read → Fails e read
   made_fails view (Ok x) e rest read g h = subst (λ (d : ReadError). Fails d read) (sym g) (tt {0})
   made_fails view (Err f) e rest read g h = subst (λ (d : ReadError). Fails d read) (sym g) h
@@ -22,7 +22,7 @@ module _ {X Z : Type 0} (made : X → Z → Type 0) where
   made_of (Err f) z g = absurd g
 
 -- what was read, where it is there
-pub read_ok : {X Y : Type 0} (view : X → Y) (r : Result X ReadError) (x : X) (rest : List Lexeme) (read : Result (Y × List Lexeme) Stop)
+pub read_ok : {X Y : Type 0} (view : X → Y) (r : Result X ReadError) (x : X) (rest : List Lexeme) (read : Result (Y × List Lexeme) ParseStop)
     → r ≡ Ok x → Gives view r rest read → read ≡ Ok (view x, rest)
 read_ok {X} view r x rest read e h = subst (λ (q : Result X ReadError). Gives view q rest read) e h
 
@@ -31,14 +31,14 @@ so_ok {X} {P} r x e h = subst (λ (q : Result X ReadError). OnOk q P) e h
 
 -- what stands on the heap
 pub boxed_read : {X Y : Type 0} (view : X → Y) (r : Result X ReadError) (b : Box X Global) (rest : List Lexeme)
-    (read : Result (Y × List Lexeme) Stop) → GoesOn (λ (x : X) (c : Box X Global). c.value ≡ x) r (Ok b) → Gives view r rest read
+    (read : Result (Y × List Lexeme) ParseStop) → GoesOn (λ (x : X) (c : Box X Global). c.value ≡ x) r (Ok b) → Gives view r rest read
     → read ≡ Ok (view b.value, rest)
 boxed_read view (Ok x) b rest read g h = h ∙ ap (λ v. Ok (view v, rest)) (sym g)
 boxed_read view (Err f) b rest read g h = absurd g
 
 -- ---- what is handed on as it was read
 
-module _ {X Y : Type 0} (view : X → Y) (r : Result X ReadError) (rest : List Lexeme) (inner outer : Result (Y × List Lexeme) Stop)
+module _ {X Y : Type 0} (view : X → Y) (r : Result X ReadError) (rest : List Lexeme) (inner outer : Result (Y × List Lexeme) ParseStop)
     (read : Gives view r rest inner) (fails : (d : ReadError) → Fails d inner → Fails d outer) where
   pub failed_kept : is_err r ≡ true → Gives view r rest outer
   failed_kept e = goes r read e
@@ -56,7 +56,7 @@ module _ {X Y : Type 0} (view : X → Y) (r : Result X ReadError) (rest : List L
 
 -- ---- what a token ends
 
-module _ {Y : Type 0} (k : Kind) (form : Reader Y) (ts : List Lexeme) where
+module _ {Y : Type 0} (k : TokenKind) (form : Reader Y) (ts : List Lexeme) where
   pub ended_fails : (d : ReadError) → Fails d (form ts) → Fails d (ended_at k form ts)
   unfolding ended_at
   ended_fails errors.Memory h = tt

@@ -4,9 +4,9 @@ use Rattle.std.proofs.Common.{sym, ap, subst, ◌∙◌, ◌⊎◌, inl, inr, ar
 use Rattle.std.proofs.lemmas.Bool.{and_parts}
 use Rattle.syntax.specs.lexer.Lexeme.{Lexeme}
 use Rattle.syntax.specs.lexer.Kinds.{is}
-use Rattle.syntax.specs.declared.lexer.token.Kind.{Kind}
-use Rattle.syntax.specs.declared.lexer.token.Kind.TheVariants as Kinds
-use Rattle.syntax.specs.declared.stop.Stop.{Stop}
+use Rattle.syntax.specs.declared.lexer.token.TokenKind.{TokenKind}
+use Rattle.syntax.specs.declared.lexer.token.TokenKind.TheVariants as Kinds
+use Rattle.syntax.specs.declared.stop.ParseStop.{ParseStop}
 use Rattle.syntax.specs.ExpressionTree.{ExpressionTree, NameTree}
 use Rattle.syntax.specs.Expressions.{additive, chain, ternary, comparison, conjunction, conjunctive, disjunctive, expr, multiplicative}
 use Rattle.syntax.specs.Expressions.{product, unary, unary_in}
@@ -35,7 +35,7 @@ end_of_two t us more p le = go p.before p.parts
 -- a name alone is a spelling, and an expression ends before the sign
 module _ {A : Type 0} {F F' : Form A} {r r' : Reader A} {i : ℕ} (tree : Lexeme → A) (named : (t : Lexeme) (us : List Lexeme)
     → t.kind ≡ Kinds.Name → F.spells (tree t) (t ∷ us) us)
-    (k : Kind) (ends : 7 < binding k) (f : Line F F' r r' AfterExpression i) where
+    (k : TokenKind) (ends : 7 < binding k) (f : Line F F' r r' AfterExpression i) where
   sign_comes : (t : Lexeme) (us : List Lexeme) → two_begin Kinds.Name k (t ∷ us) ≡ true → (t.kind ≡ Kinds.Name) × (begins k us ≡ true)
   sign_comes t us two = let b = and_parts (is t.kind Kinds.Name) (begins k us) two in (is-true t.kind Kinds.Name b.0, b.1)
 
@@ -43,7 +43,7 @@ module _ {A : Type 0} {F F' : Form A} {r r' : Reader A} {i : ℕ} (tree : Lexeme
   name_read : (t : Lexeme) (us : List Lexeme) → two_begin Kinds.Name k (t ∷ us) ≡ true → r (t ∷ us) ≡ Ok (tree t, us)
   name_read t us two = let s = sign_comes t us two in f.reads.complete (tree t) (t ∷ us) us (named t us s.0) (after_kind k 7 us ends s.1)
 
-  same_rest : (a b : A) (us vs : List Lexeme) → ◌≡◌ {A = Result (A × List Lexeme) Stop} (Ok (a, us)) (Ok (b, vs)) → us ≡ vs
+  same_rest : (a b : A) (us vs : List Lexeme) → ◌≡◌ {A = Result (A × List Lexeme) ParseStop} (Ok (a, us)) (Ok (b, vs)) → us ≡ vs
   same_rest a b us vs h = let p : ◌≡◌ {A = A × List Lexeme} (a, us) (b, vs) = cc in ap (λ (x : A × List Lexeme). x.1) p
 
   -- a whole expression that is followed by no sign does not begin so
@@ -71,7 +71,7 @@ module _ {A : Type 0} {F F' : Form A} {r r' : Reader A} {i : ℕ} (tree : Lexeme
 
 -- ---- a name is an expression
 
-chain_one : (f : Kind → Option Operator) (part : Form ExpressionTree) (e : ExpressionTree) (ts rest : List Lexeme) → part.spells e ts rest → (chain f part).spells e ts rest
+chain_one : (f : TokenKind → Option Operator) (part : Form ExpressionTree) (e : ExpressionTree) (ts rest : List Lexeme) → part.spells e ts rest → (chain f part).spells e ts rest
 chain_one f part e ts rest h = (first_line ts, ts, (refl, refl), (e, rest, h, ([], rest, refl, (refl, refl))))
 
 comparison_one : (unary : Form ExpressionTree) (e : ExpressionTree) (ts rest : List Lexeme) → unary.spells e ts rest → (comparison unary).spells e ts rest

@@ -5,12 +5,12 @@ use Rattle.std.specs.Prelude.{◌==◌, if◌then◌else◌, codes, IfOk}
 use Rattle.std.specs.Str.{bytes_eq}
 use Rattle.std.proofs.Math.Seq.{drop-append_seam, take-append_seam, get_or-append_seam}
 use Rattle.std.proofs.lemmas.Bool.{or_parts, cond-false}
-use Rattle.syntax.specs.declared.lexer.token.Kind.{Kind}
-use Rattle.syntax.specs.declared.lexer.token.Kind.TheVariants as Kinds
+use Rattle.syntax.specs.declared.lexer.token.TokenKind.{TokenKind}
+use Rattle.syntax.specs.declared.lexer.token.TokenKind.TheVariants as Kinds
 use Rattle.syntax.specs.lexer.Bytes as byte
 use Rattle.syntax.specs.lexer.Bytes.{quote, lower_f, three_quotes}
 use Rattle.syntax.specs.lexer.Kinds.{is, word_kind, format_kind, single_kind, with_equals_kind, symbol_kind}
-use Rattle.syntax.specs.lexer.Texts.{is_string, is_framed, between, unescaped, text_of, TokenStandsFor, quoted, format, raw, raw_format, other}
+use Rattle.syntax.specs.lexer.Texts.{is_string, is_framed, text_between_quotes, unescaped_text, text_of, TokenStandsFor, quoted, format, raw, raw_format, other}
 use Rattle.syntax.specs.lexer.Tokens as tokens
 use Rattle.syntax.specs.lexer.Tokens.{IsString, IsToken}
 use Rattle.syntax.proofs.Frames.{between_framed, framed_is}
@@ -18,7 +18,7 @@ use Rattle.syntax.proofs.Stands.{stands_sound, stands_only}
 
 -- ---- between quotes
 
-between_is : (opening closing inside : List ℕ) → is_framed (length opening) (length closing) (opening ++ (inside ++ closing)) ≡ true → between (length opening) (length closing) (opening ++ (inside ++ closing)) ≡ inside
+between_is : (opening closing inside : List ℕ) → is_framed (length opening) (length closing) (opening ++ (inside ++ closing)) ≡ true → text_between_quotes (length opening) (length closing) (opening ++ (inside ++ closing)) ≡ inside
 between_is opening closing inside h =
     let text : List ℕ = opening ++ (inside ++ closing) in
     between_framed (length opening) (length closing) text h
@@ -35,21 +35,21 @@ framed_by opening closing inside first =
     (ap (λ (n : ℕ). get_or text n 0) (let q : length text - length (quote ∷ closing) ≡ length (opening ++ inside) = omega (arith, size, rest, length-append opening inside) in q)
     ∙ ap (λ (l : List ℕ). get_or l (length (opening ++ inside)) 0) (sym (append_assoc opening inside (quote ∷ closing))) ∙ get_or-append_seam (opening ++ inside) quote closing 0)
 
-within_quotes : (inside : List ℕ) → between 1 1 (quote ∷ (inside ++ quote ∷ [])) ≡ inside
+within_quotes : (inside : List ℕ) → text_between_quotes 1 1 (quote ∷ (inside ++ quote ∷ [])) ≡ inside
 within_quotes inside = between_is (quote ∷ []) (quote ∷ []) inside (framed_by (quote ∷ []) [] inside refl)
 
-within_format : (inside : List ℕ) → between 2 1 (lower_f ∷ quote ∷ (inside ++ quote ∷ [])) ≡ inside
+within_format : (inside : List ℕ) → text_between_quotes 2 1 (lower_f ∷ quote ∷ (inside ++ quote ∷ [])) ≡ inside
 within_format inside = between_is (lower_f ∷ quote ∷ []) (quote ∷ []) inside (framed_by (lower_f ∷ quote ∷ []) [] inside refl)
 
-within_raw : (inside : List ℕ) → between 3 3 (three_quotes ++ (inside ++ three_quotes)) ≡ inside
+within_raw : (inside : List ℕ) → text_between_quotes 3 3 (three_quotes ++ (inside ++ three_quotes)) ≡ inside
 within_raw inside = between_is three_quotes three_quotes inside (framed_by three_quotes (quote ∷ quote ∷ []) inside refl)
 
-within_raw_format : (inside : List ℕ) → between 4 3 (lower_f ∷ (three_quotes ++ (inside ++ three_quotes))) ≡ inside
+within_raw_format : (inside : List ℕ) → text_between_quotes 4 3 (lower_f ∷ (three_quotes ++ (inside ++ three_quotes))) ≡ inside
 within_raw_format inside = between_is (lower_f ∷ three_quotes) three_quotes inside (framed_by (lower_f ∷ three_quotes) (quote ∷ quote ∷ []) inside refl)
 
 -- ---- other tokens
 
-other_text : (k : Kind) (text : List ℕ) → is_string k ≡ false → text_of k text ≡ text
+other_text : (k : TokenKind) (text : List ℕ) → is_string k ≡ false → text_of k text ≡ text
 other_text k text e =
     let e1 = (or_parts (is k Kinds.String) _ e).1 in
     let e2 = (or_parts (is k Kinds.FormatString) _ e1).1 in
@@ -59,26 +59,26 @@ other_text k text e =
     ∙ cond-false (is k Kinds.RawFormatString) _ _ (or_parts (is k Kinds.RawString) _ e2).1
 
 -- a kind of no string, and a kind of no string or none
-record NoString (k : Kind) : Type 0 where
+record NoString (k : TokenKind) : Type 0 where
   pub is : is_string k ≡ false
 
-record NoneString (o : Option Kind) : Type 0 where
-  pub each : (k : Kind) → o ≡ Some k → is_string k ≡ false
+record NoneString (o : Option TokenKind) : Type 0 where
+  pub each : (k : TokenKind) → o ≡ Some k → is_string k ≡ false
 
-not_so : (k : Kind) → is_string k ≡ false → NoString k
+not_so : (k : TokenKind) → is_string k ≡ false → NoString k
 not_so k e = record { is = e }
 
-some_not : (k : Kind) → is_string k ≡ false → NoneString (Some k)
-some_not k e = record { each = λ j f. let same : k ≡ j = cc in subst (λ (i : Kind). is_string i ≡ false) same e }
+some_not : (k : TokenKind) → is_string k ≡ false → NoneString (Some k)
+some_not k e = record { each = λ j f. let same : k ≡ j = cc in subst (λ (i : TokenKind). is_string i ≡ false) same e }
 
 none_not : NoneString None
 none_not = record { each = λ j f. cc }
 
-kind_if : (b : Bool) (x y : Kind) → NoString x → NoString y → NoString (if b then x else y)
+kind_if : (b : Bool) (x y : TokenKind) → NoString x → NoString y → NoString (if b then x else y)
 kind_if true x y p q = p
 kind_if false x y p q = q
 
-some_if : (b : Bool) (x y : Option Kind) → NoneString x → NoneString y → NoneString (if b then x else y)
+some_if : (b : Bool) (x y : Option TokenKind) → NoneString x → NoneString y → NoneString (if b then x else y)
 some_if true x y p q = p
 some_if false x y p q = q
 
@@ -137,29 +137,29 @@ symbol_other (a ∷ b ∷ c ∷ more) = none_not
 
 -- ---- tokens
 
-string_names : (k : Kind) (text rest : List ℕ) → IsString k text rest → TokenStandsFor k text (text_of k text)
-string_names _ _ _ (tokens.quoted inside rest g r) = subst (TokenStandsFor Kinds.String (quote ∷ (inside ++ quote ∷ []))) (sym (ap unescaped (within_quotes inside))) (quoted inside (unescaped inside) (stands_sound inside))
+string_names : (k : TokenKind) (text rest : List ℕ) → IsString k text rest → TokenStandsFor k text (text_of k text)
+string_names _ _ _ (tokens.quoted inside rest g r) = subst (TokenStandsFor Kinds.String (quote ∷ (inside ++ quote ∷ []))) (sym (ap unescaped_text (within_quotes inside))) (quoted inside (unescaped_text inside) (stands_sound inside))
 string_names _ _ _ (tokens.raw inside rest each) = subst (TokenStandsFor Kinds.RawString (three_quotes ++ (inside ++ three_quotes))) (sym (within_raw inside)) (raw inside)
 
-format_names : (k : Kind) (text rest : List ℕ) → IsString k text rest → TokenStandsFor (format_kind k) (lower_f ∷ text) (text_of (format_kind k) (lower_f ∷ text))
+format_names : (k : TokenKind) (text rest : List ℕ) → IsString k text rest → TokenStandsFor (format_kind k) (lower_f ∷ text) (text_of (format_kind k) (lower_f ∷ text))
 format_names _ _ _ (tokens.quoted inside rest g r) =
-    subst (TokenStandsFor Kinds.FormatString (lower_f ∷ quote ∷ (inside ++ quote ∷ []))) (sym (ap unescaped (within_format inside))) (format inside (unescaped inside) (stands_sound inside))
+    subst (TokenStandsFor Kinds.FormatString (lower_f ∷ quote ∷ (inside ++ quote ∷ []))) (sym (ap unescaped_text (within_format inside))) (format inside (unescaped_text inside) (stands_sound inside))
 format_names _ _ _ (tokens.raw inside rest each) =
     subst (TokenStandsFor Kinds.RawFormatString (lower_f ∷ (three_quotes ++ (inside ++ three_quotes)))) (sym (within_raw_format inside)) (raw_format inside)
 
-other_names : (k : Kind) (text : List ℕ) → is_string k ≡ false → TokenStandsFor k text (text_of k text)
+other_names : (k : TokenKind) (text : List ℕ) → is_string k ≡ false → TokenStandsFor k text (text_of k text)
 other_names k text e = subst (TokenStandsFor k text) (sym (other_text k text e)) (other k text e)
 
-pub token_names : (k : Kind) (text rest : List ℕ) → IsToken k text rest → TokenStandsFor k text (text_of k text)
+pub token_names : (k : TokenKind) (text rest : List ℕ) → IsToken k text rest → TokenStandsFor k text (text_of k text)
 token_names _ _ _ (tokens.word text rest w f) = other_names (word_kind text) text (word_other text).is
 token_names _ _ _ (tokens.number text rest h e) = other_names Kinds.Number text refl
 token_names _ _ _ (tokens.string k text rest t) = string_names k text rest t
 token_names _ _ _ (tokens.format k text rest t) = format_names k text rest t
 token_names _ _ _ (tokens.symbol k text rest e) = other_names k text ((symbol_other text).each k e)
 
-pub names_only : (k : Kind) (slice text : List ℕ) → TokenStandsFor k slice text → text_of k slice ≡ text
-names_only _ _ _ (quoted inside text g) = ap unescaped (within_quotes inside) ∙ stands_only inside text g
-names_only _ _ _ (format inside text g) = ap unescaped (within_format inside) ∙ stands_only inside text g
+pub names_only : (k : TokenKind) (slice text : List ℕ) → TokenStandsFor k slice text → text_of k slice ≡ text
+names_only _ _ _ (quoted inside text g) = ap unescaped_text (within_quotes inside) ∙ stands_only inside text g
+names_only _ _ _ (format inside text g) = ap unescaped_text (within_format inside) ∙ stands_only inside text g
 names_only _ _ _ (raw inside) = within_raw inside
 names_only _ _ _ (raw_format inside) = within_raw_format inside
 names_only _ _ _ (other k text e) = other_text k text e

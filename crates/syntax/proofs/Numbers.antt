@@ -2,11 +2,11 @@
 use Rattle.std.proofs.Common.{◌≡◌, ℕ, true, refl, ap, sym, ◌∙◌, nat_eq}
 use Rattle.std.specs.Prelude.{if◌then◌else◌}
 use Rattle.std.proofs.lemmas.Bool.{eq-eqb, eqb-true}
-use Rattle.syntax.specs.declared.lexer.token.Kind.{Kind}
-use Rattle.syntax.specs.declared.lexer.token.Kind.TheVariants as Kinds
+use Rattle.syntax.specs.declared.lexer.token.TokenKind.{TokenKind}
+use Rattle.syntax.specs.declared.lexer.token.TokenKind.TheVariants as Kinds
 use Rattle.syntax.specs.lexer.Kinds.{number, is}
 
-abbrev numbered : ℕ → Kind
+abbrev numbered : ℕ → TokenKind
 numbered n =
     if nat_eq n 0 then Kinds.Name
     else (if nat_eq n 1 then Kinds.String
@@ -53,7 +53,7 @@ numbered n =
     else (if nat_eq n 42 then Kinds.FormatString
     else Kinds.RawFormatString))))))))))))))))))))))))))))))))))))))))))
 
-numbered-number : (k : Kind) → numbered (number k) ≡ k
+numbered-number : (k : TokenKind) → numbered (number k) ≡ k
 numbered-number Kinds.Name = refl
 numbered-number Kinds.String = refl
 numbered-number Kinds.True = refl
@@ -99,8 +99,8 @@ numbered-number Kinds.RawString = refl
 numbered-number Kinds.FormatString = refl
 numbered-number Kinds.RawFormatString = refl
 
-pub is-true : (a b : Kind) → is a b ≡ true → a ≡ b
+pub is-true : (a b : TokenKind) → is a b ≡ true → a ≡ b
 is-true a b e = sym (numbered-number a) ∙ ap numbered (eqb-true (number a) (number b) e) ∙ numbered-number b
 
-pub eq-is : (a b : Kind) → a ≡ b → is a b ≡ true
+pub eq-is : (a b : TokenKind) → a ≡ b → is a b ≡ true
 eq-is a b e = eq-eqb (number a) (number b) (ap number e)

@@ -1,8 +1,8 @@
 -- How the operators of the grammar bind, and the chains that they make.
 use Rattle.std.proofs.Common.{◌≡◌, ℕ, ◌+◌, ◌≤◌, ◌<◌, Bool, true, false, List, [], ◌∷◌, refl, lit≤, arith, Option}
 use Rattle.syntax.specs.lexer.Lexeme.{Lexeme}
-use Rattle.syntax.specs.declared.lexer.token.Kind.{Kind}
-use Rattle.syntax.specs.declared.lexer.token.Kind.TheVariants as Kinds
+use Rattle.syntax.specs.declared.lexer.token.TokenKind.{TokenKind}
+use Rattle.syntax.specs.declared.lexer.token.TokenKind.TheVariants as Kinds
 use Rattle.syntax.specs.declared.tree.Operator.{Operator}
 use Rattle.syntax.specs.ExpressionTree.{ExpressionTree}
 use Rattle.syntax.specs.Form.{Form, give, ◌>>=◌}
@@ -18,45 +18,45 @@ use Rattle.syntax.proofs.Starts.{Starts, starts-bind}
 use Rattle.syntax.proofs.Steps.{line-as, line-here, starts-as}
 
 -- Operators of one rank: they bind so tightly, and nothing else does.
-pub record IsRank (f : Kind → Option Operator) (rank : ℕ) : Type 0 where
-  pub ends : (k : Kind) → rank < binding k → stands_for f k ≡ false
-  pub binds : (k : Kind) → stands_for f k ≡ true → rank ≤ binding k
+pub record IsRank (f : TokenKind → Option Operator) (rank : ℕ) : Type 0 where
+  pub ends : (k : TokenKind) → rank < binding k → stands_for f k ≡ false
+  pub binds : (k : TokenKind) → stands_for f k ≡ true → rank ≤ binding k
 
-multiplicative_ends : (k : Kind) → 2 < binding k → stands_for multiplicative k ≡ false
+multiplicative_ends : (k : TokenKind) → 2 < binding k → stands_for multiplicative k ≡ false
 multiplicative_ends Kinds.Times lt = absurd (omega arith)
 multiplicative_ends Kinds.Divide lt = absurd (omega arith)
 multiplicative_ends Kinds.Remainder lt = absurd (omega arith)
 multiplicative_ends _ lt = refl
 
-multiplicative_binds : (k : Kind) → stands_for multiplicative k ≡ true → 2 ≤ binding k
+multiplicative_binds : (k : TokenKind) → stands_for multiplicative k ≡ true → 2 ≤ binding k
 multiplicative_binds Kinds.Times e = lit≤ tt
 multiplicative_binds Kinds.Divide e = lit≤ tt
 multiplicative_binds Kinds.Remainder e = lit≤ tt
 multiplicative_binds _ e = absurd cc
 
-additive_ends : (k : Kind) → 3 < binding k → stands_for additive k ≡ false
+additive_ends : (k : TokenKind) → 3 < binding k → stands_for additive k ≡ false
 additive_ends Kinds.Plus lt = absurd (omega arith)
 additive_ends Kinds.Minus lt = absurd (omega arith)
 additive_ends _ lt = refl
 
-additive_binds : (k : Kind) → stands_for additive k ≡ true → 3 ≤ binding k
+additive_binds : (k : TokenKind) → stands_for additive k ≡ true → 3 ≤ binding k
 additive_binds Kinds.Plus e = lit≤ tt
 additive_binds Kinds.Minus e = lit≤ tt
 additive_binds _ e = absurd cc
 
-conjunctive_ends : (k : Kind) → 5 < binding k → stands_for conjunctive k ≡ false
+conjunctive_ends : (k : TokenKind) → 5 < binding k → stands_for conjunctive k ≡ false
 conjunctive_ends Kinds.And lt = absurd (omega arith)
 conjunctive_ends _ lt = refl
 
-conjunctive_binds : (k : Kind) → stands_for conjunctive k ≡ true → 5 ≤ binding k
+conjunctive_binds : (k : TokenKind) → stands_for conjunctive k ≡ true → 5 ≤ binding k
 conjunctive_binds Kinds.And e = lit≤ tt
 conjunctive_binds _ e = absurd cc
 
-disjunctive_ends : (k : Kind) → 6 < binding k → stands_for disjunctive k ≡ false
+disjunctive_ends : (k : TokenKind) → 6 < binding k → stands_for disjunctive k ≡ false
 disjunctive_ends Kinds.Or lt = absurd (omega arith)
 disjunctive_ends _ lt = refl
 
-disjunctive_binds : (k : Kind) → stands_for disjunctive k ≡ true → 6 ≤ binding k
+disjunctive_binds : (k : TokenKind) → stands_for disjunctive k ≡ true → 6 ≤ binding k
 disjunctive_binds Kinds.Or e = lit≤ tt
 disjunctive_binds _ e = absurd cc
 
@@ -74,11 +74,11 @@ rank-disjunctive = record { ends = disjunctive_ends; binds = disjunctive_binds }
 
 -- ---- from kinds to tokens
 
-pub head_ends : (p : Kind → Bool) (rank : ℕ) → ((k : Kind) → rank < binding k → p k ≡ false) → (ts : List Lexeme) → After rank ts → head_is p ts ≡ false
+pub head_ends : (p : TokenKind → Bool) (rank : ℕ) → ((k : TokenKind) → rank < binding k → p k ≡ false) → (ts : List Lexeme) → After rank ts → head_is p ts ≡ false
 head_ends p rank h [] st = refl
 head_ends p rank h (t ∷ ts) st = h t.kind st
 
-pub head_binds : (p : Kind → Bool) (rank : ℕ) → ((k : Kind) → p k ≡ true → rank < binding k) → (ts : List Lexeme) → head_is p ts ≡ true → After rank ts
+pub head_binds : (p : TokenKind → Bool) (rank : ℕ) → ((k : TokenKind) → p k ≡ true → rank < binding k) → (ts : List Lexeme) → head_is p ts ≡ true → After rank ts
 head_binds p rank h [] e = absurd cc
 head_binds p rank h (t ∷ ts) e = h t.kind e
 
@@ -87,7 +87,7 @@ after_less i j le ts st = omega (arith, st)
 
 -- ---- chains
 
-module _ (f : Kind → Option Operator) (rank below : ℕ) (is_rank : IsRank f rank) (lower : below < rank) (F F' : Form ExpressionTree) (r r' : Reader ExpressionTree) (part : Line F F' r r' (After below) 1) where
+module _ (f : TokenKind → Option Operator) (rank below : ℕ) (is_rank : IsRank f rank) (lower : below < rank) (F F' : Form ExpressionTree) (r r' : Reader ExpressionTree) (part : Line F F' r r' (After below) 1) where
   line-operand : Line (operand f F) (operand f F') (operand_at f r) (operand_at f r') (After below) 1
   unfolding operand_at
   line-operand =

@@ -3,15 +3,15 @@
 use Rattle.std.proofs.Common.{◌≡◌, ℕ, zero, suc, Bool, true, false, List, [], ◌∷◌, length, Result, Ok, Err, refl, sym, ap, ◌∙◌, ◌⊎◌, inl}
 use Rattle.std.proofs.Common.{inr}
 use Rattle.syntax.specs.lexer.Lexeme.{Lexeme}
-use Rattle.syntax.specs.declared.stop.Stop.{Stop}
-use Rattle.syntax.specs.declared.stop.Stop.TheVariants.{TooDeep}
+use Rattle.syntax.specs.declared.stop.ParseStop.{ParseStop}
+use Rattle.syntax.specs.declared.stop.ParseStop.TheVariants.{TooDeep}
 use Rattle.syntax.specs.Form.{Form, ◌or◌, many, Repeats}
 use Rattle.syntax.specs.Form.{◌>>=◌ as ◌then◌}
 use Rattle.syntax.specs.Reading.{Reader, ◌>>=◌, many_at, or_at}
 use Rattle.syntax.proofs.Laws.{bind_at, bind_err, cases_bool}
 
 -- the reading stops at a token that is too deep
-abbrev pub TooDeepAt : {A : Type 0} → Result (A × List Lexeme) Stop → Type 0
+abbrev pub TooDeepAt : {A : Type 0} → Result (A × List Lexeme) ParseStop → Type 0
 TooDeepAt r = (left : ℕ) × (r ≡ Err (TooDeep left))
 
 abbrev pub Opens : {A : Type 0} → Form A → List Lexeme → ℕ → Type 0
@@ -36,7 +36,7 @@ module _ {A B : Type 0} (F F' : Form A) (G G' : A → Form B) (r r' : Reader A) 
     | inr w ↦ let h = (g w.0.0).deep w.0.1 left w.2 in (h.0, h.1, inr (w.0.0, w.0.1, f.spells w.0.0 ts w.0.1 (sound ts w.0.0 w.0.1 w.1), h.2))
   ]
 
-  raises_then : (x : Result (A × List Lexeme) Stop) → TooDeepAt (x >>= λ y. s y.0 y.1) ⊎ ((x >>= λ y. s y.0 y.1) ≡ (x >>= λ y. s' y.0 y.1))
+  raises_then : (x : Result (A × List Lexeme) ParseStop) → TooDeepAt (x >>= λ y. s y.0 y.1) ⊎ ((x >>= λ y. s y.0 y.1) ≡ (x >>= λ y. s' y.0 y.1))
   raises_then (Ok y) = (g y.0).same y.1
   raises_then (Err d) = inr refl
 
@@ -45,7 +45,7 @@ module _ {A B : Type 0} (F F' : Form A) (G G' : A → Form B) (r r' : Reader A) 
     | inl d ↦ inl (d.0, rw d.1 refl)
     | inr e ↦ elim (raises_then (r ts)) [
       | inl d ↦ inl d
-      | inr e2 ↦ inr (e2 ∙ ap (λ (x : Result (A × List Lexeme) Stop). x >>= λ y. s' y.0 y.1) e)
+      | inr e2 ↦ inr (e2 ∙ ap (λ (x : Result (A × List Lexeme) ParseStop). x >>= λ y. s' y.0 y.1) e)
     ]
   ]
 
@@ -106,14 +106,14 @@ module _ {A : Type 0} (F F' : Form A) (r r' : Reader A) (next : List Lexeme → 
     | inr n ↦ let stop = more_no r k ts n in absurd cc
   ]
 
-  abbrev then_many : Reader A → ℕ → Result (A × List Lexeme) Stop → Result (List A × List Lexeme) Stop
+  abbrev then_many : Reader A → ℕ → Result (A × List Lexeme) ParseStop → Result (List A × List Lexeme) ParseStop
   then_many q k x = x >>= λ y. many_at next q k y.1 >>= λ z. Ok (y.0 ∷ z.0, z.1)
 
-  many_after : (k : ℕ) → ((ts : List Lexeme) → TooDeepAt (many_at next r k ts) ⊎ (many_at next r k ts ≡ many_at next r' k ts)) → (x : Result (A × List Lexeme) Stop)
+  many_after : (k : ℕ) → ((ts : List Lexeme) → TooDeepAt (many_at next r k ts) ⊎ (many_at next r k ts ≡ many_at next r' k ts)) → (x : Result (A × List Lexeme) ParseStop)
       → TooDeepAt (then_many r k x) ⊎ (then_many r k x ≡ then_many r' k x)
   many_after k ih (Ok y) = elim (ih y.1) [
     | inl d ↦ inl (d.0, rw d.1 refl)
-    | inr e ↦ inr (ap (λ (x : Result (List A × List Lexeme) Stop). x >>= λ z. Ok (y.0 ∷ z.0, z.1)) e)
+    | inr e ↦ inr (ap (λ (x : Result (List A × List Lexeme) ParseStop). x >>= λ z. Ok (y.0 ∷ z.0, z.1)) e)
   ]
   many_after k ih (Err d) = inr refl
 

@@ -7,20 +7,20 @@ use Rattle.std.proofs.lemmas.Grind.{common_steps}
 use Rattle.std.proofs.lemmas.List.{at_drop_more, drop_all}
 use Rattle.std.proofs.lemmas.Bool.{cases_Bool, and_from, and_parts, not-true, not_from_false}
 use Rattle.syntax.specs.lexer.Bytes.{continues_word, ends_word}
-use Rattle.syntax.specs.lexer.Lexing.{run}
+use Rattle.syntax.specs.lexer.Lexing.{run_length}
 
 -- of two tests one passes, and the second does not
 pub first_holds : (a b : Bool) → (a || b) ≡ true → b ≡ false → a ≡ true
 first_holds true b e f = refl
 first_holds false b e f = absurd cc
 
-pub run_step : (p : ℕ → Bool) (b : ℕ) (bs : List ℕ) → p b ≡ true → run p (b ∷ bs) ≡ suc (run p bs)
+pub run_step : (p : ℕ → Bool) (b : ℕ) (bs : List ℕ) → p b ≡ true → run_length p (b ∷ bs) ≡ suc (run_length p bs)
 run_step p b bs e = rw e refl
 
-pub run_stop : (p : ℕ → Bool) (b : ℕ) (bs : List ℕ) → p b ≡ false → run p (b ∷ bs) ≡ 0
+pub run_stop : (p : ℕ → Bool) (b : ℕ) (bs : List ℕ) → p b ≡ false → run_length p (b ∷ bs) ≡ 0
 run_stop p b bs e = rw e refl
 
-pub run_le : (p : ℕ → Bool) (s : List ℕ) → run p s ≤ length s
+pub run_le : (p : ℕ → Bool) (s : List ℕ) → run_length p s ≤ length s
 run_le p [] = omega arith
 run_le p (b ∷ bs) = elim (cases_Bool (p b)) [
   | inl y ↦ omega (arith, run_step p b bs y, run_le p bs)
@@ -43,15 +43,15 @@ all_at p [] i h lt = absurd (omega arith)
 all_at p (b ∷ text) zero h lt = (all_first p b text h).0
 all_at p (b ∷ text) (suc i) h lt = all_at p text i (all_first p b text h).1 (omega arith)
 
-pub run_all : (p : ℕ → Bool) (s : List ℕ) → list_all p (take (run p s) s) ≡ true
+pub run_all : (p : ℕ → Bool) (s : List ℕ) → list_all p (take (run_length p s) s) ≡ true
 run_all p [] = refl
 run_all p (b ∷ bs) = elim (cases_Bool (p b)) [
-  | inl y ↦ subst (λ (n : ℕ). list_all p (take n (b ∷ bs)) ≡ true) (sym (run_step p b bs y)) (all_both p b (take (run p bs) bs) y (run_all p bs))
+  | inl y ↦ subst (λ (n : ℕ). list_all p (take n (b ∷ bs)) ≡ true) (sym (run_step p b bs y)) (all_both p b (take (run_length p bs) bs) y (run_all p bs))
   | inr n ↦ subst (λ (n : ℕ). list_all p (take n (b ∷ bs)) ≡ true) (sym (run_stop p b bs n)) refl
 ]
 
 -- each of them passes
-pub run_passes : (p : ℕ → Bool) (s : List ℕ) (i : ℕ) → i < run p s → p (get_or s i 0) ≡ true
+pub run_passes : (p : ℕ → Bool) (s : List ℕ) (i : ℕ) → i < run_length p s → p (get_or s i 0) ≡ true
 run_passes p [] i lt = absurd (omega arith)
 run_passes p (b ∷ bs) zero lt = elim (cases_Bool (p b)) [ inl y ↦ y | inr n ↦ absurd (omega (arith, lt, run_stop p b bs n)) ]
 run_passes p (b ∷ bs) (suc i) lt = elim (cases_Bool (p b)) [
@@ -59,7 +59,7 @@ run_passes p (b ∷ bs) (suc i) lt = elim (cases_Bool (p b)) [
   | inr n ↦ absurd (omega (arith, lt, run_stop p b bs n))
 ]
 
-pub run_at_least : (p : ℕ → Bool) (text rest : List ℕ) → list_all p text ≡ true → length text ≤ run p (text ++ rest)
+pub run_at_least : (p : ℕ → Bool) (text rest : List ℕ) → list_all p text ≡ true → length text ≤ run_length p (text ++ rest)
 run_at_least p [] rest h = omega arith
 run_at_least p (b ∷ text) rest h = let w = all_first p b text h in omega (arith, run_step p b (text ++ rest) w.0, run_at_least p text rest w.1)
 
@@ -69,7 +69,7 @@ take_all s = search (rules, common_steps)
 -- ---- words
 
 -- where a word ends
-pub word_ends : (s : List ℕ) → ends_word (drop (run continues_word s) s) ≡ true
+pub word_ends : (s : List ℕ) → ends_word (drop (run_length continues_word s) s) ≡ true
 word_ends [] = refl
 word_ends (b ∷ bs) = elim (cases_Bool (continues_word b)) [
   | inl y ↦ subst (λ (n : ℕ). ends_word (drop n (b ∷ bs)) ≡ true) (sym (run_step continues_word b bs y)) (word_ends bs)
@@ -77,20 +77,20 @@ word_ends (b ∷ bs) = elim (cases_Bool (continues_word b)) [
       subst (λ (n : ℕ). ends_word (drop n (b ∷ bs)) ≡ true) (sym (run_stop continues_word b bs n)) (not_from_false (continues_word b) n)
 ]
 
-pub word_exact : (text rest : List ℕ) → list_all continues_word text ≡ true → ends_word rest ≡ true → run continues_word (text ++ rest) ≡ length text
+pub word_exact : (text rest : List ℕ) → list_all continues_word text ≡ true → ends_word rest ≡ true → run_length continues_word (text ++ rest) ≡ length text
 word_exact [] [] h e = refl
 word_exact [] (b ∷ rest) h e = run_stop continues_word b rest (not-true (continues_word b) e)
 word_exact (a ∷ text) rest h e = let w = all_first continues_word a text h in omega (arith, run_step continues_word a (text ++ rest) w.0, word_exact text rest w.1 e)
 
 -- ---- the loops
 
-pub run_yes : (p : ℕ → Bool) (s : List ℕ) (i : ℕ) → i < length s → p (get_or s i 0) ≡ true → run p (drop i s) ≡ suc (run p (drop (i + 1) s))
-run_yes p s i lt e = at_drop_more (run p) s i 0 lt ∙ rw e refl
+pub run_yes : (p : ℕ → Bool) (s : List ℕ) (i : ℕ) → i < length s → p (get_or s i 0) ≡ true → run_length p (drop i s) ≡ suc (run_length p (drop (i + 1) s))
+run_yes p s i lt e = at_drop_more (run_length p) s i 0 lt ∙ rw e refl
 
-pub run_no : (p : ℕ → Bool) (s : List ℕ) (i : ℕ) → i < length s → p (get_or s i 0) ≡ false → run p (drop i s) ≡ 0
-run_no p s i lt e = at_drop_more (run p) s i 0 lt ∙ rw e refl
+pub run_no : (p : ℕ → Bool) (s : List ℕ) (i : ℕ) → i < length s → p (get_or s i 0) ≡ false → run_length p (drop i s) ≡ 0
+run_no p s i lt e = at_drop_more (run_length p) s i 0 lt ∙ rw e refl
 
-pub run_end : (p : ℕ → Bool) (s : List ℕ) (i : ℕ) → length s ≤ i → run p (drop i s) ≡ 0
-run_end p s i le = ap (run p) (drop_all i s le)
+pub run_end : (p : ℕ → Bool) (s : List ℕ) (i : ℕ) → length s ≤ i → run_length p (drop i s) ≡ 0
+run_end p s i le = ap (run_length p) (drop_all i s le)
 
 pub ruleset run_steps = (run_yes, run_no, run_end)

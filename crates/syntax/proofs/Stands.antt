@@ -8,7 +8,7 @@ use Rattle.std.proofs.lemmas.List.{take-append-drop}
 use Rattle.std.proofs.lemmas.Str.{encode_ascii}
 use Rattle.syntax.specs.lexer.Bytes.{backslash}
 use Rattle.syntax.specs.lexer.Escapes.{escape_at, is_character}
-use Rattle.syntax.specs.lexer.Texts.{character, escaped_by, unescaped_behind, unescaped, NoEscape, StandsFor, nothing, itself, escape, kept}
+use Rattle.syntax.specs.lexer.Texts.{character, escaped_by, unescaped_behind, unescaped_text, NoEscape, StandsFor, nothing, itself, escape, kept}
 use Rattle.syntax.proofs.Escaping.{escape_sound, escape_complete}
 use Rattle.syntax.proofs.Texts.{skipped_is}
 
@@ -52,8 +52,8 @@ all_sound [] (suc skip) = nothing
 all_sound (b ∷ s) zero = byte_sound b s (all_sound s)
 all_sound (b ∷ s) (suc skip) = all_sound s skip
 
-pub stands_sound : (s : List ℕ) → StandsFor s (unescaped s)
-unfolding unescaped
+pub stands_sound : (s : List ℕ) → StandsFor s (unescaped_text s)
+unfolding unescaped_text
 stands_sound s = all_sound s 0
 
 kept_is : (s : List ℕ) → NoEscape s → (o : Option (ℕ × ℕ)) → escape_at s ≡ o → character o ≡ (backslash, 0)
@@ -75,6 +75,6 @@ behind_only _ _ (escape code written s text e c g) =
 behind_only _ _ (kept s text none g) =
     ap (λ (q : ℕ × ℕ). encode_utf8 q.0 ++ unescaped_behind q.1 s) (kept_is s none (escape_at s) refl) ∙ backslash_is (unescaped_behind 0 s) ∙ ap (λ (l : List ℕ). backslash ∷ l) (behind_only s text g)
 
-pub stands_only : (s text : List ℕ) → StandsFor s text → unescaped s ≡ text
-unfolding unescaped
+pub stands_only : (s text : List ℕ) → StandsFor s text → unescaped_text s ≡ text
+unfolding unescaped_text
 stands_only s text g = behind_only s text g

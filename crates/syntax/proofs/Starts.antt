@@ -1,14 +1,14 @@
 -- What a form begins with, and that it takes a token.
 use Rattle.std.proofs.Common.{◌≡◌, ℕ, ◌+◌, ◌≤◌, Bool, true, false, List, [], ◌∷◌, length, refl, sym, ap, ◌⊎◌, inl, inr, arith}
 use Rattle.syntax.specs.lexer.Lexeme.{Lexeme}
-use Rattle.syntax.specs.declared.lexer.token.Kind.{Kind}
+use Rattle.syntax.specs.declared.lexer.token.TokenKind.{TokenKind}
 use Rattle.syntax.specs.Form.{Form, token, give, ◌>>=◌, ◌or◌, never, many, Repeats}
 use Rattle.syntax.specs.lexer.Kinds.{is}
 use Rattle.syntax.specs.Reading.{begins}
 pub use Rattle.syntax.specs.Reading.{head_is}
 use Rattle.syntax.proofs.Numbers.{eq-is}
 
-pub record Starts {A : Type 0} (F : Form A) (p : Kind → Bool) : Type 0 where
+pub record Starts {A : Type 0} (F : Form A) (p : TokenKind → Bool) : Type 0 where
   pub spelled : (a : A) (ts rest : List Lexeme) → F.spells a ts rest → head_is p ts ≡ true
   pub begun : (ts more : List Lexeme) → F.front ts more → (more ≡ ts) ⊎ (head_is p ts ≡ true)
 
@@ -16,19 +16,19 @@ pub record Starts {A : Type 0} (F : Form A) (p : Kind → Bool) : Type 0 where
 pub record Takes {A : Type 0} (F : Form A) (least : ℕ) : Type 0 where
   pub taken : (a : A) (ts rest : List Lexeme) → F.spells a ts rest → length rest + least ≤ length ts
 
-pub starts-token : (k : Kind) → Starts (token k) (λ l. is l k)
+pub starts-token : (k : TokenKind) → Starts (token k) (λ l. is l k)
 starts-token k = record {
   spelled = λ t ts rest h. rw h.0 (eq-is t.kind k h.1);
   begun = λ ts more h. elim h [ inl same ↦ inl (sym same) | inr w ↦ inr (rw w.1 (eq-is w.0.kind k w.2)) ];
 }
 
-pub starts-bind : {A B : Type 0} (F : Form A) (G : A → Form B) (p : Kind → Bool) → Starts F p → Starts (F >>= G) p
+pub starts-bind : {A B : Type 0} (F : Form A) (G : A → Form B) (p : TokenKind → Bool) → Starts F p → Starts (F >>= G) p
 starts-bind F G p s = record {
   spelled = λ b ts rest h. s.spelled h.0 ts h.1 h.2;
   begun = λ ts more h. elim h [ inl f ↦ s.begun ts more f | inr w ↦ inr (s.spelled w.0 ts w.1 w.2) ];
 }
 
-pub starts-or : {A : Type 0} (F G : Form A) (p q r : Kind → Bool) → Starts F p → Starts G q → ((k : Kind) → p k ≡ true → r k ≡ true) → ((k : Kind) → q k ≡ true → r k ≡ true) → Starts (F or G) r
+pub starts-or : {A : Type 0} (F G : Form A) (p q r : TokenKind → Bool) → Starts F p → Starts G q → ((k : TokenKind) → p k ≡ true → r k ≡ true) → ((k : TokenKind) → q k ≡ true → r k ≡ true) → Starts (F or G) r
 starts-or F G p q r s t pr qr = record {
   spelled = λ a ts rest h. elim h [ inl f ↦ weaker p ts pr (s.spelled a ts rest f) | inr g ↦ weaker q ts qr (t.spelled a ts rest g) ];
   begun = λ ts more h. elim h [
@@ -37,23 +37,23 @@ starts-or F G p q r s t pr qr = record {
   ];
 }
   where
-    weaker : (p : Kind → Bool) (ts : List Lexeme) → ((k : Kind) → p k ≡ true → r k ≡ true) → head_is p ts ≡ true → head_is r ts ≡ true
+    weaker : (p : TokenKind → Bool) (ts : List Lexeme) → ((k : TokenKind) → p k ≡ true → r k ≡ true) → head_is p ts ≡ true → head_is r ts ≡ true
     weaker p [] f e = absurd cc
     weaker p (t ∷ ts) f e = f t.kind e
 
-pub starts-never : {A : Type 0} (p : Kind → Bool) → Starts (never {A = A}) p
+pub starts-never : {A : Type 0} (p : TokenKind → Bool) → Starts (never {A = A}) p
 starts-never p = record { spelled = λ a ts rest h. absurd h; begun = λ ts more h. inl (sym h) }
 
 -- where the head is one of these, it is none of those
-pub head_not : (p q : Kind → Bool) → ((k : Kind) → p k ≡ true → q k ≡ false) → (ts : List Lexeme) → head_is p ts ≡ true → head_is q ts ≡ false
+pub head_not : (p q : TokenKind → Bool) → ((k : TokenKind) → p k ≡ true → q k ≡ false) → (ts : List Lexeme) → head_is p ts ≡ true → head_is q ts ≡ false
 head_not p q f [] e = refl
 head_not p q f (t ∷ ts) e = f t.kind e
 
-pub begins-head : (k : Kind) (ts : List Lexeme) → begins k ts ≡ head_is (λ l. is l k) ts
+pub begins-head : (k : TokenKind) (ts : List Lexeme) → begins k ts ≡ head_is (λ l. is l k) ts
 begins-head k [] = refl
 begins-head k (t ∷ ts) = refl
 
-pub takes-token : (k : Kind) → Takes (token k) 1
+pub takes-token : (k : TokenKind) → Takes (token k) 1
 takes-token k = record { taken = λ t ts rest h. omega (arith, ap length h.0) }
 
 pub takes-give : {A : Type 0} (a : A) → Takes (give a) 0

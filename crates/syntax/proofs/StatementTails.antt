@@ -4,14 +4,14 @@ use Rattle.std.proofs.Common.{refl, sym, ap, arith, map, sub-one, Option, Some, 
 use Rattle.std.proofs.lemmas.List.{append-nil, map_push}
 use Rattle.std.specs.Prelude.{unwrap_or}
 use Rattle.syntax.specs.declared.lexer.token.Token.{Token}
-use Rattle.syntax.specs.declared.lexer.token.Kind.{Kind}
-use Rattle.syntax.specs.declared.lexer.token.Kind.TheVariants as Kinds
+use Rattle.syntax.specs.declared.lexer.token.TokenKind.{TokenKind}
+use Rattle.syntax.specs.declared.lexer.token.TokenKind.TheVariants as Kinds
 use Rattle.syntax.specs.lexer.Lexeme.{Lexeme, lexemes}
-use Rattle.syntax.specs.declared.stop.Stop.{Stop}
-use Rattle.syntax.specs.declared.stop.Stop.TheVariants.{Unexpected, TooDeep}
+use Rattle.syntax.specs.declared.stop.ParseStop.{ParseStop}
+use Rattle.syntax.specs.declared.stop.ParseStop.TheVariants.{Unexpected, TooDeep}
 use Rattle.syntax.specs.declared.stop.ReadError.{ReadError}
 use Rattle.syntax.specs.declared.stop.ReadError.TheVariants as errors
-use Rattle.syntax.specs.Statements.{given}
+use Rattle.syntax.specs.Statements.{statements_of_lines}
 use Rattle.syntax.specs.ExpressionTree.{ExpressionTree}
 use Rattle.syntax.specs.declared.tree.Statement.{Statement}
 use Rattle.syntax.specs.Tree.{StatementTree, AssignTree, AppendTree, BreakTree, ContinueTree, BranchTree, statement_of}
@@ -26,20 +26,20 @@ use Rattle.syntax.proofs.Tails.{fails_at, length_lexemes}
 
 -- ---- statements of one line
 
-pub leave_inside : (k : Kind) (tree : ℕ → StatementTree) (inside : Bool) (ts : List Lexeme) (t : Lexeme) (rest : List Lexeme) → inside ≡ true
+pub leave_inside : (k : TokenKind) (tree : ℕ → StatementTree) (inside : Bool) (ts : List Lexeme) (t : Lexeme) (rest : List Lexeme) → inside ≡ true
     → token_at k ts ≡ Ok (t, rest) → leave_at k tree inside ts ≡ Ok (tree t.line, rest)
 unfolding leave_at
 leave_inside k tree true ts t rest i e = rw e refl
 leave_inside k tree false ts t rest i e = absurd cc
 
-pub leave_fails : (k : Kind) (tree : ℕ → StatementTree) (inside : Bool) (ts : List Lexeme) (e : ReadError) → inside ≡ true
+pub leave_fails : (k : TokenKind) (tree : ℕ → StatementTree) (inside : Bool) (ts : List Lexeme) (e : ReadError) → inside ≡ true
     → Fails e (token_at k ts) → Fails e (leave_at k tree inside ts)
 unfolding leave_at
 leave_fails k tree inside ts errors.Memory i h = tt
 leave_fails k tree true ts (errors.Stop f) i h = rw h refl
 leave_fails k tree false ts (errors.Stop f) i h = absurd cc
 
-pub leave_outside : (k : Kind) (tree : ℕ → StatementTree) (inside : Bool) (ts : List Token) → inside ≡ false
+pub leave_outside : (k : TokenKind) (tree : ℕ → StatementTree) (inside : Bool) (ts : List Token) → inside ≡ false
     → leave_at k tree inside (lexemes ts) ≡ Err (Unexpected (length ts))
 unfolding leave_at
 leave_outside k tree true ts i = absurd cc
@@ -153,7 +153,7 @@ line_put r ts old new (Err f) (Err e) rest b h g = subst (λ (d : ReadError). Fa
 
 -- ---- the parts of an `if`
 
-some_part : (read : Result (List StatementTree × List Lexeme) Stop)
+some_part : (read : Result (List StatementTree × List Lexeme) ParseStop)
     → ((read >>= λ x. let y : Option (List StatementTree) × List Lexeme = (Some x.0, x.1) in Ok y) >>= λ y. Ok (unwrap_or y.0 [], y.1))
     ≡ read
 some_part (Ok x) = refl
@@ -184,7 +184,7 @@ module _ (expr : Reader ExpressionTree) (stmt : Reader StatementTree) where
   elif_branch_fails ts w mid errors.Memory t h = tt
   elif_branch_fails ts w mid (errors.Stop f) t h = rw (t, h) refl
 
-  abbrev pub StillParts : List BranchTree → List Lexeme → Result (List BranchTree × List Lexeme) Stop → Type 0
+  abbrev pub StillParts : List BranchTree → List Lexeme → Result (List BranchTree × List Lexeme) ParseStop → Type 0
   StillParts = loops.StillReads (begins Kinds.Elif) (elif_at expr stmt) all with_one append-nil one_regroup (begins_long Kinds.Elif)
 
   pub parts_first : (ts : List Lexeme) (b : BranchTree) (rest : List Lexeme) → branch_at expr stmt ts ≡ Ok (b, rest)
@@ -197,7 +197,7 @@ module _ (expr : Reader ExpressionTree) (stmt : Reader StatementTree) where
   parts_fails ts errors.Memory h = tt
   parts_fails ts (errors.Stop f) h = rw h refl
 
-  pub parts_more : (before : List BranchTree) (ts : List Lexeme) (total : Result (List BranchTree × List Lexeme) Stop) (w : Lexeme)
+  pub parts_more : (before : List BranchTree) (ts : List Lexeme) (total : Result (List BranchTree × List Lexeme) ParseStop) (w : Lexeme)
       (mid : List Lexeme) (a : BranchTree) (rest : List Lexeme)
       → StillParts before ts total → begins Kinds.Elif ts ≡ true → token_at Kinds.Elif ts ≡ Ok (w, mid) → branch_at expr stmt mid ≡ Ok (a, rest)
       → length rest < length ts → StillParts (with_one before a) rest total
@@ -205,7 +205,7 @@ module _ (expr : Reader ExpressionTree) (stmt : Reader StatementTree) where
       loops.still_more (begins Kinds.Elif) (elif_at expr stmt) all with_one append-nil one_regroup (begins_long Kinds.Elif)
       before ts total a rest s b (elif_reads ts w mid a rest t h) lt
 
-  pub parts_stop : (before : List BranchTree) (ts : List Lexeme) (total : Result (List BranchTree × List Lexeme) Stop) (e : ReadError)
+  pub parts_stop : (before : List BranchTree) (ts : List Lexeme) (total : Result (List BranchTree × List Lexeme) ParseStop) (e : ReadError)
       → StillParts before ts total → begins Kinds.Elif ts ≡ true → Fails e (elif_at expr stmt ts) → Fails e total
   parts_stop = loops.still_fails (begins Kinds.Elif) (elif_at expr stmt) all with_one append-nil one_regroup (begins_long Kinds.Elif)
 
@@ -216,8 +216,8 @@ in_body_long [] b = absurd cc
 in_body_long (t ∷ ts) b = omega arith
 
 module _ (stmt : Reader StatementTree) where
-  abbrev pub StillBody : List StatementTree → List Lexeme → Result (List StatementTree × List Lexeme) Stop → Type 0
-  StillBody = loops.StillReads in_body (ended_line_at stmt) given with_line append-nil line_regroup in_body_long
+  abbrev pub StillBody : List StatementTree → List Lexeme → Result (List StatementTree × List Lexeme) ParseStop → Type 0
+  StillBody = loops.StillReads in_body (ended_line_at stmt) statements_of_lines with_line append-nil line_regroup in_body_long
 
   pub body_first : (ts : List Lexeme) → StillBody [] ts (body_at stmt ts)
   unfolding body_at
@@ -239,17 +239,17 @@ module _ (stmt : Reader StatementTree) where
   newline_fails_ended ts mid o errors.Memory h e = tt
   newline_fails_ended ts mid o (errors.Stop f) h e = rw (h, e) refl
 
-  module _ (before : List StatementTree) (ts : List Lexeme) (total : Result (List StatementTree × List Lexeme) Stop)
+  module _ (before : List StatementTree) (ts : List Lexeme) (total : Result (List StatementTree × List Lexeme) ParseStop)
       (still : StillBody before ts total) (goes_on : in_body ts ≡ true) where
     pub body_more : {X : Type 0} (x : X) (after : List StatementTree) (mid : List Lexeme) (t : Lexeme) (rest : List Lexeme)
         → GivesLine before after (Ok x) mid (maybe_at stmt ts) → token_at Kinds.Newline mid ≡ Ok (t, rest) → length rest < length ts
         → StillBody after rest total
     body_more x after mid t rest (o, h, same) e lt = subst (λ (l : List StatementTree). StillBody l rest total) (sym same)
-        (loops.still_more in_body (ended_line_at stmt) given with_line append-nil line_regroup in_body_long
+        (loops.still_more in_body (ended_line_at stmt) statements_of_lines with_line append-nil line_regroup in_body_long
         before ts total o rest still goes_on (ended_reads ts mid o t rest h e) lt)
 
     body_fails : (e : ReadError) → Fails e (ended_line_at stmt ts) → Fails e total
-    body_fails e h = loops.still_fails in_body (ended_line_at stmt) given with_line append-nil line_regroup in_body_long before ts total e still goes_on h
+    body_fails e h = loops.still_fails in_body (ended_line_at stmt) statements_of_lines with_line append-nil line_regroup in_body_long before ts total e still goes_on h
 
     pub body_line_fails : (e : ReadError) → Fails e (maybe_at stmt ts) → Fails e total
     body_line_fails e h = body_fails e (line_fails_ended ts e h)
@@ -261,8 +261,8 @@ module _ (stmt : Reader StatementTree) where
 -- ---- the lines of a file
 
 module _ (n : ℕ) where
-  abbrev pub StillLines : List StatementTree → List Lexeme → Result (List StatementTree × List Lexeme) Stop → Type 0
-  StillLines = loops.StillReads (begins Kinds.Newline) (next_line_at n) given with_line append-nil line_regroup (begins_long Kinds.Newline)
+  abbrev pub StillLines : List StatementTree → List Lexeme → Result (List StatementTree × List Lexeme) ParseStop → Type 0
+  StillLines = loops.StillReads (begins Kinds.Newline) (next_line_at n) statements_of_lines with_line append-nil line_regroup (begins_long Kinds.Newline)
 
   pub lines_first : {X : Type 0} (x : X) (ts : List Lexeme) (after : List StatementTree) (rest : List Lexeme)
       → GivesLine [] after (Ok x) rest (line_at n ts) → StillLines after rest (file_at n ts)
@@ -291,17 +291,17 @@ module _ (n : ℕ) where
   line_fails_next ts t mid errors.Memory h g = tt
   line_fails_next ts t mid (errors.Stop f) h g = rw (h, g) refl
 
-  module _ (before : List StatementTree) (ts : List Lexeme) (total : Result (List StatementTree × List Lexeme) Stop)
+  module _ (before : List StatementTree) (ts : List Lexeme) (total : Result (List StatementTree × List Lexeme) ParseStop)
       (still : StillLines before ts total) (goes_on : begins Kinds.Newline ts ≡ true) where
     pub lines_more : {X : Type 0} (x : X) (t : Lexeme) (mid : List Lexeme) (after : List StatementTree) (rest : List Lexeme)
         → token_at Kinds.Newline ts ≡ Ok (t, mid) → GivesLine before after (Ok x) rest (line_at n mid) → length rest < length ts
         → StillLines after rest total
     lines_more x t mid after rest e (o, h, same) lt = subst (λ (l : List StatementTree). StillLines l rest total) (sym same)
-        (loops.still_more (begins Kinds.Newline) (next_line_at n) given with_line append-nil line_regroup (begins_long Kinds.Newline)
+        (loops.still_more (begins Kinds.Newline) (next_line_at n) statements_of_lines with_line append-nil line_regroup (begins_long Kinds.Newline)
         before ts total o rest still goes_on (next_reads ts t mid o rest e h) lt)
 
     lines_stop : (e : ReadError) → Fails e (next_line_at n ts) → Fails e total
-    lines_stop e h = loops.still_fails (begins Kinds.Newline) (next_line_at n) given with_line append-nil line_regroup (begins_long Kinds.Newline)
+    lines_stop e h = loops.still_fails (begins Kinds.Newline) (next_line_at n) statements_of_lines with_line append-nil line_regroup (begins_long Kinds.Newline)
         before ts total e still goes_on h
 
     pub lines_newline_fails : (e : ReadError) → Fails e (token_at Kinds.Newline ts) → Fails e total

@@ -3,13 +3,13 @@ use Rattle.std.proofs.Common.{◌⊎◌, lit<, ◌<◌, lit≤, ◌≡◌, ℕ, 
 use Rattle.std.proofs.Common.{arith, []}
 use Rattle.syntax.specs.lexer.Lexeme.{Lexeme}
 use Rattle.syntax.specs.lexer.Kinds.{is}
-use Rattle.syntax.specs.declared.lexer.token.Kind.{Kind}
-use Rattle.syntax.specs.declared.lexer.token.Kind.TheVariants as Kinds
+use Rattle.syntax.specs.declared.lexer.token.TokenKind.{TokenKind}
+use Rattle.syntax.specs.declared.lexer.token.TokenKind.TheVariants as Kinds
 use Rattle.syntax.specs.ExpressionTree.{ExpressionTree, NameTree}
 use Rattle.syntax.specs.Tree.{StatementTree, AssignTree, AppendTree, ValueTree, BreakTree, ContinueTree}
 use Rattle.syntax.specs.Form.{Form, token, give, ◌>>=◌, ◌or◌}
 use Rattle.syntax.specs.Expressions.{expr}
-use Rattle.syntax.specs.Statements.{set, plain, leave, simple}
+use Rattle.syntax.specs.Statements.{assignment_form, plain, leave, simple}
 use Rattle.syntax.specs.Reading.{Reader, begins, or_at, two_begin}
 use Rattle.syntax.specs.ReadingExpressions.{expr_at}
 use Rattle.syntax.specs.ReadingStatements.{set_at, plain_at, leave_at, simple_at, ends_line}
@@ -26,7 +26,7 @@ use Rattle.syntax.proofs.Words.{cond_true, not_in, newline_head, name_sign, Afte
 abbrev pub AtLineEnd : List Lexeme → Type 0
 AtLineEnd ts = ends_line ts ≡ true
 
-abbrev pub is_newline : Kind → Bool
+abbrev pub is_newline : TokenKind → Bool
 is_newline l = is l Kinds.Newline
 
 pub at_newline : (ts : List Lexeme) → head_is is_newline ts ≡ true → AtLineEnd ts
@@ -40,10 +40,10 @@ ended_expr (t ∷ ts) st = after_kind Kinds.Newline 7 (t ∷ ts) (lit≤ tt) st
 
 -- ---- a name, a sign and an expression
 
-abbrev setter : Kind → (List ℕ → ℕ → ExpressionTree → StatementTree) → ℕ → Form StatementTree
+abbrev setter : TokenKind → (List ℕ → ℕ → ExpressionTree → StatementTree) → ℕ → Form StatementTree
 setter k tree n = token Kinds.Name >>= λ t. token k >>= λ q. expr n >>= λ e. give (tree t.text t.line e)
 
-line-set : (k : Kind) (tree : List ℕ → ℕ → ExpressionTree → StatementTree) (n : ℕ)
+line-set : (k : TokenKind) (tree : List ℕ → ℕ → ExpressionTree → StatementTree) (n : ℕ)
     → Line (setter k tree n) (setter k tree (suc n)) (set_at k tree (expr_at n)) (set_at k tree (expr_at (suc n))) AtLineEnd 1
 unfolding set_at
 line-set k tree n =
@@ -53,18 +53,18 @@ line-set k tree n =
     (λ (q : Lexeme). give_line (λ (e : ExpressionTree). tree t.text t.line e) (line-expr n))))
 
 -- what comes behind the name
-starts-sign : (k : Kind) (tree : List ℕ → ℕ → ExpressionTree → StatementTree) (n : ℕ) (t : Lexeme)
+starts-sign : (k : TokenKind) (tree : List ℕ → ℕ → ExpressionTree → StatementTree) (n : ℕ) (t : Lexeme)
     → Starts (token k >>= λ q. expr n >>= λ e. give (tree t.text t.line e)) (λ l. is l k)
 starts-sign k tree n t = starts-bind (token k) _ (λ l. is l k) (starts-token k)
 
-abbrev is_name : Kind → Bool
+abbrev is_name : TokenKind → Bool
 is_name l = is l Kinds.Name
 
-starts-set : (k : Kind) (tree : List ℕ → ℕ → ExpressionTree → StatementTree) (n : ℕ) → Starts (setter k tree n) is_name
+starts-set : (k : TokenKind) (tree : List ℕ → ℕ → ExpressionTree → StatementTree) (n : ℕ) → Starts (setter k tree n) is_name
 starts-set k tree n = starts-bind (token Kinds.Name) _ is_name (starts-token Kinds.Name)
 
 -- two statements that both may begin with a name
-line-sign-or : {G G' : Form StatementTree} {s s' : Reader StatementTree} (k : Kind) (tree : List ℕ → ℕ → ExpressionTree → StatementTree)
+line-sign-or : {G G' : Form StatementTree} {s s' : Reader StatementTree} (k : TokenKind) (tree : List ℕ → ℕ → ExpressionTree → StatementTree)
     (n : ℕ) → AfterName G AtLineEnd k → Line G G' s s' AtLineEnd 1
     → Line (setter k tree n or G) (setter k tree (suc n) or G') (or_at (two_begin Kinds.Name k) (set_at k tree (expr_at n)) s)
     (or_at (two_begin Kinds.Name k) (set_at k tree (expr_at (suc n))) s') AtLineEnd 1
@@ -97,11 +97,11 @@ starts-plain : (n : ℕ) → Starts (plain (expr n)) opens_expr
 starts-plain n = starts-here (λ l. expr n >>= λ e. give (ValueTree e l)) opens_expr (λ l. starts-bind (expr n) _ opens_expr (starts-expr n))
 
 -- no sign stands at a line's end
-no_sign_at_end : (k : Kind) → is Kinds.Newline k ≡ false → (ts : List Lexeme) → AtLineEnd ts → begins k ts ≡ false
+no_sign_at_end : (k : TokenKind) → is Kinds.Newline k ≡ false → (ts : List Lexeme) → AtLineEnd ts → begins k ts ≡ false
 no_sign_at_end k apart [] st = refl
 no_sign_at_end k apart (t ∷ ts) st = at_kind Kinds.Newline (λ l. is l k) false apart t.kind st
 
-after-plain : (n : ℕ) (k : Kind) → 7 < binding k → is Kinds.Newline k ≡ false → AfterName (plain (expr n)) AtLineEnd k
+after-plain : (n : ℕ) (k : TokenKind) → 7 < binding k → is Kinds.Newline k ≡ false → AfterName (plain (expr n)) AtLineEnd k
 after-plain n k ends apart = record {
   name = λ t us named. inr (t.line, t ∷ us, (refl, refl), inl ((line-expr n).form.whole (NameTree t.text t.line) (t ∷ us) us (named_expr n t us named)));
   apart = λ a ts rest h st. plain_apart ts rest h.1 h.3.1 h.2.0 h.3.3.1 h.3.0 h.3.2 st;
@@ -126,27 +126,27 @@ after-plain n k ends apart = record {
 
 -- ---- statements of one line
 
-line-leave : (k : Kind) (tree : ℕ → StatementTree) (inside : Bool)
+line-leave : (k : TokenKind) (tree : ℕ → StatementTree) (inside : Bool)
     → Line (leave k tree inside) (leave k tree inside) (leave_at k tree inside) (leave_at k tree inside) AtLineEnd 1
 unfolding leave_at
 line-leave k tree true = weaken (λ ts st. tt) (omega arith) (give_line (λ (t : Lexeme). tree t.line) (line-token k))
 line-leave k tree false = weaken (λ ts st. tt) (omega arith) line-none
 
-starts-leave : (k : Kind) (tree : ℕ → StatementTree) (inside : Bool) → Starts (leave k tree inside) (λ l. is l k)
+starts-leave : (k : TokenKind) (tree : ℕ → StatementTree) (inside : Bool) → Starts (leave k tree inside) (λ l. is l k)
 starts-leave k tree true = starts-bind (token k) _ (λ l. is l k) (starts-token k)
 starts-leave k tree false = starts-never (λ l. is l k)
 
 abbrev named : ℕ → Form StatementTree
-named n = set Kinds.Assign AssignTree (expr n) or (set Kinds.PlusAssign AppendTree (expr n) or plain (expr n))
+named n = assignment_form Kinds.Assign AssignTree (expr n) or (assignment_form Kinds.PlusAssign AppendTree (expr n) or plain (expr n))
 
-abbrev opens_continue : Kind → Bool
+abbrev opens_continue : TokenKind → Bool
 opens_continue l = cond (is l Kinds.Continue) true (opens_expr l)
 
 -- the first token of a statement of one line
-abbrev pub opens_simple : Kind → Bool
+abbrev pub opens_simple : TokenKind → Bool
 opens_simple l = cond (is l Kinds.Break) true (opens_continue l)
 
-name_opens : (l : Kind) → is_name l ≡ true → opens_expr l ≡ true
+name_opens : (l : TokenKind) → is_name l ≡ true → opens_expr l ≡ true
 name_opens l e = at_kind Kinds.Name opens_expr true refl l e
 
 starts-named : (n : ℕ) → Starts (named n) opens_expr

@@ -4,14 +4,14 @@ use Rattle.std.proofs.Common.{subst, ◌∙◌, ◌⊎◌, inl, inr, arith}
 use Rattle.std.specs.Option.{is_some}
 use Rattle.syntax.specs.lexer.Lexeme.{Lexeme}
 use Rattle.syntax.specs.lexer.Kinds.{is}
-use Rattle.syntax.specs.declared.lexer.token.Kind.{Kind}
-use Rattle.syntax.specs.declared.lexer.token.Kind.TheVariants as Kinds
+use Rattle.syntax.specs.declared.lexer.token.TokenKind.{TokenKind}
+use Rattle.syntax.specs.declared.lexer.token.TokenKind.TheVariants as Kinds
 use Rattle.syntax.specs.Expressions.{literal_of}
-use Rattle.syntax.specs.declared.stop.Stop.{Stop}
-use Rattle.syntax.specs.declared.stop.Stop.TheVariants.{Unexpected, TooDeep}
+use Rattle.syntax.specs.declared.stop.ParseStop.{ParseStop}
+use Rattle.syntax.specs.declared.stop.ParseStop.TheVariants.{Unexpected, TooDeep}
 use Rattle.syntax.specs.ExpressionTree.{ExpressionTree, NameTree}
 use Rattle.syntax.specs.Form.{Form, token, never, ◌>>=◌}
-use Rattle.syntax.specs.Parts.{Inner, Closed, Inside, first_line, here, here_at, opened, opened_at, stands_for, token_as, token_as_at}
+use Rattle.syntax.specs.Parts.{Inner, Closed, Inside, first_line, here, here_at, form_after_token, opened_at, stands_for, token_as, token_as_at}
 use Rattle.syntax.specs.Reading.{Reader, begins, deep_at, head_is, token_at, tokens_left}
 use Rattle.syntax.proofs.Binding.{After}
 use Rattle.syntax.proofs.Ends.{between_one, end_shorter, end_whole, ends-flat, ends-never}
@@ -37,7 +37,7 @@ line-here = record {
   takes = record { taken = λ l ts rest h. omega (arith, ap length h.0) };
 }
 
-pub starts-here : {B : Type 0} (G : ℕ → Form B) (p : Kind → Bool) → ((l : ℕ) → Starts (G l) p) → Starts (here >>= G) p
+pub starts-here : {B : Type 0} (G : ℕ → Form B) (p : TokenKind → Bool) → ((l : ℕ) → Starts (G l) p) → Starts (here >>= G) p
 starts-here G p g = record {
   spelled = λ b ts rest h. subst (λ (us : List Lexeme). head_is p us ≡ true) (sym h.2.0) ((g h.0).spelled b h.1 rest h.3);
   begun = λ ts more h. elim h [
@@ -52,7 +52,7 @@ pub cases_option : {B : Type 0} (o : Option B) → (o ≡ None) ⊎ ((x : B) × 
 cases_option None = inl refl
 cases_option (Some x) = inr (x, refl)
 
-module _ {B : Type 0} (f : Kind → Option B) where
+module _ {B : Type 0} (f : TokenKind → Option B) where
   pub as_some : (x : B) (u : Lexeme) (us : List Lexeme) → f u.kind ≡ Some x → token_as_at f (u ∷ us) ≡ Ok ((x, u), us)
   unfolding token_as_at
   as_some x u us e = rw e refl
@@ -78,7 +78,7 @@ module _ {B : Type 0} (f : Kind → Option B) where
   as_complete : (x : B × Lexeme) (ts rest : List Lexeme) → (token_as f).spells x ts rest → token_as_at f ts ≡ Ok (x, rest)
   as_complete x ts rest h = rw h.0 (as_some x.0 x.1 rest h.1)
 
-  as_faults : (ts : List Lexeme) (d : Stop) → token_as_at f ts ≡ Err d → (rest : List Lexeme) × (length rest ≡ tokens_left d) × (token_as f).front ts rest
+  as_faults : (ts : List Lexeme) (d : ParseStop) → token_as_at f ts ≡ Err d → (rest : List Lexeme) × (length rest ≡ tokens_left d) × (token_as f).front ts rest
   as_faults [] d e = ([], ap left_of (sym as_nil ∙ e), inl refl)
   as_faults (u ∷ us) d e = elim (cases_option (f u.kind)) [
     | inl n ↦ (u ∷ us, omega (arith, ap left_of (sym (as_none u us n) ∙ e)), inl refl)
@@ -131,7 +131,7 @@ module _ {B : Type 0} (f : Kind → Option B) where
 
 -- ---- what opens a level
 
-module _ {A : Type 0} (k : Kind) (G : Lexeme → Form A) (s : Lexeme → Reader A) where
+module _ {A : Type 0} (k : TokenKind) (G : Lexeme → Form A) (s : Lexeme → Reader A) where
   deep_yes : (ts : List Lexeme) → begins k ts ≡ true → deep_at {A = A} k ts ≡ Err (TooDeep (length ts))
   unfolding deep_at
   deep_yes ts b = rw b refl
@@ -181,7 +181,7 @@ module _ {A : Type 0} (k : Kind) (G : Lexeme → Form A) (s : Lexeme → Reader 
   }
 
 -- the kinds with which an expression begins
-abbrev pub opens_expr : Kind → Bool
+abbrev pub opens_expr : TokenKind → Bool
 opens_expr Kinds.Name = true
 opens_expr Kinds.OpenParenthesis = true
 opens_expr Kinds.OpenBracket = true
@@ -202,15 +202,15 @@ IsInside Closed (Inside G) None (Some s) = Unit {0}
 IsInside (Inside F) (Inside G) (Some r) (Some s) = (b : Bool) → IsUnary (F b) (G b) (r b) (s b)
 IsInside _ _ _ _ = ⊥
 
-pub line-opened : {A : Type 0} (k : Kind) (F : (Bool → Form ExpressionTree) → Lexeme → Form A) (r : (Bool → Reader ExpressionTree) → Lexeme → Reader A) (Stops : List Lexeme → Type 0)
+pub line-opened : {A : Type 0} (k : TokenKind) (F : (Bool → Form ExpressionTree) → Lexeme → Form A) (r : (Bool → Reader ExpressionTree) → Lexeme → Reader A) (Stops : List Lexeme → Type 0)
     → ((G G' : Bool → Form ExpressionTree) (s s' : Bool → Reader ExpressionTree) → ((b : Bool) → IsUnary (G b) (G' b) (s b) (s' b)) → (o : Lexeme) → Line (F G o) (F G' o) (r s o) (r s' o) Stops 0)
-    → (u u' : Inner) (v v' : Option (Bool → Reader ExpressionTree)) → IsInside u u' v v' → Line (opened k u F) (opened k u' F) (opened_at k v r) (opened_at k v' r) Stops 1
+    → (u u' : Inner) (v v' : Option (Bool → Reader ExpressionTree)) → IsInside u u' v v' → Line (form_after_token k u F) (form_after_token k u' F) (opened_at k v r) (opened_at k v' r) Stops 1
 unfolding opened_at
 line-opened k F r Stops f Closed (Inside G) None (Some s) h = line-deep k (F G) (r s) Stops
 line-opened k F r Stops f (Inside G) (Inside G') (Some s) (Some s') h =
     line-then (token k) (token k) (F G) (F G') (token_at k) (token_at k) (r s) (r s') Stops 1 0 (line-token k) (f G G' s s' h)
 line-opened k F r Stops f _ _ _ _ h = absurd h
 
-pub starts-opened : {A : Type 0} (k : Kind) (F : (Bool → Form ExpressionTree) → Lexeme → Form A) (u : Inner) → Starts (opened k u F) (λ l. is l k)
+pub starts-opened : {A : Type 0} (k : TokenKind) (F : (Bool → Form ExpressionTree) → Lexeme → Form A) (u : Inner) → Starts (form_after_token k u F) (λ l. is l k)
 starts-opened k F Closed = starts-never (λ l. is l k)
 starts-opened k F (Inside G) = starts-bind (token k) (F G) (λ l. is l k) (starts-token k)

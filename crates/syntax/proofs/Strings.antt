@@ -7,12 +7,12 @@ use Rattle.std.proofs.lemmas.Bool.{eqb-true, eq-eqb, cases_Bool, or_parts, or_fr
 use Rattle.std.proofs.lemmas.Bool.{cond-false}
 use Rattle.std.proofs.lemmas.List.{at_drop_more, drop_all, take-append-drop, length-take-le}
 use Rattle.std.proofs.Math.Seq.{get_or-append_seam}
-use Rattle.syntax.specs.declared.lexer.token.Kind.{Kind}
-use Rattle.syntax.specs.declared.lexer.token.Kind.TheVariants as Kinds
+use Rattle.syntax.specs.declared.lexer.token.TokenKind.{TokenKind}
+use Rattle.syntax.specs.declared.lexer.token.TokenKind.TheVariants as Kinds
 use Rattle.syntax.specs.lexer.Bytes.{quote, backslash, three_quotes, opens_raw}
 use Rattle.syntax.specs.lexer.Escapes.{is_bad_escape}
 use Rattle.syntax.specs.lexer.Kinds.{format_kind}
-use Rattle.syntax.specs.lexer.Lexing.{further, inside, before_quotes, string_of, string_at, formatted, format_at}
+use Rattle.syntax.specs.lexer.Lexing.{further, inside, before_quotes, string_of, string_at, format_symbol, format_at}
 use Rattle.syntax.specs.lexer.Tokens.{AreCharacters, no_more, plain, escaped, IsString, quoted, raw}
 use Rattle.syntax.proofs.Escapes.{bad_before}
 use Rattle.syntax.proofs.Escaping.{good_names, names_good}
@@ -142,17 +142,17 @@ quotes_complete (b ∷ text) rest each =
 
 -- ---- strings
 
-pub record IsStringFound (s : List ℕ) (k : Kind) (n : ℕ) : Type 0 where
+pub record IsStringFound (s : List ℕ) (k : TokenKind) (n : ℕ) : Type 0 where
   pub text : List ℕ
   pub rest : List ℕ
   pub parts : s ≡ text ++ rest
   pub size : n ≡ length text
   pub token : IsString k text rest
 
-string_of_some : (j k : Kind) (round : ℕ) (o : Option ℕ) (n : ℕ) → string_of j round o ≡ Some (k, n) → (m : ℕ) × (o ≡ Some m) × (j ≡ k) × (n ≡ m + round)
+string_of_some : (j k : TokenKind) (round : ℕ) (o : Option ℕ) (n : ℕ) → string_of j round o ≡ Some (k, n) → (m : ℕ) × (o ≡ Some m) × (j ≡ k) × (n ≡ m + round)
 string_of_some j k round None n e = absurd cc
 string_of_some j k round (Some m) n e =
-    let e' : ◌≡◌ {A = Kind × ℕ} (j, m + round) (k, n) = cc in (m, refl, ap (λ (p : Kind × ℕ). p.0) e', sym (ap (λ (p : Kind × ℕ). p.1) e'))
+    let e' : ◌≡◌ {A = TokenKind × ℕ} (j, m + round) (k, n) = cc in (m, refl, ap (λ (p : TokenKind × ℕ). p.0) e', sym (ap (λ (p : TokenKind × ℕ). p.1) e'))
 
 string_is_raw : (s : List ℕ) → opens_raw s ≡ true → string_at s ≡ string_of Kinds.RawString 6 (before_quotes (drop 3 s))
 unfolding string_at
@@ -162,7 +162,7 @@ string_is_quoted : (s : List ℕ) → opens_raw s ≡ false → string_at s ≡ 
 unfolding string_at
 string_is_quoted s e = cond-false (opens_raw s) _ _ e
 
-raw_sound : (more : List ℕ) (k : Kind) (n : ℕ) → string_at (three_quotes ++ more) ≡ Some (k, n) → IsStringFound (three_quotes ++ more) k n
+raw_sound : (more : List ℕ) (k : TokenKind) (n : ℕ) → string_at (three_quotes ++ more) ≡ Some (k, n) → IsStringFound (three_quotes ++ more) k n
 raw_sound more k n e =
     let w = string_of_some Kinds.RawString k 6 (before_quotes more) n (sym (string_is_raw (three_quotes ++ more) refl) ∙ e) in
     let m : ℕ = w.0 in
@@ -175,7 +175,7 @@ raw_sound more k n e =
       rest = h.1.0;
       parts = ap (λ (l : List ℕ). three_quotes ++ l) (parts ∙ sym (append_assoc within three_quotes h.1.0));
       size = omega (arith, w.3, length-append within three_quotes, length-take-le m more (took m more h.1.0 h.1.1));
-      token = subst (λ (j : Kind). IsString j (three_quotes ++ (within ++ three_quotes)) h.1.0) w.2 (raw within h.1.0 h.0);
+      token = subst (λ (j : TokenKind). IsString j (three_quotes ++ (within ++ three_quotes)) h.1.0) w.2 (raw within h.1.0 h.0);
     }
   where
     took : (m : ℕ) (s more : List ℕ) → drop m s ≡ three_quotes ++ more → m ≤ length s
@@ -183,7 +183,7 @@ raw_sound more k n e =
     took (suc m) [] more e = absurd cc
     took (suc m) (b ∷ s) more e = omega (arith, took m s more e)
 
-quoted_sound : (bs : List ℕ) (k : Kind) (n : ℕ) → opens_raw (quote ∷ bs) ≡ false → string_at (quote ∷ bs) ≡ Some (k, n) → IsStringFound (quote ∷ bs) k n
+quoted_sound : (bs : List ℕ) (k : TokenKind) (n : ℕ) → opens_raw (quote ∷ bs) ≡ false → string_at (quote ∷ bs) ≡ Some (k, n) → IsStringFound (quote ∷ bs) k n
 quoted_sound bs k n r e =
     let w = string_of_some Kinds.String k 2 (inside false bs) n (sym (string_is_quoted (quote ∷ bs) r) ∙ e) in
     let m : ℕ = w.0 in
@@ -196,7 +196,7 @@ quoted_sound bs k n r e =
       rest = h.1.0;
       parts = whole ∙ ap (λ (l : List ℕ). quote ∷ l) (sym (append_assoc within (quote ∷ []) h.1.0));
       size = omega (arith, w.3, length-append within (quote ∷ []), length-take-le m bs (took m bs h.1.0 h.1.1));
-      token = subst (λ (j : Kind). IsString j (quote ∷ (within ++ quote ∷ [])) h.1.0) w.2 (quoted within h.1.0 h.0 (ap opens_raw (sym whole) ∙ r));
+      token = subst (λ (j : TokenKind). IsString j (quote ∷ (within ++ quote ∷ [])) h.1.0) w.2 (quoted within h.1.0 h.0 (ap opens_raw (sym whole) ∙ r));
     }
   where
     took : (m : ℕ) (s more : List ℕ) → drop m s ≡ quote ∷ more → m ≤ length s
@@ -204,7 +204,7 @@ quoted_sound bs k n r e =
     took (suc m) [] more e = absurd cc
     took (suc m) (b ∷ s) more e = omega (arith, took m s more e)
 
-pub string_sound : (bs : List ℕ) (k : Kind) (n : ℕ) → string_at (quote ∷ bs) ≡ Some (k, n) → IsStringFound (quote ∷ bs) k n
+pub string_sound : (bs : List ℕ) (k : TokenKind) (n : ℕ) → string_at (quote ∷ bs) ≡ Some (k, n) → IsStringFound (quote ∷ bs) k n
 string_sound bs k n e = elim (cases_Bool (opens_raw (quote ∷ bs))) [
   | inl y ↦
       let w = raw_opens (quote ∷ bs) y in
@@ -212,12 +212,12 @@ string_sound bs k n e = elim (cases_Bool (opens_raw (quote ∷ bs))) [
   | inr x ↦ quoted_sound bs k n x e
 ]
 
-pub record IsQuoted (k : Kind) (text rest : List ℕ) : Type 0 where
+pub record IsQuoted (k : TokenKind) (text rest : List ℕ) : Type 0 where
   pub more : List ℕ
   pub whole : text ++ rest ≡ quote ∷ more
   pub found : string_at (quote ∷ more) ≡ Some (k, length text)
 
-pub string_complete : (k : Kind) (text rest : List ℕ) → IsString k text rest → IsQuoted k text rest
+pub string_complete : (k : TokenKind) (text rest : List ℕ) → IsString k text rest → IsQuoted k text rest
 string_complete _ _ _ (quoted within rest g r) =
     let e : (quote ∷ (within ++ quote ∷ [])) ++ rest ≡ quote ∷ (within ++ quote ∷ rest) = ap (λ (l : List ℕ). quote ∷ l) (append_assoc within (quote ∷ []) rest) in
     record {
@@ -236,7 +236,7 @@ string_complete _ _ _ (raw within rest each) =
     }
 
 -- a string ends with a quote
-pub string_split : (k : Kind) (text rest : List ℕ) → IsString k text rest → (front : List ℕ) × (text ≡ front ++ quote ∷ [])
+pub string_split : (k : TokenKind) (text rest : List ℕ) → IsString k text rest → (front : List ℕ) × (text ≡ front ++ quote ∷ [])
 string_split _ _ _ (quoted within rest g r) = (quote ∷ within, refl)
 string_split _ _ _ (raw within rest each) = (three_quotes ++ (within ++ quote ∷ quote ∷ []), ap (λ (l : List ℕ). three_quotes ++ l) (sym (append_assoc within (quote ∷ quote ∷ []) (quote ∷ []))))
 
@@ -320,13 +320,13 @@ string_quoted s n e f = string_is_quoted s e ∙ ap (string_of Kinds.String 2) (
 pub string_open : (s : List ℕ) → opens_raw s ≡ false → inside false (take (length s - 1) (drop 1 s)) ≡ None → string_at s ≡ None
 string_open s e f = string_is_quoted s e ∙ ap (string_of Kinds.String 2) (ap (inside false) (sym (rest_all s 1)) ∙ f)
 
-pub format_some : (s : List ℕ) (k : Kind) (n : ℕ) → string_at (take (length s - 1) (drop 1 s)) ≡ Some (k, n) → format_at s ≡ Some (format_kind k, n + 1)
+pub format_some : (s : List ℕ) (k : TokenKind) (n : ℕ) → string_at (take (length s - 1) (drop 1 s)) ≡ Some (k, n) → format_at s ≡ Some (format_kind k, n + 1)
 unfolding format_at
-format_some s k n e = ap formatted (ap string_at (sym (rest_all s 1)) ∙ e)
+format_some s k n e = ap format_symbol (ap string_at (sym (rest_all s 1)) ∙ e)
 
 pub format_none : (s : List ℕ) → string_at (take (length s - 1) (drop 1 s)) ≡ None → format_at s ≡ None
 unfolding format_at
-format_none s e = ap formatted (ap string_at (sym (rest_all s 1)) ∙ e)
+format_none s e = ap format_symbol (ap string_at (sym (rest_all s 1)) ∙ e)
 
 pub ruleset inside_steps = (inside_bad, inside_good, inside_more, inside_quote, inside_end)
 

@@ -3,7 +3,7 @@ use Rattle.std.proofs.Common.{◌≡◌, ℕ, ◌<◌, Bool, true, false, refl, 
 use Rattle.std.specs.Prelude.{◌==◌, if◌then◌else◌}
 use Rattle.std.specs.Char.{is_ascii_digit}
 use Rattle.std.proofs.lemmas.Bool.{eqb-true}
-use Rattle.syntax.specs.declared.lexer.token.Kind.{Kind}
+use Rattle.syntax.specs.declared.lexer.token.TokenKind.{TokenKind}
 use Rattle.syntax.specs.lexer.Bytes as byte
 use Rattle.syntax.specs.lexer.Bytes.{quote, is_letter}
 use Rattle.syntax.specs.lexer.Kinds.{single_kind, with_equals_kind}
@@ -22,7 +22,7 @@ IsApart a = (is_letter a ≡ false) × (is_ascii_digit a ≡ false) × ((a == qu
 at : (a b : ℕ) → (a == b) ≡ true → IsApart b → IsApart a
 at a b y h = subst IsApart (sym (eqb-true a b y)) h
 
-pub single_apart : (a : ℕ) (k : Kind) → single_kind a ≡ Some k → IsApart a
+pub single_apart : (a : ℕ) (k : TokenKind) → single_kind a ≡ Some k → IsApart a
 single_apart a k e =
     elim (peel (a == byte.open_parenthesis) _ _ k e) [
       | inl y ↦ at a byte.open_parenthesis y (refl, refl, refl, lit< tt)
@@ -102,7 +102,7 @@ single_apart a k e =
           ]
     ]
 
-pub equals_apart : (a : ℕ) (k : Kind) → with_equals_kind a ≡ Some k → IsApart a
+pub equals_apart : (a : ℕ) (k : TokenKind) → with_equals_kind a ≡ Some k → IsApart a
 equals_apart a k e =
     elim (peel (a == byte.equals) _ _ k e) [
       | inl y ↦ at a byte.equals y (refl, refl, refl, lit< tt)

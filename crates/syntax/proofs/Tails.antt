@@ -3,9 +3,9 @@ use Rattle.std.proofs.Common.{inl, inr, ◌≡◌, ℕ, zero, suc, ◌+◌, ◌-
 use Rattle.std.proofs.Common.{Result, Ok, Err, refl, sym, ap, ◌∙◌, arith, rules}
 use Rattle.std.proofs.lemmas.Grind.{common_steps}
 use Rattle.syntax.specs.declared.lexer.token.Token.{Token}
-use Rattle.syntax.specs.declared.lexer.token.Kind.{Kind}
-use Rattle.syntax.specs.declared.stop.Stop.{Stop}
-use Rattle.syntax.specs.declared.stop.Stop.TheVariants.{Unexpected}
+use Rattle.syntax.specs.declared.lexer.token.TokenKind.{TokenKind}
+use Rattle.syntax.specs.declared.stop.ParseStop.{ParseStop}
+use Rattle.syntax.specs.declared.stop.ParseStop.TheVariants.{Unexpected}
 use Rattle.syntax.specs.declared.stop.ReadError.{ReadError}
 use Rattle.syntax.specs.declared.stop.ReadError.TheVariants as errors
 use Rattle.syntax.specs.lexer.Kinds.{is}
@@ -26,7 +26,7 @@ pub length_lexemes : (ts : List Token) → length (lexemes ts) ≡ length ts
 length_lexemes [] = refl
 length_lexemes (t ∷ ts) = ap suc (length_lexemes ts)
 
-pub token_found : (k : Kind) (ts : List Token) (d : Token) → 1 ≤ length ts → is (get_or ts 0 d).kind k ≡ true → token_at k (lexemes ts) ≡ Ok (lexeme_of (get_or ts 0 d), lexemes (take (length ts - 1) (drop 1 ts)))
+pub token_found : (k : TokenKind) (ts : List Token) (d : Token) → 1 ≤ length ts → is (get_or ts 0 d).kind k ≡ true → token_at k (lexemes ts) ≡ Ok (lexeme_of (get_or ts 0 d), lexemes (take (length ts - 1) (drop 1 ts)))
 unfolding token_at
 token_found k [] d le e = absurd (omega arith)
 token_found k (t ∷ ts) d le e = rw e (ap (λ (us : List Token). Ok (lexeme_of t, lexemes us)) (sym (ap (λ (n : ℕ). take n ts) same_length ∙ take_all ts)))
@@ -34,29 +34,29 @@ token_found k (t ∷ ts) d le e = rw e (ap (λ (us : List Token). Ok (lexeme_of 
     same_length : length (t ∷ ts) - 1 ≡ length ts
     same_length = omega arith
 
-pub token_missing : (k : Kind) (ts : List Token) (d : Token) → 1 ≤ length ts → is (get_or ts 0 d).kind k ≡ false → token_at k (lexemes ts) ≡ Err (Unexpected (length ts))
+pub token_missing : (k : TokenKind) (ts : List Token) (d : Token) → 1 ≤ length ts → is (get_or ts 0 d).kind k ≡ false → token_at k (lexemes ts) ≡ Err (Unexpected (length ts))
 unfolding token_at
 token_missing k [] d le e = absurd (omega arith)
 token_missing k (t ∷ ts) d le e = rw e (ap (λ (n : ℕ). Err (Unexpected n)) (let q : length (lexemes ts) + 1 ≡ length (t ∷ ts) = omega (arith, length_lexemes ts) in q))
 
-pub token_end : (k : Kind) (ts : List Token) → length ts < 1 → token_at k (lexemes ts) ≡ Err (Unexpected (length ts))
+pub token_end : (k : TokenKind) (ts : List Token) → length ts < 1 → token_at k (lexemes ts) ≡ Err (Unexpected (length ts))
 unfolding token_at
 token_end k [] le = refl
 token_end k (t ∷ ts) le = absurd (omega arith)
 
 -- a token that was taken is the first
-pub first_taken : (k : Kind) (ts : List Lexeme) (t : Lexeme) (rest : List Lexeme) → token_at k ts ≡ Ok (t, rest) → token_at k ts ≡ Ok (first_of ts, rest)
+pub first_taken : (k : TokenKind) (ts : List Lexeme) (t : Lexeme) (rest : List Lexeme) → token_at k ts ≡ Ok (t, rest) → token_at k ts ≡ Ok (first_of ts, rest)
 unfolding token_at
 first_taken k [] t rest e = absurd cc
 first_taken k (u ∷ us) t rest e = elim (cases_bool (is u.kind k)) [
-  | inl y ↦ let same : ◌≡◌ {A = Result (Lexeme × List Lexeme) Stop} (Ok (u, us)) (Ok (t, rest)) = sym (rw y refl) ∙ e in
+  | inl y ↦ let same : ◌≡◌ {A = Result (Lexeme × List Lexeme) ParseStop} (Ok (u, us)) (Ok (t, rest)) = sym (rw y refl) ∙ e in
       rw y (ap (λ (l : List Lexeme). Ok (u, l)) (let pair : ◌≡◌ {A = Lexeme × List Lexeme} (u, us) (t, rest) = cc in ap (λ (q : Lexeme × List Lexeme). q.1) pair))
-  | inr n ↦ absurd (let no : ◌≡◌ {A = Result (Lexeme × List Lexeme) Stop} (Err (Unexpected (length us + 1))) (Ok (t, rest)) = sym (rw n refl) ∙ e in cc)
+  | inr n ↦ absurd (let no : ◌≡◌ {A = Result (Lexeme × List Lexeme) ParseStop} (Err (Unexpected (length us + 1))) (Ok (t, rest)) = sym (rw n refl) ∙ e in cc)
 ]
 
-pub fails_at : {Y : Type 0} (e : ReadError) (f : Stop) (read : Result Y Stop) → e ≡ errors.Stop f → read ≡ Err f → Fails e read
+pub fails_at : {Y : Type 0} (e : ReadError) (f : ParseStop) (read : Result Y ParseStop) → e ≡ errors.Stop f → read ≡ Err f → Fails e read
 fails_at errors.Memory f read e h = tt
-fails_at (errors.Stop g) f read e h = let same : g ≡ f = cc in h ∙ ap (λ (x : Stop). Err x) (sym same)
+fails_at (errors.Stop g) f read e h = let same : g ≡ f = cc in h ∙ ap (λ (x : ParseStop). Err x) (sym same)
 
 -- ---- all tokens
 

@@ -3,15 +3,15 @@ use Rattle.std.proofs.Common.{[], ◌≡◌, ℕ, ◌+◌, ◌≤◌, ◌<◌, B
 use Rattle.std.specs.Option.{option_to_list}
 use Rattle.syntax.specs.lexer.Lexeme.{Lexeme}
 use Rattle.syntax.specs.lexer.Kinds.{is}
-use Rattle.syntax.specs.declared.lexer.token.Kind.{Kind}
-use Rattle.syntax.specs.declared.lexer.token.Kind.TheVariants as Kinds
+use Rattle.syntax.specs.declared.lexer.token.TokenKind.{TokenKind}
+use Rattle.syntax.specs.declared.lexer.token.TokenKind.TheVariants as Kinds
 use Rattle.syntax.specs.declared.tree.Operator.{Operator}
 use Rattle.syntax.specs.declared.tree.Operator.TheVariants as operators
 use Rattle.syntax.specs.ExpressionTree.{ExpressionTree}
 use Rattle.syntax.specs.Form.{Form, token, give, ◌>>=◌}
 use Rattle.syntax.specs.Parts.{here, here_at, stands_for, token_as, token_as_at}
 use Rattle.syntax.specs.Expressions.{additive, comparative, conjunctive, disjunctive, multiplicative, chain, chain_tree, ternary_tree}
-use Rattle.syntax.specs.Expressions.{product, sum, comparison, conjunction, disjunction, compared, comparison_operator, not_in, branches}
+use Rattle.syntax.specs.Expressions.{product, sum, comparison, conjunction, disjunction, comparison_operand, comparison_operator, not_in, branches}
 use Rattle.syntax.specs.Expressions.{ternary}
 use Rattle.syntax.specs.Reading.{Reader, token_at}
 use Rattle.syntax.specs.ReadingExpressions.{asks, branches_at, ternary_at, compared_at, compares, comparison_at, comparison_operator_at}
@@ -28,7 +28,7 @@ use Rattle.syntax.proofs.Steps.{line-as, line-here, starts-as, starts-here}
 
 -- ---- comparisons
 
-compares_ends : (k : Kind) → 4 < binding k → compares k ≡ false
+compares_ends : (k : TokenKind) → 4 < binding k → compares k ≡ false
 compares_ends Kinds.Equal lt = absurd (omega arith)
 compares_ends Kinds.NotEqual lt = absurd (omega arith)
 compares_ends Kinds.Less lt = absurd (omega arith)
@@ -39,7 +39,7 @@ compares_ends Kinds.In lt = absurd (omega arith)
 compares_ends Kinds.Not lt = absurd (omega arith)
 compares_ends _ lt = refl
 
-compares_binds : (k : Kind) → compares k ≡ true → 4 ≤ binding k
+compares_binds : (k : TokenKind) → compares k ≡ true → 4 ≤ binding k
 compares_binds Kinds.Equal e = lit≤ tt
 compares_binds Kinds.NotEqual e = lit≤ tt
 compares_binds Kinds.Less e = lit≤ tt
@@ -50,14 +50,14 @@ compares_binds Kinds.In e = lit≤ tt
 compares_binds Kinds.Not e = lit≤ tt
 compares_binds _ e = absurd cc
 
-plain_compares : (k : Kind) → stands_for comparative k ≡ true → compares k ≡ true
+plain_compares : (k : TokenKind) → stands_for comparative k ≡ true → compares k ≡ true
 plain_compares Kinds.Not e = refl
 plain_compares k e = e
 
-kind_is : (q : Kind → Bool) (k : Kind) (b : Bool) → q k ≡ b → (l : Kind) → is l k ≡ true → q l ≡ b
+kind_is : (q : TokenKind → Bool) (k : TokenKind) (b : Bool) → q k ≡ b → (l : TokenKind) → is l k ≡ true → q l ≡ b
 kind_is q k b e l h = ap q (is-true l k h) ∙ e
 
-abbrev is_not : Kind → Bool
+abbrev is_not : TokenKind → Bool
 is_not l = is l Kinds.Not
 
 abbrev plain_comparison : Form Operator
@@ -97,7 +97,7 @@ module _ (F F' : Form ExpressionTree) (r r' : Reader ExpressionTree) (u : Line F
   unfolding sum_at
   line-sum = line-chain additive 3 2 rank-additive (lit≤ tt) (product F) (product F') (product_at r) (product_at r') line-product
 
-  line-compared : Line (compared (sum F)) (compared (sum F')) (compared_at (sum_at r)) (compared_at (sum_at r')) (After 3) 1
+  line-compared : Line (comparison_operand (sum F)) (comparison_operand (sum F')) (compared_at (sum_at r)) (compared_at (sum_at r')) (After 3) 1
   unfolding compared_at
   line-compared =
       line-stops _ _ _ _ (After 3) (After 3) 2 1 (λ ts st. st) (omega arith)
@@ -109,7 +109,7 @@ module _ (F F' : Form ExpressionTree) (r r' : Reader ExpressionTree) (u : Line F
   line-comparison =
       line-stops _ _ _ _ (After 4) (After 4) (0 + 1) 1 (λ ts st. st) (omega arith)
       (line-then here here _ _ here_at here_at _ _ (After 4) 0 1 line-here
-      (λ line. line-then-optional (compared (sum F)) (compared (sum F')) (compared_at (sum_at r)) (compared_at (sum_at r')) compares (After 3)
+      (λ line. line-then-optional (comparison_operand (sum F)) (comparison_operand (sum F')) (compared_at (sum_at r)) (compared_at (sum_at r')) compares (After 3)
       (starts-bind comparison_operator _ compares starts-comparison-operator) line-compared (sum F) (sum F') (sum_at r) (sum_at r') (After 3) (After 4) line-sum
       (λ ts h. let a = head_binds compares 3 (λ k e. compares_binds k e) ts h in (a, a))
       (λ ts st. (head_ends compares 4 compares_ends ts st, after_less 4 3 (lit≤ tt) ts st, after_less 4 3 (lit≤ tt) ts st))
@@ -123,14 +123,14 @@ module _ (F F' : Form ExpressionTree) (r r' : Reader ExpressionTree) (u : Line F
   unfolding disjunction_at
   line-disjunction = line-chain disjunctive 6 5 rank-disjunctive (lit≤ tt) (conjunction F) (conjunction F') (conjunction_at r) (conjunction_at r') line-conjunction
 
-starts-disjunction : (F : Form ExpressionTree) (p : Kind → Bool) → Starts F p → Starts (disjunction F) p
+starts-disjunction : (F : Form ExpressionTree) (p : TokenKind → Bool) → Starts F p → Starts (disjunction F) p
 starts-disjunction F p s =
     starts-here _ p (λ l. starts-bind (conjunction F) _ p (starts-here _ p (λ l. starts-bind (comparison F) _ p (starts-here _ p (λ l. starts-bind (sum F) _ p (starts-here _ p (λ l. starts-bind (product F) _ p (starts-here _ p (λ l. starts-bind F _ p s)))))))))
 
 -- ---- ternaries
 
 -- a part that ends where a token of this kind comes
-pub line-before : {A B : Type 0} (k : Kind) (rank : ℕ) (F F' : Form A) (G G' : A → Lexeme → Form B) (r r' : Reader A) (s s' : A → Lexeme → Reader B) (StopsG : List Lexeme → Type 0) → rank < binding k → Line F F' r r' (After rank) 1
+pub line-before : {A B : Type 0} (k : TokenKind) (rank : ℕ) (F F' : Form A) (G G' : A → Lexeme → Form B) (r r' : Reader A) (s s' : A → Lexeme → Reader B) (StopsG : List Lexeme → Type 0) → rank < binding k → Line F F' r r' (After rank) 1
     → ((a : A) (t : Lexeme) → Line (G a t) (G' a t) (s a t) (s' a t) StopsG 0)
     → Line (F >>= λ a. token k >>= G a) (F' >>= λ a. token k >>= G' a) (bind_at r (λ a. bind_at (token_at k) (s a))) (bind_at r' (λ a. bind_at (token_at k) (s' a))) StopsG 1
 line-before k rank F F' G G' r r' s s' StopsG lt f g =
@@ -149,7 +149,7 @@ module _ (P P' : Form ExpressionTree) (q q' : Reader ExpressionTree) (part : Lin
       (λ t. line-before Kinds.Colon 6 P P' (λ one c. P >>= λ other. give (one, other)) (λ one c. P' >>= λ other. give (one, other)) q q' (λ one c. bind_at q (λ other. give_at (one, other))) (λ one c. bind_at q' (λ other. give_at (one, other))) (After 6) (lit≤ tt) part
       (λ one c. line-stops _ _ _ _ (After 6) (After 6) 1 0 (λ ts st. st) (omega arith) (line-map P P' (λ other. (one, other)) q q' (After 6) 1 part))))
 
-asks_ends : (k : Kind) → 7 < binding k → asks k ≡ false
+asks_ends : (k : TokenKind) → 7 < binding k → asks k ≡ false
 asks_ends Kinds.Question lt = absurd (omega arith)
 asks_ends _ lt = refl
 
@@ -168,13 +168,13 @@ module _ (U U' : Bool → Form ExpressionTree) (v v' : Bool → Reader Expressio
       (λ ts st. (head_ends asks 7 asks_ends ts st, after_less 7 6 (lit≤ tt) ts st, after_less 7 6 (lit≤ tt) ts st))
       (ternary_tree line)))
 
-pub starts-ternary : (U : Bool → Form ExpressionTree) (p : Kind → Bool) → ((b : Bool) → Starts (U b) p) → (b : Bool) → Starts (ternary U b) p
+pub starts-ternary : (U : Bool → Form ExpressionTree) (p : TokenKind → Bool) → ((b : Bool) → Starts (U b) p) → (b : Bool) → Starts (ternary U b) p
 starts-ternary U p s false = starts-disjunction (U false) p (s false)
 starts-ternary U p s true = starts-here _ p (λ l. starts-bind (disjunction (U true)) _ p (starts-disjunction (U true) p (s true)))
 
 -- ---- a name alone
 
-single_chain : (f : Kind → Option Operator) (F : Form ExpressionTree) (a : ExpressionTree) (ts rest : List Lexeme) → F.spells a ts rest → (chain f F).spells a ts rest
+single_chain : (f : TokenKind → Option Operator) (F : Form ExpressionTree) (a : ExpressionTree) (ts rest : List Lexeme) → F.spells a ts rest → (chain f F).spells a ts rest
 single_chain f F a ts rest h = (_, ts, (refl, refl), (a, rest, h, ([], rest, refl, (refl, refl))))
 
 single_disjunction : (F : Form ExpressionTree) (a : ExpressionTree) (ts rest : List Lexeme) → F.spells a ts rest → (disjunction F).spells a ts rest

@@ -10,10 +10,10 @@ use Rattle.std.proofs.lemmas.Bool.Decides.{nat_tests}
 use Rattle.std.proofs.lemmas.List.{take-append-drop, append-nil, take_all, drop_all}
 use Rattle.std.proofs.lemmas.Str.{IsCharBoundary-after_ascii, IsCharBoundary-before_ascii, IsCharBoundary-end, IsCharBoundary-start}
 use Rattle.syntax.specs.lexer.Bytes.{backslash}
-use Rattle.syntax.specs.lexer.Escapes.{digit_count, control, hexadecimal, octal, sized, named, escape_at, is_character}
-use Rattle.syntax.specs.lexer.Lexing.{run}
+use Rattle.syntax.specs.lexer.Escapes.{digit_count, control, hexadecimal, octal, escape_of_size, named_escape, escape_at, is_character}
+use Rattle.syntax.specs.lexer.Lexing.{run_length}
 use Rattle.syntax.specs.lexer.Numbers.{is_octal_digit}
-use Rattle.syntax.specs.lexer.Texts.{character, escaped_by, is_no_backslash, unescaped_behind, unescaped}
+use Rattle.syntax.specs.lexer.Texts.{character, escaped_by, is_no_backslash, unescaped_behind, unescaped_text}
 use Rattle.syntax.proofs.Runs.{run_step, run_stop, run_le, run_all, all_first}
 
 -- ---- what a backslash stands for
@@ -77,7 +77,7 @@ octal_ends (suc n) value size (b ∷ s) = elim (cases_Bool (is_octal_digit b)) [
       (0, omega (arith, ap (λ (p : ℕ × ℕ). p.1) e), ends_none (b ∷ s))
 ]
 
-pub sized_some : (n : ℕ) (o : Option ℕ) (code size : ℕ) → sized n o ≡ Some (code, size) → (o ≡ Some code) × (n ≡ size)
+pub sized_some : (n : ℕ) (o : Option ℕ) (code size : ℕ) → escape_of_size n o ≡ Some (code, size) → (o ≡ Some code) × (n ≡ size)
 sized_some n None code size e = absurd cc
 sized_some n (Some c) code size e = let p : ◌≡◌ {A = ℕ × ℕ} (c, n) (code, size) = cc in (ap (λ (q : ℕ × ℕ). Some q.0) p, ap (λ (q : ℕ × ℕ). q.1) p)
 
@@ -87,7 +87,7 @@ control_ascii b code e = grind (arith, nat_tests)
 digits_ascii : (b n : ℕ) → digit_count b ≡ Some n → b < 128
 digits_ascii b n e = grind (arith, nat_tests)
 
-named_ends : (b : ℕ) (o : Option ℕ) (s : List ℕ) (code size : ℕ) → digit_count b ≡ o → named b o s ≡ Some (code, size) → Ends (b ∷ s) size
+named_ends : (b : ℕ) (o : Option ℕ) (s : List ℕ) (code size : ℕ) → digit_count b ≡ o → named_escape b o s ≡ Some (code, size) → Ends (b ∷ s) size
 named_ends b None s code size d e =
     let w = sized_some 1 (control b) code size e in
     subst (Ends (b ∷ s)) w.1 (ends_more b s 0 (control_ascii b code w.0) (ends_none s))
@@ -129,7 +129,7 @@ escape_boundary s (suc n) utf8 e =
     (IsCharBoundary-after_ascii s n utf8 (omega (arith, w.within)) (subst (λ (m : ℕ). get_or s m 0 < 128) (let q : suc n - 1 ≡ n = omega arith in q) (w.last (omega arith))))
 
 -- what comes behind the bytes that stand for themselves
-pub stops_at : (s : List ℕ) → 0 < length (drop (run is_no_backslash s) s) → get_or (drop (run is_no_backslash s) s) 0 0 ≡ backslash
+pub stops_at : (s : List ℕ) → 0 < length (drop (run_length is_no_backslash s) s) → get_or (drop (run_length is_no_backslash s) s) 0 0 ≡ backslash
 stops_at [] lt = absurd (omega arith)
 stops_at (b ∷ s) lt = elim (cases_Bool (is_no_backslash b)) [
   | inl y ↦
@@ -142,7 +142,7 @@ stops_at (b ∷ s) lt = elim (cases_Bool (is_no_backslash b)) [
     twice true e = refl
     twice false e = absurd cc
 
-pub plain_boundary : (s : List ℕ) (n : ℕ) → IsUtf8 s → n ≡ run is_no_backslash s → IsCharBoundary s n
+pub plain_boundary : (s : List ℕ) (n : ℕ) → IsUtf8 s → n ≡ run_length is_no_backslash s → IsCharBoundary s n
 plain_boundary s n utf8 e = go (drop n s) refl
   where
     get_first : (s : List ℕ) (n b : ℕ) (more : List ℕ) → drop n s ≡ b ∷ more → get_or s n 0 ≡ b
@@ -169,7 +169,7 @@ skipped_is zero s = refl
 skipped_is (suc n) [] = refl
 skipped_is (suc n) (b ∷ s) = skipped_is n s
 
-split_plain : (rest : List ℕ) (n : ℕ) → n ≡ run is_no_backslash rest → unescaped_behind 0 rest ≡ take n rest ++ unescaped_behind 0 (drop n rest)
+split_plain : (rest : List ℕ) (n : ℕ) → n ≡ run_length is_no_backslash rest → unescaped_behind 0 rest ≡ take n rest ++ unescaped_behind 0 (drop n rest)
 split_plain rest n e =
     ap (unescaped_behind 0) (sym (take-append-drop n rest))
     ∙ plain_is (take n rest) (drop n rest) (subst (λ (m : ℕ). list_all is_no_backslash (take m rest) ≡ true) (sym e) (run_all is_no_backslash rest))
@@ -182,14 +182,14 @@ marked_is (b ∷ s) lt e =
 
 -- The text is what was made of the bytes before `rest`, and what `rest` stands for.
 abbrev pub StillUnescapes : List ℕ → List ℕ → List ℕ → Type 0
-StillUnescapes text whole rest = whole ++ unescaped_behind 0 rest ≡ unescaped text
+StillUnescapes text whole rest = whole ++ unescaped_behind 0 rest ≡ unescaped_text text
 
 pub still_first : (text : List ℕ) → StillUnescapes text [] text
-unfolding unescaped
+unfolding unescaped_text
 still_first text = refl
 
-pub still_end : (text whole rest plain marked : List ℕ) (n : ℕ) → StillUnescapes text whole rest → n ≡ run is_no_backslash rest → plain ≡ take n rest → marked ≡ drop n rest → length marked ≡ 0
-    → whole ++ plain ≡ unescaped text
+pub still_end : (text whole rest plain marked : List ℕ) (n : ℕ) → StillUnescapes text whole rest → n ≡ run_length is_no_backslash rest → plain ≡ take n rest → marked ≡ drop n rest → length marked ≡ 0
+    → whole ++ plain ≡ unescaped_text text
 still_end text whole rest plain marked n still size plain_is marked_is none =
     let nothing : drop n rest ≡ [] = sym marked_is ∙ empty marked none in
     let all : unescaped_behind 0 rest ≡ plain = split_plain rest n size ∙ ap (λ (l : List ℕ). take n rest ++ unescaped_behind 0 l) nothing ∙ append-nil (take n rest) ∙ sym plain_is in
@@ -200,12 +200,12 @@ still_end text whole rest plain marked n still size plain_is marked_is none =
     empty (b ∷ s) e = absurd (omega arith)
 
 -- a text without a backslash stands for itself
-pub plain_whole : (text : List ℕ) → run is_no_backslash text ≡ length text → text ≡ unescaped text
+pub plain_whole : (text : List ℕ) → run_length is_no_backslash text ≡ length text → text ≡ unescaped_text text
 plain_whole text all =
     still_end text [] text text [] (length text) (still_first text) (sym all) (sym (take_all (length text) text (omega arith)))
     (sym (drop_all (length text) text (omega arith))) refl
 
-pub still_more : (text whole rest plain marked behind after : List ℕ) (c size n : ℕ) → StillUnescapes text whole rest → n ≡ run is_no_backslash rest → plain ≡ take n rest → marked ≡ drop n rest → (length marked ≡ 0 → ⊥)
+pub still_more : (text whole rest plain marked behind after : List ℕ) (c size n : ℕ) → StillUnescapes text whole rest → n ≡ run_length is_no_backslash rest → plain ≡ take n rest → marked ≡ drop n rest → (length marked ≡ 0 → ⊥)
     → behind ≡ drop 1 marked → (c, size) ≡ escaped_by behind → after ≡ drop size behind → StillUnescapes text ((whole ++ plain) ++ encode_utf8 c) after
 still_more text whole rest plain marked behind after c size n still run_is plain_is_ marked_at some behind_is escape after_is =
     let first : get_or marked 0 0 ≡ backslash =
@@ -218,7 +218,7 @@ still_more text whole rest plain marked behind after c size n still run_is plain
     split_plain rest n run_is ∙ ap (λ (l : List ℕ). l ++ unescaped_behind 0 (drop n rest)) (sym plain_is_) ∙ ap (λ (l : List ℕ). plain ++ unescaped_behind 0 l) (sym marked_at) ∙ ap (λ (l : List ℕ). plain ++ l) made in
     append_assoc (whole ++ plain) (encode_utf8 c) (unescaped_behind 0 after) ∙ append_assoc whole plain (encode_utf8 c ++ unescaped_behind 0 after) ∙ ap (λ (l : List ℕ). whole ++ l) (sym all) ∙ still
 
-pub behind_boundary : (marked rest : List ℕ) (n : ℕ) → IsUtf8 marked → marked ≡ drop n rest → n ≡ run is_no_backslash rest → (length marked ≡ 0 → ⊥) → IsCharBoundary marked 1
+pub behind_boundary : (marked rest : List ℕ) (n : ℕ) → IsUtf8 marked → marked ≡ drop n rest → n ≡ run_length is_no_backslash rest → (length marked ≡ 0 → ⊥) → IsCharBoundary marked 1
 behind_boundary marked rest n utf8 marked_at run_is some =
     let first : get_or marked 0 0 ≡ backslash =
     ap (λ (l : List ℕ). get_or l 0 0) marked_at ∙ ap (λ (m : ℕ). get_or (drop m rest) 0 0) run_is

@@ -2,8 +2,8 @@
 use Rattle.std.proofs.Common.{◌≡◌, ℕ, zero, suc, ◌+◌, ◌-◌, ◌≤◌, ◌<◌, List, [], ◌∷◌, length, drop, Result, Ok, Err, refl, sym, ap, subst}
 use Rattle.std.proofs.Common.{◌∙◌, inl, inr, arith, length-drop, length-append}
 use Rattle.syntax.specs.lexer.Lexeme.{Lexeme}
-use Rattle.syntax.specs.declared.stop.Stop.{Stop}
-use Rattle.syntax.specs.declared.stop.Stop.TheVariants.{Unexpected, TooDeep}
+use Rattle.syntax.specs.declared.stop.ParseStop.{ParseStop}
+use Rattle.syntax.specs.declared.stop.ParseStop.TheVariants.{Unexpected, TooDeep}
 use Rattle.syntax.specs.Form.{Form}
 use Rattle.syntax.specs.Reading.{Reader, all_of, ends_at, tokens_left}
 use Rattle.syntax.specs.Outcome.{BeginsBy, IsUnexpected, IsTooDeep}
@@ -53,10 +53,10 @@ module _ {A : Type 0} (F : ℕ → Form A) (r : ℕ → Reader A) (Stops : List 
   -- ---- all tokens
 
   ends_ok : (x : A × List Lexeme) (a : A) → ends_at x ≡ Ok a → (x.0 ≡ a) × (x.1 ≡ [])
-  ends_ok (b, []) a e = (let e' : ◌≡◌ {A = Result A Stop} (Ok b) (Ok a) = e in cc, refl)
+  ends_ok (b, []) a e = (let e' : ◌≡◌ {A = Result A ParseStop} (Ok b) (Ok a) = e in cc, refl)
   ends_ok (b, t ∷ ts) a e = absurd cc
 
-  ends_err : (x : A × List Lexeme) (f : Stop) → ends_at x ≡ Err f → (f ≡ Unexpected (length x.1)) × (0 < length x.1)
+  ends_err : (x : A × List Lexeme) (f : ParseStop) → ends_at x ≡ Err f → (f ≡ Unexpected (length x.1)) × (0 < length x.1)
   ends_err (b, []) f e = absurd cc
   ends_err (b, t ∷ ts) f e = (let q : length ts + 1 ≡ suc (length ts) = omega arith in cc, omega arith)
 
@@ -72,7 +72,7 @@ module _ {A : Type 0} (F : ℕ → Form A) (r : ℕ → Reader A) (Stops : List 
   unfolding all_of
   all_complete n ts a h = rw ((reads n).complete a ts [] h stops_end) refl
 
-  pub all_left_le : (n : ℕ) (ts : List Lexeme) (f : Stop) → all_of (r n) ts ≡ Err f → tokens_left f ≤ length ts
+  pub all_left_le : (n : ℕ) (ts : List Lexeme) (f : ParseStop) → all_of (r n) ts ≡ Err f → tokens_left f ≤ length ts
   unfolding all_of
   all_left_le n ts f e =
       let le = (reads n).reaches ts ts ((isF n).nothing ts) in
@@ -89,7 +89,7 @@ module _ {A : Type 0} (F : ℕ → Form A) (r : ℕ → Reader A) (Stops : List 
       let e2 = complete_any n m b ts flat g in
       ok_same a b (sym e1 ∙ e2)
     where
-      ok_same : (a b : A) → ◌≡◌ {A = Result (A × List Lexeme) Stop} (Ok (a, [])) (Ok (b, [])) → a ≡ b
+      ok_same : (a b : A) → ◌≡◌ {A = Result (A × List Lexeme) ParseStop} (Ok (a, [])) (Ok (b, [])) → a ≡ b
       ok_same a b e = let e' : ◌≡◌ {A = A × List Lexeme} (a, []) (b, []) = cc in ap (λ (q : A × List Lexeme). q.0) e'
 
   -- where reading stops, of a reading that is not too deep

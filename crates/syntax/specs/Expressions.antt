@@ -3,8 +3,8 @@
 use Rattle.std.specs.Prelude.{ℕ, zero, suc, Bool, true, false, List, [], ◌∷◌, Option, Some, None}
 use Rattle.std.specs.Option.{is_some, option_to_list}
 use Rattle.syntax.specs.lexer.Lexeme.{Lexeme}
-use Rattle.syntax.specs.declared.lexer.token.Kind.{Kind}
-use Rattle.syntax.specs.declared.lexer.token.Kind.TheVariants as Kinds
+use Rattle.syntax.specs.declared.lexer.token.TokenKind.{TokenKind}
+use Rattle.syntax.specs.declared.lexer.token.TokenKind.TheVariants as Kinds
 use Rattle.syntax.specs.declared.tree.Literal.{Literal}
 use Rattle.syntax.specs.declared.tree.Literal.TheVariants as literals
 use Rattle.syntax.specs.declared.tree.Operator.{Operator}
@@ -14,13 +14,13 @@ use Rattle.syntax.specs.declared.tree.Prefix.TheVariants as prefixes
 use Rattle.syntax.specs.ExpressionTree.{ExpressionTree, NameTree, LiteralTree, ListTree, DictionaryTree, FunctionTree, PostfixTree}
 use Rattle.syntax.specs.ExpressionTree.{PrefixTree, ChainTree, TernaryTree, ArgumentTree, EntryTree, LinkTree, MethodTree, IndexTree}
 use Rattle.syntax.specs.ExpressionTree.{OperandTree, arguments, entries, expressions, links, operands}
-use Rattle.syntax.specs.Form.{Form, token, give, ◌>>=◌, ◌or◌, many, optional, listed, listed_by}
-use Rattle.syntax.specs.Parts.{Inner, Closed, Inside, here, opened, token_as}
+use Rattle.syntax.specs.Form.{Form, token, give, ◌>>=◌, ◌or◌, many, optional, list_form, listed_by}
+use Rattle.syntax.specs.Parts.{Inner, Closed, Inside, here, form_after_token, token_as}
 
 -- ---- what tokens mean
 
--- NUMBER, STRING, "true" and "false"
-abbrev pub literal_of : Kind → Option Literal
+-- Returns the kind of literal that a token is (a number, a string, `true` or `false`), and none for any other token.
+abbrev pub literal_of : TokenKind → Option Literal
 literal_of Kinds.True = Some literals.True
 literal_of Kinds.False = Some literals.False
 literal_of Kinds.Number = Some literals.Number
@@ -30,15 +30,18 @@ literal_of Kinds.FormatString = Some literals.FormatString
 literal_of Kinds.RawFormatString = Some literals.RawFormatString
 literal_of _ = None
 
-abbrev pub disjunctive : Kind → Option Operator
+-- Returns the operator `or` for the token `or`, and none for any other token.
+abbrev pub disjunctive : TokenKind → Option Operator
 disjunctive Kinds.Or = Some operators.Or
 disjunctive _ = None
 
-abbrev pub conjunctive : Kind → Option Operator
+-- Returns the operator `and` for the token `and`, and none for any other token.
+abbrev pub conjunctive : TokenKind → Option Operator
 conjunctive Kinds.And = Some operators.And
 conjunctive _ = None
 
-abbrev pub comparative : Kind → Option Operator
+-- Returns the comparison operator that one token spells, and none for any other token. `not in`, of two tokens, is not among them.
+abbrev pub comparative : TokenKind → Option Operator
 comparative Kinds.Equal = Some operators.Equal
 comparative Kinds.NotEqual = Some operators.NotEqual
 comparative Kinds.Less = Some operators.Less
@@ -48,12 +51,14 @@ comparative Kinds.GreaterOrEqual = Some operators.GreaterOrEqual
 comparative Kinds.In = Some operators.In
 comparative _ = None
 
-abbrev pub additive : Kind → Option Operator
+-- Returns the operator of `+` or `-`, and none for any other token.
+abbrev pub additive : TokenKind → Option Operator
 additive Kinds.Plus = Some operators.Add
 additive Kinds.Minus = Some operators.Subtract
 additive _ = None
 
-abbrev pub multiplicative : Kind → Option Operator
+-- Returns the operator of `*`, `/` or `%`, and none for any other token.
+abbrev pub multiplicative : TokenKind → Option Operator
 multiplicative Kinds.Times = Some operators.Multiply
 multiplicative Kinds.Divide = Some operators.Divide
 multiplicative Kinds.Remainder = Some operators.Remainder
@@ -66,62 +71,62 @@ abbrev pub chain_tree : ℕ → ExpressionTree → List OperandTree → Expressi
 chain_tree line first [] = first
 chain_tree line first (o ∷ os) = ChainTree first (operands (o ∷ os)) line
 
--- OPERATOR part
-abbrev pub operand : (Kind → Option Operator) → Form ExpressionTree → Form OperandTree
+-- Spells an operand of a chain: OPERATOR part. `f` says which tokens are operators.
+abbrev pub operand : (TokenKind → Option Operator) → Form ExpressionTree → Form OperandTree
 operand f part = do
   o ← token_as f
   e ← part
   give (o.0, e)
 
--- part {OPERATOR part}
-abbrev pub chain : (Kind → Option Operator) → Form ExpressionTree → Form ExpressionTree
+-- Spells a chain of values with operators of one precedence between them: part {OPERATOR part}
+abbrev pub chain : (TokenKind → Option Operator) → Form ExpressionTree → Form ExpressionTree
 chain f part = do
   line ← here
   first ← part
   others ← many (operand f part)
   give (chain_tree line first others)
 
--- "not" "in"
+-- Spells the operator of two words: "not" "in"
 abbrev pub not_in : Form Operator
 not_in = do
   n ← token Kinds.Not
   i ← token Kinds.In
   give operators.NotIn
 
--- CMPOP = "==" | "!=" | "<" | "<=" | ">" | ">=" | "in" | "not" "in"
+-- Spells a comparison operator: CMPOP = "==" | "!=" | "<" | "<=" | ">" | ">=" | "in" | "not" "in"
 abbrev pub comparison_operator : Form Operator
 comparison_operator = (token_as comparative >>= λ o. give o.0) or not_in
 
--- CMPOP part
-abbrev pub compared : Form ExpressionTree → Form OperandTree
-compared part = do
+-- Spells a comparison operator and the value after it: CMPOP part
+abbrev pub comparison_operand : Form ExpressionTree → Form OperandTree
+comparison_operand part = do
   o ← comparison_operator
   e ← part
   give (o, e)
 
 -- ---- the lines of the grammar, over the unary expressions
 
--- prod = unary {("*"|"/"|"%") unary}
+-- Spells a product: prod = unary {("*"|"/"|"%") unary}
 abbrev pub product : Form ExpressionTree → Form ExpressionTree
 product unary = chain multiplicative unary
 
--- sum = prod {("+"|"-") prod}
+-- Spells a sum: sum = prod {("+"|"-") prod}
 abbrev pub sum : Form ExpressionTree → Form ExpressionTree
 sum unary = chain additive (product unary)
 
--- cmp = sum [CMPOP sum]
+-- Spells a comparison, of at most one operator: cmp = sum [CMPOP sum]
 abbrev pub comparison : Form ExpressionTree → Form ExpressionTree
 comparison unary = do
   line ← here
   first ← sum unary
-  second ← optional (compared (sum unary))
+  second ← optional (comparison_operand (sum unary))
   give (chain_tree line first (option_to_list second))
 
--- and = cmp {"and" cmp}
+-- Spells a conjunction: and = cmp {"and" cmp}
 abbrev pub conjunction : Form ExpressionTree → Form ExpressionTree
 conjunction unary = chain conjunctive (comparison unary)
 
--- or = and {"or" and}
+-- Spells a disjunction: or = and {"or" and}
 abbrev pub disjunction : Form ExpressionTree → Form ExpressionTree
 disjunction unary = chain disjunctive (conjunction unary)
 
@@ -130,7 +135,7 @@ abbrev pub ternary_tree : ℕ → ExpressionTree → Option (ExpressionTree × E
 ternary_tree line test None = test
 ternary_tree line test (Some x) = TernaryTree test x.0 x.1 line
 
--- "?" or ":" or
+-- Spells the branches of a ternary: "?" or ":" or
 abbrev pub branches : Form ExpressionTree → Form (ExpressionTree × ExpressionTree)
 branches part = do
   q ← token Kinds.Question
@@ -139,7 +144,7 @@ branches part = do
   other ← part
   give (one, other)
 
--- expr = or ["?" or ":" or], where the branches hold no other ternary, in brackets or not
+-- Spells an expression: expr = or ["?" or ":" or]. The branches hold no other ternary, in brackets or not.
 abbrev pub ternary : (Bool → Form ExpressionTree) → Bool → Form ExpressionTree
 ternary unary false = disjunction (unary false)
 ternary unary true = do
@@ -150,33 +155,33 @@ ternary unary true = do
 
 -- ---- atoms
 
--- NAME
+-- Spells a name: NAME
 abbrev pub name : Form ExpressionTree
 name = do
   t ← token Kinds.Name
   give (NameTree t.text t.line)
 
--- NUMBER | STRING | "true" | "false"
+-- Spells a literal: NUMBER | STRING | "true" | "false"
 abbrev pub literal : Form ExpressionTree
 literal = do
   t ← token_as literal_of
   give (LiteralTree t.0 t.1.text t.1.line)
 
--- expr ")"
+-- Spells the rest of an expression in parentheses, after the opening one: expr ")"
 abbrev pub group : (Bool → Form ExpressionTree) → Bool → Lexeme → Form ExpressionTree
 group unary b o = do
   e ← ternary unary b
   c ← token Kinds.CloseParenthesis
   give e
 
--- [expr {"," expr} [","]] "]"
+-- Spells the rest of a list, after the bracket `o`: [expr {"," expr} [","]] "]"
 abbrev pub list : (Bool → Form ExpressionTree) → Bool → Lexeme → Form ExpressionTree
 list unary b o = do
-  es ← listed (ternary unary b)
+  es ← list_form (ternary unary b)
   c ← token Kinds.CloseBracket
   give (ListTree (expressions es) o.line)
 
--- expr ":" expr
+-- Spells an entry of a dictionary: expr ":" expr
 abbrev pub entry : Form ExpressionTree → Form EntryTree
 entry expr = do
   k ← expr
@@ -184,59 +189,59 @@ entry expr = do
   v ← expr
   give (k, v)
 
--- [expr ":" expr {"," expr ":" expr} [","]] "}"
+-- Spells the rest of a dictionary, after the brace `o`: [expr ":" expr {"," expr ":" expr} [","]] "}"
 abbrev pub dictionary : (Bool → Form ExpressionTree) → Bool → Lexeme → Form ExpressionTree
 dictionary unary b o = do
-  es ← listed (entry (ternary unary b))
+  es ← list_form (entry (ternary unary b))
   c ← token Kinds.CloseBrace
   give (DictionaryTree (entries es) o.line)
 
--- atom = NAME | "(" expr ")" | "[" .. "]" | "{" .. "}" | NUMBER | STRING | "true" | "false"
+-- Spells an atom: atom = NAME | "(" expr ")" | "[" .. "]" | "{" .. "}" | NUMBER | STRING | "true" | "false"
 abbrev pub atom : Inner → Bool → Form ExpressionTree
 atom u b =
     name
-    or (opened Kinds.OpenParenthesis u (λ e. group e b)
-    or (opened Kinds.OpenBracket u (λ e. list e b)
-    or (opened Kinds.OpenBrace u (λ e. dictionary e b)
+    or (form_after_token Kinds.OpenParenthesis u (λ e. group e b)
+    or (form_after_token Kinds.OpenBracket u (λ e. list e b)
+    or (form_after_token Kinds.OpenBrace u (λ e. dictionary e b)
     or literal)))
 
 -- ---- arguments
 
--- NAME ":" expr
-abbrev pub named : Form ExpressionTree → Form ArgumentTree
-named expr = do
+-- Spells an argument with a name: NAME ":" expr
+abbrev pub keyword_argument : Form ExpressionTree → Form ArgumentTree
+keyword_argument expr = do
   t ← token Kinds.Name
   c ← token Kinds.Colon
   e ← expr
   give (Some t.text, e)
 
--- expr
+-- Spells an argument without a name: expr
 abbrev pub positional : Form ExpressionTree → Form ArgumentTree
 positional expr = do
   e ← expr
   give (None, e)
 
--- item = expr | NAME ":" expr, and after a named item only named ones
+-- Spells an argument: item = expr | NAME ":" expr. If the argument before it has a name (`true`), it needs one too.
 abbrev pub argument : Form ExpressionTree → Bool → Form ArgumentTree
-argument expr true = named expr
-argument expr false = named expr or positional expr
+argument expr true = keyword_argument expr
+argument expr false = keyword_argument expr or positional expr
 
--- Returns whether an argument has a name.
+-- Returns whether an argument has a name. `before`, whether the argument before it has one, is not used.
 abbrev pub is_named : Bool → ArgumentTree → Bool
 is_named before a = is_some a.0
 
--- args ")", where args = [item {"," item} [","]]
+-- Spells the rest of a call's arguments, after the opening parenthesis: args ")", where args = [item {"," item} [","]]
 abbrev pub items : (Bool → Form ExpressionTree) → Bool → Lexeme → Form (List ArgumentTree)
 items unary b o = do
   xs ← listed_by (argument (ternary unary b)) is_named false
   c ← token Kinds.CloseParenthesis
   give xs
 
--- "(" args ")"
+-- Spells the arguments of a call: "(" args ")"
 abbrev pub in_parentheses : Inner → Bool → Form (List ArgumentTree)
-in_parentheses u b = opened Kinds.OpenParenthesis u (λ e. items e b)
+in_parentheses u b = form_after_token Kinds.OpenParenthesis u (λ e. items e b)
 
--- NAME "(" args ")"
+-- Spells a call of a function, with its arguments as `args`: NAME "(" args ")"
 abbrev pub call : Form (List ArgumentTree) → Form ExpressionTree
 call args = do
   t ← token Kinds.Name
@@ -245,7 +250,7 @@ call args = do
 
 -- ---- methods and indexes
 
--- "." NAME "(" args ")"
+-- Spells a call of a method, with its arguments as `args`: "." NAME "(" args ")"
 abbrev pub method : Form (List ArgumentTree) → Form LinkTree
 method args = do
   d ← token Kinds.Dot
@@ -253,23 +258,23 @@ method args = do
   xs ← args
   give (MethodTree t.text (arguments xs))
 
--- expr "]"
+-- Spells the rest of an index, after the opening bracket: expr "]"
 abbrev pub index : (Bool → Form ExpressionTree) → Bool → Lexeme → Form LinkTree
 index unary b o = do
   e ← ternary unary b
   c ← token Kinds.CloseBracket
   give (IndexTree e)
 
--- "." NAME "(" args ")" | "[" expr "]"
+-- Spells a method call or an index after a value: "." NAME "(" args ")" | "[" expr "]"
 abbrev pub link : Inner → Bool → Form LinkTree
-link u b = method (in_parentheses u b) or opened Kinds.OpenBracket u (λ e. index e b)
+link u b = method (in_parentheses u b) or form_after_token Kinds.OpenBracket u (λ e. index e b)
 
 -- Returns the tree of a value with its methods and indexes. A value without any is itself.
 abbrev pub postfix_tree : ℕ → ExpressionTree → List LinkTree → ExpressionTree
 postfix_tree line first [] = first
 postfix_tree line first (l ∷ ls) = PostfixTree first (links (l ∷ ls)) line
 
--- post = (NAME "(" args ")" | atom) {"." NAME "(" args ")" | "[" expr "]"}
+-- Spells a value with its method calls and indexes: post = (NAME "(" args ")" | atom) {"." NAME "(" args ")" | "[" expr "]"}
 abbrev pub postfix : Inner → Bool → Form ExpressionTree
 postfix u b = do
   line ← here
@@ -279,23 +284,24 @@ postfix u b = do
 
 -- ---- prefix operators
 
--- unary
-abbrev pub prefixed : Prefix → (Bool → Form ExpressionTree) → Bool → Lexeme → Form ExpressionTree
-prefixed p unary b o = do
+-- Spells the value after the prefix operator `o`: unary
+abbrev pub prefix_expression : Prefix → (Bool → Form ExpressionTree) → Bool → Lexeme → Form ExpressionTree
+prefix_expression p unary b o = do
   e ← unary b
   give (PrefixTree p e o.line)
 
--- unary = ("not"|"-") unary | post
+-- Spells a unary expression, given the expressions inside one more level: unary = ("not"|"-") unary | post
 abbrev pub unary_in : Inner → Bool → Form ExpressionTree
 unary_in u b =
-    opened Kinds.Not u (λ e. prefixed prefixes.Not e b)
-    or (opened Kinds.Minus u (λ e. prefixed prefixes.Negative e b)
+    form_after_token Kinds.Not u (λ e. prefix_expression prefixes.Not e b)
+    or (form_after_token Kinds.Minus u (λ e. prefix_expression prefixes.Negative e b)
     or postfix u b)
 
+-- Spells a unary expression in which at most n levels are open at once. Each opening bracket, `not` and prefix `-` opens a level.
 unfoldable pub unary : ℕ → Bool → Form ExpressionTree
 unary zero b = unary_in Closed b
 unary (suc n) b = unary_in (Inside (unary n)) b
 
--- expr
+-- Spells an expression in which at most n levels are open at once.
 unfoldable pub expr : ℕ → Form ExpressionTree
 expr n = ternary (unary n) true

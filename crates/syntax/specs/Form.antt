@@ -2,15 +2,18 @@
 -- `front ts more`: the tokens ts are a beginning of the form, followed by more.
 use Rattle.std.specs.Prelude.{◌≡◌, List, [], ◌∷◌, ◌⊎◌, Option, Some, None}
 use Rattle.syntax.specs.lexer.Lexeme.{Lexeme}
-use Rattle.syntax.specs.declared.lexer.token.Kind.{Kind}
-use Rattle.syntax.specs.declared.lexer.token.Kind.TheVariants as Kinds
+use Rattle.syntax.specs.declared.lexer.token.TokenKind.{TokenKind}
+use Rattle.syntax.specs.declared.lexer.token.TokenKind.TheVariants as Kinds
 
+-- A form of the grammar: which tokens spell a value of type `A`, and which tokens fit its beginning.
 pub record Form (A : Type 0) : Type 1 where
+  -- Holds of `a`, `ts` and `rest` if `ts` is a spelling of `a` followed by `rest`.
   pub spells : A → List Lexeme → List Lexeme → Type 0
+  -- Holds of `ts` and `more` if the tokens of `ts` before `more` fit the form from its start on, as far as they go.
   pub front : List Lexeme → List Lexeme → Type 0
 
 -- Spells one token of this kind.
-abbrev pub token : Kind → Form Lexeme
+abbrev pub token : TokenKind → Form Lexeme
 token k = record {
   spells = λ t ts rest. (ts ≡ t ∷ rest) × (t.kind ≡ k);
   front = λ ts more. (ts ≡ more) ⊎ ((t : Lexeme) × (ts ≡ t ∷ more) × (t.kind ≡ k));
@@ -62,7 +65,7 @@ many F = record {
 abbrev pub optional : {A : Type 0} → Form A → Form (Option A)
 optional F = (F >>= λ a. give (Some a)) or give None
 
--- {"," form}
+-- Spells a comma and a form after it: "," form
 abbrev pub comma_then : {A : Type 0} → Form A → Form A
 comma_then F = token Kinds.Comma >>= λ c. F
 
@@ -73,7 +76,7 @@ module _ {S A : Type 0} (F : S → Form A) (step : S → A → S) where
   state_after s [] = s
   state_after s (x ∷ xs) = state_after (step s x) xs
 
-  -- {"," form}
+  -- Holds if the tokens spell these elements, each after a comma, up to the rest: {"," form}
   abbrev pub Further : S → List A → List Lexeme → List Lexeme → Type 0
   Further s [] ts rest = ts ≡ rest
   Further s (x ∷ xs) ts rest = (mid : List Lexeme) × (comma_then (F s)).spells x ts mid × Further (step s x) xs mid rest
@@ -85,7 +88,7 @@ module _ {S A : Type 0} (F : S → Form A) (step : S → A → S) where
     front = λ ts more. (xs : List A) × (mid : List Lexeme) × Further s xs ts mid × (comma_then (F (state_after s xs))).front mid more;
   }
 
-  -- [form {"," form} [","]]
+  -- Spells at least one element, with commas between them and an optional comma after the last: form {"," form} [","]
   abbrev pub some_listed_by : S → Form (List A)
   some_listed_by s = F s >>= λ first. further (step s first) >>= λ others. optional (token Kinds.Comma) >>= λ last. give (first ∷ others)
 
@@ -98,5 +101,5 @@ abbrev pub same_state : {A : Type 0} → Unit {0} → A → Unit {0}
 same_state s x = s
 
 -- Spells a list whose elements do not depend on one another.
-abbrev pub listed : {A : Type 0} → Form A → Form (List A)
-listed F = listed_by (λ s. F) same_state tt
+abbrev pub list_form : {A : Type 0} → Form A → Form (List A)
+list_form F = listed_by (λ s. F) same_state tt

@@ -4,19 +4,20 @@ use Rattle.syntax.specs.lexer.Bytes.{newlines}
 use Rattle.syntax.specs.lexer.Lexeme.{Lexeme}
 use Rattle.syntax.specs.Tree.{FileTree}
 use Rattle.syntax.specs.lexer.Tokens.{AreTokens, IsUnreadable}
-use Rattle.syntax.specs.lexer.Lexing.{lexed}
+use Rattle.syntax.specs.lexer.Lexing.{lexed_tokens}
 use Rattle.syntax.specs.Grammar.{file, most_levels}
 use Rattle.syntax.specs.Outcome.{BeginsBy, IsUnexpected, IsTooDeep}
 use Rattle.syntax.specs.Reading.{all_of}
 use Rattle.syntax.specs.ReadingStatements.{file_at}
-use Rattle.syntax.specs.declared.stop.Stop.{Stop}
-use Rattle.syntax.specs.declared.stop.Stop.TheVariants.{Unexpected, TooDeep}
+use Rattle.syntax.specs.declared.stop.ParseStop.{ParseStop}
+use Rattle.syntax.specs.declared.stop.ParseStop.TheVariants.{Unexpected, TooDeep}
 use Rattle.syntax.specs.declared.lexer.fault.SyntaxFault.{SyntaxFault}
 use Rattle.syntax.specs.declared.lexer.fault.FaultKind.{FaultKind}
 use Rattle.syntax.specs.declared.lexer.fault.FaultKind.TheVariants as Faults
 
 -- ---- as a function of the source
 
+-- Returns the line of the first token, or `end` if there is no token.
 abbrev pub first_line : ℕ → List Lexeme → ℕ
 first_line end [] = end
 first_line end (t ∷ ts) = t.line
@@ -26,21 +27,23 @@ abbrev pub line_of : List ℕ → List Lexeme → ℕ → ℕ
 line_of source ts k = first_line (1 + newlines source) (drop k ts)
 
 -- Returns the fault of a stop, with the line of its token.
-abbrev pub located : List ℕ → List Lexeme → Stop → SyntaxFault
-located source ts (Unexpected left) = record { kind = Faults.Grammar; line = line_of source ts (length ts - left) }
-located source ts (TooDeep left) = record { kind = Faults.Nesting; line = line_of source ts (length ts - left) }
+abbrev pub located_fault : List ℕ → List Lexeme → ParseStop → SyntaxFault
+located_fault source ts (Unexpected left) = record { kind = Faults.Grammar; line = line_of source ts (length ts - left) }
+located_fault source ts (TooDeep left) = record { kind = Faults.Nesting; line = line_of source ts (length ts - left) }
 
-abbrev pub in_source : List ℕ → List Lexeme → Result FileTree Stop → Result FileTree SyntaxFault
+-- Returns the file, or the fault of the token where reading stopped, with its line in the source.
+abbrev pub in_source : List ℕ → List Lexeme → Result FileTree ParseStop → Result FileTree SyntaxFault
 in_source source ts (Ok f) = Ok f
-in_source source ts (Err s) = Err (located source ts s)
+in_source source ts (Err s) = Err (located_fault source ts s)
 
+-- Returns the file that the tokens of a source spell, or the fault of its grammar. A fault of the tokens is returned as it is.
 abbrev pub parsed_tokens : List ℕ → Result (List Lexeme) SyntaxFault → Result FileTree SyntaxFault
 parsed_tokens source (Ok ts) = in_source source ts (all_of (file_at most_levels) ts)
 parsed_tokens source (Err e) = Err e
 
 -- Returns the file that a source spells, or its fault.
-unfoldable pub parsed : List ℕ → Result FileTree SyntaxFault
-parsed source = parsed_tokens source (lexed source)
+unfoldable pub parsed_file : List ℕ → Result FileTree SyntaxFault
+parsed_file source = parsed_tokens source (lexed_tokens source)
 
 -- ---- as relations
 
@@ -54,6 +57,7 @@ pub record Spells (levels : ℕ) (source : List ℕ) (f : FileTree) : Type 0 whe
 pub record HoldsOn (holds : List Lexeme → ℕ → Type 0) (source : List ℕ) (line : ℕ) : Type 0 where
   pub tokens : List Lexeme
   pub are_tokens : AreTokens source tokens
+  -- The number of tokens before the one on this line. At the end of the source it counts all tokens.
   pub index : ℕ
   pub here : line ≡ line_of source tokens index
   pub holding : holds tokens index
@@ -69,7 +73,7 @@ FaultsBy Faults.Nesting source line = HoldsOn (IsTooDeep file most_levels) sourc
 abbrev pub HasFault : List ℕ → SyntaxFault → Type 0
 HasFault source f = FaultsBy f.kind source f.line
 
--- If the first k tokens begin a file, so do fewer: no longer beginning exists where a shorter one fails.
+-- Holds if, with any number of levels, the first j tokens begin a file whenever the first k do and j is at most k.
 abbrev pub FrontsAreShorter : List ℕ → Type 0
 FrontsAreShorter source = (n : ℕ) (ts : List Lexeme) (j k : ℕ) → AreTokens source ts → j ≤ k → BeginsBy (file n) ts k
     → BeginsBy (file n) ts j

@@ -3,8 +3,8 @@ use Rattle.std.specs.Prelude.{ℕ, zero, suc, Bool, true, false, cond, ◌||◌,
 use Rattle.std.specs.Option.{option_map, option_to_list}
 use Rattle.syntax.specs.lexer.Lexeme.{Lexeme}
 use Rattle.syntax.specs.lexer.Kinds.{is}
-use Rattle.syntax.specs.declared.lexer.token.Kind.{Kind}
-use Rattle.syntax.specs.declared.lexer.token.Kind.TheVariants as Kinds
+use Rattle.syntax.specs.declared.lexer.token.TokenKind.{TokenKind}
+use Rattle.syntax.specs.declared.lexer.token.TokenKind.TheVariants as Kinds
 use Rattle.syntax.specs.declared.tree.Operator.{Operator}
 use Rattle.syntax.specs.declared.tree.Operator.TheVariants as operators
 use Rattle.syntax.specs.declared.parser.expression.Rank.{Rank}
@@ -23,35 +23,38 @@ use Rattle.syntax.specs.Form.{same_state}
 -- ---- chains of operators
 
 -- Reads an operator and the value after it.
-unfoldable pub operand_at : (Kind → Option Operator) → Reader ExpressionTree → Reader OperandTree
+unfoldable pub operand_at : (TokenKind → Option Operator) → Reader ExpressionTree → Reader OperandTree
 operand_at f part ts = do
   o ← token_as_at f ts
   e ← part o.1
   Ok ((o.0.0, e.0), e.1)
 
 -- Reads operators and the values after them, as long as an operator follows.
-unfoldable pub operands_at : (Kind → Option Operator) → Reader ExpressionTree → Reader (List OperandTree)
+unfoldable pub operands_at : (TokenKind → Option Operator) → Reader ExpressionTree → Reader (List OperandTree)
 operands_at f part ts = many_at (head_is (stands_for f)) (operand_at f part) (length ts) ts
 
 -- Reads a chain: a value, and operators with the values after them.
-unfoldable pub chain_at : (Kind → Option Operator) → Reader ExpressionTree → Reader ExpressionTree
+unfoldable pub chain_at : (TokenKind → Option Operator) → Reader ExpressionTree → Reader ExpressionTree
 chain_at f part ts = do
   line ← here_at ts
   first ← part line.1
   others ← operands_at f part first.1
   Ok (chain_tree line.0 first.0 others.0, others.1)
 
+-- Reads the two tokens of the operator `not in`.
 unfoldable pub not_in_at : Reader Operator
 not_in_at ts = do
   n ← token_at Kinds.Not ts
   i ← token_at Kinds.In n.1
   Ok (operators.NotIn, i.1)
 
+-- Reads a comparison operator of one token.
 unfoldable pub plain_comparison_at : Reader Operator
 plain_comparison_at ts = do
   o ← token_as_at comparative ts
   Ok (o.0.0, o.1)
 
+-- Reads a comparison operator: one token, or `not in`.
 unfoldable pub comparison_operator_at : Reader Operator
 comparison_operator_at ts = or_at (head_is (stands_for comparative)) plain_comparison_at not_in_at ts
 
@@ -67,18 +70,21 @@ unfoldable pub one_compared_at : Reader ExpressionTree → Reader (List OperandT
 one_compared_at part ts = compared_at part ts >>= λ o. Ok (o.0 ∷ [], o.1)
 
 -- Returns whether a comparison continues.
-abbrev pub compares : Kind → Bool
+abbrev pub compares : TokenKind → Bool
 compares Kinds.Not = true
 compares k = stands_for comparative k
 
 -- ---- the lines of the grammar, over the unary expressions
 
+-- Reads a product: unary expressions with `*`, `/` or `%` between them, or one alone.
 unfoldable pub product_at : Reader ExpressionTree → Reader ExpressionTree
 product_at unary ts = chain_at multiplicative unary ts
 
+-- Reads a sum: products with `+` or `-` between them, or one alone.
 unfoldable pub sum_at : Reader ExpressionTree → Reader ExpressionTree
 sum_at unary ts = chain_at additive (product_at unary) ts
 
+-- Reads a comparison: a sum, and a comparison operator with another sum if such an operator follows.
 unfoldable pub comparison_at : Reader ExpressionTree → Reader ExpressionTree
 comparison_at unary ts = do
   line ← here_at ts
@@ -86,14 +92,16 @@ comparison_at unary ts = do
   second ← optional_at (head_is compares) (compared_at (sum_at unary)) first.1
   Ok (chain_tree line.0 first.0 (option_to_list second.0), second.1)
 
+-- Reads comparisons with `and` between them, or one alone.
 unfoldable pub conjunction_at : Reader ExpressionTree → Reader ExpressionTree
 conjunction_at unary ts = chain_at conjunctive (comparison_at unary) ts
 
+-- Reads conjunctions with `or` between them, or one alone.
 unfoldable pub disjunction_at : Reader ExpressionTree → Reader ExpressionTree
 disjunction_at unary ts = chain_at disjunctive (conjunction_at unary) ts
 
 -- Returns whether a ternary continues.
-abbrev pub asks : Kind → Bool
+abbrev pub asks : TokenKind → Bool
 asks k = is k Kinds.Question
 
 -- Reads the two branches of a ternary.
@@ -105,7 +113,7 @@ branches_at part ts = do
   other ← part c.1
   Ok ((one.0, other.0), other.1)
 
--- Reads a ternary, or what may be its condition alone. The branches hold no ternary.
+-- Reads a ternary, or its condition alone if no `?` follows. The branches hold no ternary.
 unfoldable pub ternary_at : (Bool → Reader ExpressionTree) → Bool → Reader ExpressionTree
 ternary_at unary false ts = disjunction_at (unary false) ts
 ternary_at unary true ts = do
@@ -116,11 +124,13 @@ ternary_at unary true ts = do
 
 -- ---- atoms
 
+-- Reads a name.
 unfoldable pub name_at : Reader ExpressionTree
 name_at ts = do
   t ← token_at Kinds.Name ts
   Ok (NameTree t.0.text t.0.line, t.1)
 
+-- Reads a number, a string, `true` or `false`.
 unfoldable pub literal_at : Reader ExpressionTree
 literal_at ts = do
   t ← token_as_at literal_of ts
@@ -137,6 +147,7 @@ group_at unary b o ts = do
 unfoldable pub elements_at : (Bool → Reader ExpressionTree) → Bool → Reader (List ExpressionTree)
 elements_at unary b ts = listed_at Kinds.CloseBracket (λ s. ternary_at unary b) same_state tt ts
 
+-- Reads the elements of a list and the bracket that closes it. The list has the line of the bracket `o` that opened it.
 unfoldable pub list_at : (Bool → Reader ExpressionTree) → Bool → Lexeme → Reader ExpressionTree
 list_at unary b o ts = do
   es ← listed_at Kinds.CloseBracket (λ s. ternary_at unary b) same_state tt ts
@@ -155,6 +166,7 @@ entry_at expr ts = do
 unfoldable pub entries_at : (Bool → Reader ExpressionTree) → Bool → Reader (List EntryTree)
 entries_at unary b ts = listed_at Kinds.CloseBrace (λ s. entry_at (ternary_at unary b)) same_state tt ts
 
+-- Reads the entries of a dictionary and the brace that closes it. The dictionary has the line of the brace `o` that opened it.
 unfoldable pub dictionary_at : (Bool → Reader ExpressionTree) → Bool → Lexeme → Reader ExpressionTree
 dictionary_at unary b o ts = do
   es ← listed_at Kinds.CloseBrace (λ s. entry_at (ternary_at unary b)) same_state tt ts
@@ -178,11 +190,12 @@ single_of t =
     if is t.kind Kinds.Name then Some (NameTree t.text t.line)
     else option_map (λ l. LiteralTree l t.text t.line) (literal_of t.kind)
 
+-- Reads an expression of a single token: a name or a literal.
 unfoldable pub single_at : Reader ExpressionTree
 single_at ts = or_at (begins Kinds.Name) name_at literal_at ts
 
 -- Returns whether tokens of this kind never continue an expression: an element, an argument, an entry or a statement ends before them.
-abbrev pub ends_expression : Kind → Bool
+abbrev pub ends_expression : TokenKind → Bool
 ends_expression k = is k Kinds.Comma || (is k Kinds.Colon || (is k Kinds.Newline || (is k Kinds.CloseParenthesis
     || (is k Kinds.CloseBracket || is k Kinds.CloseBrace))))
 
@@ -230,9 +243,11 @@ items_at unary b o ts = do
   c ← token_at Kinds.CloseParenthesis xs.1
   Ok (xs.0, c.1)
 
+-- Reads the arguments of a call with the parentheses around them, which open a level.
 abbrev pub in_parentheses_at : Option (Bool → Reader ExpressionTree) → Bool → Reader (List ArgumentTree)
 in_parentheses_at u b = opened_at Kinds.OpenParenthesis u (λ e. items_at e b)
 
+-- Reads the name of a function, and its arguments in parentheses with `args`.
 unfoldable pub call_at : Reader (List ArgumentTree) → Reader ExpressionTree
 call_at args ts = do
   t ← token_at Kinds.Name ts
@@ -241,6 +256,7 @@ call_at args ts = do
 
 -- ---- methods and indexes
 
+-- Reads a dot, the name of a method, and its arguments in parentheses with `args`.
 unfoldable pub method_at : Reader (List ArgumentTree) → Reader LinkTree
 method_at args ts = do
   d ← token_at Kinds.Dot ts
@@ -248,6 +264,7 @@ method_at args ts = do
   xs ← args t.1
   Ok (MethodTree t.0.text (arguments xs.0), xs.1)
 
+-- Reads an index and the bracket that closes it.
 unfoldable pub index_at : (Bool → Reader ExpressionTree) → Bool → Lexeme → Reader LinkTree
 index_at unary b o ts = do
   e ← ternary_at unary b ts
@@ -259,9 +276,10 @@ unfoldable pub link_at : Option (Bool → Reader ExpressionTree) → Bool → Re
 link_at u b ts = or_at (begins Kinds.Dot) (method_at (in_parentheses_at u b)) (opened_at Kinds.OpenBracket u (λ e. index_at e b)) ts
 
 -- Returns whether a method or an index begins with a token of this kind.
-abbrev pub links_on : Kind → Bool
+abbrev pub links_on : TokenKind → Bool
 links_on k = cond (is k Kinds.Dot) true (is k Kinds.OpenBracket)
 
+-- Reads method calls and indexes, as long as a dot or an opening bracket follows.
 unfoldable pub links_at : Option (Bool → Reader ExpressionTree) → Bool → Reader (List LinkTree)
 links_at u b ts = many_at (head_is links_on) (link_at u b) (length ts) ts
 
@@ -290,7 +308,7 @@ abbrev pub prefix_of : List Lexeme → Option Prefix
 prefix_of ts = if begins Kinds.Not ts then Some prefixes.Not else (if begins Kinds.Minus ts then Some prefixes.Negative else None)
 
 -- Returns the token of a prefix operator.
-abbrev pub word_of : Prefix → Kind
+abbrev pub word_of : Prefix → TokenKind
 word_of prefixes.Not = Kinds.Not
 word_of prefixes.Negative = Kinds.Minus
 
@@ -316,18 +334,18 @@ unfoldable pub expr_at : ℕ → Reader ExpressionTree
 expr_at n ts = ternary_at (unary_at n) true ts
 
 -- Reads a token of this kind, and returns how many levels may be opened inside.
-unfoldable pub enter_at : Kind → ℕ → Reader (Lexeme × ℕ)
+unfoldable pub enter_at : TokenKind → ℕ → Reader (Lexeme × ℕ)
 enter_at k zero ts = deep_at k ts
 enter_at k (suc n) ts = token_at k ts >>= λ t. Ok ((t.0, n), t.1)
 
--- Reads a token of this kind, followed by what is inside, if one of n levels may be opened.
-unfoldable pub entered_at : {A : Type 0} → Kind → ℕ → ((Bool → Reader ExpressionTree) → Lexeme → Reader A) → Reader A
+-- Reads a token of this kind, followed by `f` with the reader of expressions inside, if one of n levels may be opened.
+unfoldable pub entered_at : {A : Type 0} → TokenKind → ℕ → ((Bool → Reader ExpressionTree) → Lexeme → Reader A) → Reader A
 entered_at k n f ts = enter_at k n ts >>= λ t. f (unary_at t.0.1) t.0.0 t.1
 
 -- ---- the operators of a rank, and the parts between them
 
 -- Returns the operators of a rank.
-abbrev pub operator_of : Rank → Kind → Option Operator
+abbrev pub operator_of : Rank → TokenKind → Option Operator
 operator_of ranks.Or = disjunctive
 operator_of ranks.And = conjunctive
 operator_of ranks.Sum = additive

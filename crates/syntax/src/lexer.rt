@@ -14,7 +14,7 @@
 //! backslash.
 //!
 //! **A slice that no source has.** [`text_of_slice`] fails only if memory runs out. It accepts such a slice too: an escape of no character
-//! keeps its backslash, and a string without its quotes is taken whole. For tokens of a source, the result is proved to be the text of the
+//! keeps its backslash, and a string without its quotes is its own text. For tokens of a source, the result is proved to be the text of the
 //! token, by a relation that does not know how the text is read.
 
 mod bytes;

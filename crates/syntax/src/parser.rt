@@ -3,7 +3,7 @@
 ghost use Rattle.std.specs.Prelude.{◌≡◌, ℕ, ◌+◌, ◌++◌, ◌-◌, ◌<◌, ◌≤◌, length, map, OnOk, [], ◌∷◌, IfOk, MatchResult, ◌⊎◌};
 ghost use Rattle.syntax.specs.lexer.Lexeme.{lexeme_of, lexemes};
 ghost use Rattle.syntax.specs.lexer.Answers.{Answers};
-ghost use Rattle.syntax.specs.Parsed.{FrontsAreShorter, HasFault, Spells, line_of, located, parsed};
+ghost use Rattle.syntax.specs.Parsed.{FrontsAreShorter, HasFault, Spells, line_of, located_fault, parsed_file};
 ghost use Rattle.syntax.specs.Reading.{Gives, GivesAll, GoesOn, all_of, begins, first_of, tokens_left, token_at};
 ghost use Rattle.syntax.specs.ReadingStatements.{file_at};
 ghost use Rattle.syntax.specs.Tree.{FileTree, file_of, statement_of};
@@ -14,13 +14,13 @@ mod postfix;
 mod statement;
 
 use crate::lexer::fault::{FaultKind, SyntaxError, SyntaxFault};
-use crate::lexer::token::{Kind, Token};
+use crate::lexer::token::{Token, TokenKind};
 use crate::lexer::{newlines, tokens};
-use crate::stop::{ReadError, Stop};
+use crate::stop::{ParseStop, ReadError};
 use crate::tree::{File, Statement};
 use std::alloc::Global;
 
-/// The number of levels that may be open at once: brackets, blocks and prefix operators, one inside another.
+/// States how many levels may be open at once: brackets, blocks and prefix operators, one inside another.
 pub const LEVELS: u32 = 64;
 
 // Holds what was read, or why reading stopped.
@@ -62,7 +62,7 @@ fn fit<T>(items: Vec<T>) -> Vec<T>
 impl<'t, 'a> Parser<'t, 'a> {
     // Takes the first token, which must be of this kind.
     #[tactic(auto, using(crate::proofs::Tails::token_cases))]
-    fn take(&mut self, kind: Kind) -> Read<Token<'a>>
+    fn take(&mut self, kind: TokenKind) -> Read<Token<'a>>
         ensures read { Gives lexeme_of result (lexemes self.new.rest.now) (token_at kind (lexemes self.old.rest.now)) }
         ensures shorter { OnOk result (length self.new.rest.now < length self.old.rest.now) }
     {
@@ -77,7 +77,7 @@ impl<'t, 'a> Parser<'t, 'a> {
 
     // Returns the value after taking the token of this kind that closes it.
     #[tactic(auto, using(crate::proofs::Tails::first_taken))]
-    fn close<T: Drop>(&mut self, kind: Kind, value: T) -> Read<T>
+    fn close<T: Drop>(&mut self, kind: TokenKind, value: T) -> Read<T>
         ensures read { Gives (λ v. first_of (lexemes self.old.rest.now)) result (lexemes self.new.rest.now)
             (token_at kind (lexemes self.old.rest.now)) }
         ensures same { IfOk result (λ v. v ≡ value) }
@@ -88,7 +88,7 @@ impl<'t, 'a> Parser<'t, 'a> {
     }
 
     // Returns whether the first token is of this kind.
-    fn begins(&self, kind: Kind) -> bool
+    fn begins(&self, kind: TokenKind) -> bool
         ensures { result ≡ begins kind (lexemes self.now.rest.now) }
     {
         match self.rest {
@@ -99,9 +99,9 @@ impl<'t, 'a> Parser<'t, 'a> {
 
     // Returns the error of a first token that continues no file.
     fn unexpected(&self) -> ReadError
-        ensures { result ≡ ReadError.Stop (Stop.Unexpected (length self.now.rest.now)) }
+        ensures { result ≡ ReadError.Stop (ParseStop.Unexpected (length self.now.rest.now)) }
     {
-        ReadError::Stop(Stop::Unexpected(self.rest.len()))
+        ReadError::Stop(ParseStop::Unexpected(self.rest.len()))
     }
 
     // Reads the statements of all lines.
@@ -111,8 +111,8 @@ impl<'t, 'a> Parser<'t, 'a> {
     {
         let mut statements = Vec::new(self.alloc);
         self.line(false, levels, &mut statements)?;
-        while self.begins(Kind::Newline) {
-            self.take(Kind::Newline)?;
+        while self.begins(TokenKind::Newline) {
+            self.take(TokenKind::Newline)?;
             self.line(false, levels, &mut statements)?;
         }
         Ok(fit(statements))
@@ -144,16 +144,16 @@ fn line_of(source: &str, tokens: &[Token<'_>], left: usize) -> usize
 }
 
 // Returns the fault of a source, with its line.
-fn locate(source: &str, tokens: &[Token<'_>], stop: Stop) -> SyntaxFault
+fn locate(source: &str, tokens: &[Token<'_>], stop: ParseStop) -> SyntaxFault
     requires { tokens_left stop ≤ length tokens.now }
-    ensures { result ≡ located source.now (lexemes tokens.now) stop }
+    ensures { result ≡ located_fault source.now (lexemes tokens.now) stop }
 {
     match stop {
-        Stop::Unexpected(left) => SyntaxFault {
+        ParseStop::Unexpected(left) => SyntaxFault {
             kind: FaultKind::Grammar,
             line: line_of(source, tokens, left),
         },
-        Stop::TooDeep(left) => SyntaxFault {
+        ParseStop::TooDeep(left) => SyntaxFault {
             kind: FaultKind::Nesting,
             line: line_of(source, tokens, left),
         },
@@ -177,7 +177,7 @@ fn locate(source: &str, tokens: &[Token<'_>], stop: Stop) -> SyntaxFault
 /// open none.
 pub fn parse(alloc: Global, source: &str) -> Result<File<'_>, SyntaxError>
     // Unless memory runs out, the result is this function of the source.
-    ensures reads { Answers file_of result (parsed source.now) }
+    ensures reads { Answers file_of result (parsed_file source.now) }
 
     // The tokens of the source spell this file and no other, however many levels may be open.
     ensures spelled { IfOk result (λ f. Spells LEVELS source.now (file_of f)) }

@@ -7,7 +7,7 @@ use std::alloc::{AllocError, AllocFailed};
 
 /// Says why no file continues, with the number of tokens that are left.
 #[derive(Clone, Copy)]
-pub enum Stop {
+pub enum ParseStop {
     Unexpected(usize),
     TooDeep(usize),
 }
@@ -16,7 +16,7 @@ pub enum Stop {
 #[derive(Clone, Copy)]
 pub enum ReadError {
     Memory,
-    Stop(Stop),
+    Stop(ParseStop),
 }
 
 impl From<AllocError> for ReadError {

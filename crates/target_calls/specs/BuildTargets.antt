@@ -4,16 +4,16 @@ use Rattle.std.specs.Fmt.{signed_decimal}
 use Rattle.arguments.specs.Arguments.{ArgumentsData}
 use Rattle.arguments.specs.Given.{flag, keyword, text_at, text_given, text_of, texts}
 use Rattle.arguments.specs.Leaves.{leaves_from, leaves_named}
-use Rattle.arguments.specs.Said.{Said, ◌>>=◌, found, kept}
+use Rattle.arguments.specs.Said.{Said, ◌>>=◌, found_value, kept_rule}
 use Rattle.arguments.specs.declared.rule.Rule.TheVariants as rules
 use Rattle.values.specs.Data.{Data, integer, text}
 use Rattle.build.specs.edge.Texts.{Path, Text}
 use Rattle.build.specs.Data.{Build, BuildData, ListsData, SourceData, TargetData}
-use Rattle.build.specs.declared.target.Kind.{Kind}
-use Rattle.named_sources.specs.Folders.{folders_of}
-use Rattle.named_sources.specs.Libraries.{numbers_of}
-use Rattle.named_sources.specs.Sources.{NamedData, sources_of}
-use Rattle.named_sources.specs.Versions.{is_library_version}
+use Rattle.build.specs.declared.target.TargetKind.{TargetKind}
+use Rattle.sources.specs.Folders.{folders_of}
+use Rattle.sources.specs.Libraries.{numbers_of}
+use Rattle.sources.specs.Sources.{NamedData, sources_of}
+use Rattle.sources.specs.Versions.{is_library_version}
 use Rattle.target_calls.specs.Dependencies.{dependencies_of}
 use Rattle.world.specs.Here.{HereData}
 use Rattle.target_calls.specs.Sources.{file_in, sources_in}
@@ -49,7 +49,7 @@ named_sources here a = sources_of here.source_root here.folder (source_values a)
 abbrev pub own_lists : HereData → ArgumentsData → List SourceData → Said ListsData
 own_lists here a sources = do
   folders ← folders_of here.source_root here.folder (leaves_named (codes "include_directories") a)
-  libraries ← found (numbers_of (leaves_named (codes "link_with") a)) rules.TakesLibraries (codes "link_with")
+  libraries ← found_value (numbers_of (leaves_named (codes "link_with") a)) rules.TakesLibraries (codes "link_with")
   Ok (record {
     sources = sources;
     include_folders = folders;
@@ -61,7 +61,7 @@ own_lists here a sources = do
 -- ---- the target
 
 -- Returns the target. It is built by default and not installed, unless the call says otherwise.
-abbrev pub build_target : HereData → Kind → ArgumentsData → (own : ListsData) (dependencies : List ListsData) → BuildData
+abbrev pub build_target : HereData → TargetKind → ArgumentsData → (own : ListsData) (dependencies : List ListsData) → BuildData
 build_target here kind a own dependencies = record {
   kind = kind;
   folder = here.folder;
@@ -80,16 +80,16 @@ pub record NamedTargetData : Type 0 where
   pub files : List Path
 
 -- Returns what a call with these sources declares. No source of the call or of a dependency may be an output that no target has.
-abbrev pub declared_from : HereData → Kind → ArgumentsData → List NamedData → Said NamedTargetData
+abbrev pub declared_from : HereData → TargetKind → ArgumentsData → List NamedData → Said NamedTargetData
 declared_from here kind a named = do
-  sources ← found (sources_in here.earlier named) rules.NamesFile []
+  sources ← found_value (sources_in here.earlier named) rules.NamesFile []
   own ← own_lists here a sources
-  dependencies ← found (dependencies_of here.earlier (leaves_named (codes "dependencies") a)) rules.NamesFile []
+  dependencies ← found_value (dependencies_of here.earlier (leaves_named (codes "dependencies") a)) rules.NamesFile []
   Ok (record { target = Build (build_target here kind a own dependencies); files = flat_map file_in named })
 
 -- Returns what a call declares, or its refusal. Checked are `version`, then the paths of sources, and then those of directories.
-unfoldable pub declared : HereData → Kind → ArgumentsData → Said NamedTargetData
-declared here kind a = do
-  _ ← kept (version_fits (text_given (codes "version") a)) rules.IsLibraryVersion (text_of (codes "version") a)
+unfoldable pub declared_target : HereData → TargetKind → ArgumentsData → Said NamedTargetData
+declared_target here kind a = do
+  _ ← kept_rule (version_fits (text_given (codes "version") a)) rules.IsLibraryVersion (text_of (codes "version") a)
   named ← named_sources here a
   declared_from here kind a named

@@ -7,8 +7,8 @@ use Rattle.values.specs.declared.object.Program.{Program}
 use Rattle.values.specs.declared.object.Program.TheVariants as programs
 use Rattle.build.specs.edge.Paths.{source_path}
 use Rattle.build.specs.edge.Texts.{Path, Text}
-use Rattle.named_sources.specs.Holes.{PlaceData, words_of}
-use Rattle.named_sources.specs.Things.{ThingData, a_file, a_program, a_target, all_outputs, an_output, thing_of}
+use Rattle.sources.specs.Holes.{PlaceData, words_of}
+use Rattle.sources.specs.Things.{ThingData, a_file, a_program, a_target, all_outputs, an_output, thing_of}
 use Rattle.support.specs.paths.Names.{has_slash}
 use Rattle.build.specs.Data.{BuildData, SourceData, Tree, Built, Made}
 use Rattle.build.specs.Files.{file_path, is_library}
@@ -35,12 +35,12 @@ of_program depth (programs.Words words) = Some (words_alone words)
 of_program depth (programs.File path) = Some (words_alone (source_path depth path ∷ []))
 
 -- Returns how a target is called. A program directly in the build directory is called as `./prog`.
-abbrev pub called : BuildData → Path
-called t = if not (is_library t.kind) && not (has_slash (file_path t)) then codes "./" ++ file_path t else file_path t
+abbrev pub command_path : BuildData → Path
+command_path t = if not (is_library t.kind) && not (has_slash (file_path t)) then codes "./" ++ file_path t else file_path t
 
 -- Returns the part for an executable or a library.
 abbrev pub of_build_target : BuildData → PartData
-of_build_target t = one_path (called t) (one_made (file_path t))
+of_build_target t = one_path (command_path t) (one_made (file_path t))
 
 -- Returns the part for some outputs.
 abbrev pub of_outputs : List Path → PartData
@@ -78,16 +78,16 @@ part_of here place (object o) = of_object here o
 part_of here place _ = None
 
 -- Returns two parts joined.
-abbrev pub joined : PartData → PartData → PartData
-joined p q = record { words = p.words ++ q.words; needs = p.needs ++ q.needs }
+abbrev pub joined_parts : PartData → PartData → PartData
+joined_parts p q = record { words = p.words ++ q.words; needs = p.needs ++ q.needs }
 
 -- Returns a part followed by those of some values.
 abbrev pub parts_behind : HereData → PlaceData → PartData → List Data → Option PartData
 parts_behind here place whole [] = Some whole
 parts_behind here place whole (d ∷ ds) =
-    option_and_then (λ p. parts_behind here place (joined whole p) ds) (part_of here place d)
+    option_and_then (λ p. parts_behind here place (joined_parts whole p) ds) (part_of here place d)
 
--- The empty part.
+-- Returns the part without arguments and without files.
 abbrev pub no_part : PartData
 no_part = record { words = []; needs = [] }
 

@@ -4,7 +4,7 @@ use Rattle.arguments.specs.Arguments.{ArgumentsData}
 use Rattle.values.specs.Data.{Data, object}
 use Rattle.values.specs.declared.object.Object.TheVariants as objects
 use Rattle.world.specs.Deed.{Deed, give, read, ◌>>=◌}
-use Rattle.world.specs.Fit.{passed}
+use Rattle.world.specs.Fit.{deed_of_result}
 use Rattle.target_calls.specs.BuildTargets.{NamedTargetData}
 use Rattle.target_calls.specs.CustomInstalls.{add_custom}
 use Rattle.target_calls.specs.CustomTargets.{count_named, declared_custom}
@@ -16,7 +16,7 @@ use Rattle.target_calls.specs.Targets.{required_fit}
 unfoldable pub said_custom : ArgumentsData → Deed NamedTargetData
 said_custom a = do
   facts ← read
-  passed (declared_custom (here_of facts) a)
+  deed_of_result (declared_custom (here_of facts) a)
 
 -- Defines `custom_target(name)`. Refuses with E9; with E14 for the first missing file, in the order in which the keywords are written; and
 -- with E21, E11 and E22.

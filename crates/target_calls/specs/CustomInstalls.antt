@@ -12,7 +12,7 @@ use Rattle.world.specs.Deed.{Deed, give, read, ◌>>=◌}
 use Rattle.world.specs.Options.{option_text}
 use Rattle.world.specs.World.{Facts}
 
--- The build directory, the folder of the build file, and the directory where outputs are installed.
+-- The build directory, the folder of the definition file, and the directory where outputs are installed.
 pub record WayData : Type 0 where
   pub build_root : Path
   pub folder : Path

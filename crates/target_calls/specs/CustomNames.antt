@@ -7,8 +7,8 @@ use Rattle.arguments.specs.Maybe.{◌>>=◌}
 use Rattle.build.specs.edge.Folders.{build_folder, source_folder}
 use Rattle.build.specs.edge.Paths.{source_root}
 use Rattle.build.specs.edge.Texts.{Path, Text}
-use Rattle.named_sources.specs.Holes.{PlaceData, filled, first_of}
-use Rattle.named_sources.specs.declared.holes.Scope.TheVariants.{FileName}
+use Rattle.sources.specs.Holes.{PlaceData, filled_text, first_of}
+use Rattle.sources.specs.declared.placeholders.PlaceholderScope.TheVariants.{FileName}
 use Rattle.support.specs.paths.Paths.{path_in}
 use Rattle.world.specs.Here.{HereData}
 
@@ -25,7 +25,7 @@ place_with here inputs outputs depfile = record {
 
 -- Returns names of files with their placeholders replaced.
 abbrev pub names_in : PlaceData → List Text → Option (List Text)
-names_in place ts = each_or_none (filled FileName place) ts
+names_in place ts = each_or_none (filled_text FileName place) ts
 
 -- Names of files in the folder of the call.
 pub record NamesData : Type 0 where

@@ -4,16 +4,16 @@ use Rattle.std.specs.Prelude.{bytes_eq, Option, Some, None, Ok, is_some, if◌th
 use Rattle.arguments.specs.Arguments.{ArgumentsData}
 use Rattle.arguments.specs.Given.{flag, text_at, text_given}
 use Rattle.arguments.specs.Leaves.{leaves_named}
-use Rattle.arguments.specs.Said.{Said, ◌>>=◌, found, unbroken}
+use Rattle.arguments.specs.Said.{Said, ◌>>=◌, found_value, no_breach}
 use Rattle.arguments.specs.declared.rule.Rule.{Rule}
 use Rattle.arguments.specs.declared.rule.Rule.TheVariants as rules
 use Rattle.values.specs.Data.{Data}
 use Rattle.build.specs.edge.Texts.{Path, Text}
-use Rattle.named_sources.specs.Holes.{PlaceData}
+use Rattle.sources.specs.Holes.{PlaceData}
 use Rattle.build.specs.Data.{Custom, CustomData, SourceData}
 use Rattle.build.specs.Sources.{source_paths}
 use Rattle.values.specs.Flat.{opened}
-use Rattle.named_sources.specs.Sources.{NamedData, sources_of}
+use Rattle.sources.specs.Sources.{NamedData, sources_of}
 use Rattle.target_calls.specs.BuildTargets.{NamedTargetData}
 use Rattle.target_calls.specs.Commands.{PartData, command_of}
 use Rattle.target_calls.specs.CustomNames.{NamesData, names_of, place_of, place_with}
@@ -59,22 +59,22 @@ abbrev pub written_in : Text × Data → List Data
 written_in n = if is_source_keyword n.0 then opened n.1 else []
 
 -- Returns the sources that a call gives, in the order in which its keywords are written.
-abbrev pub written : ArgumentsData → List Data
-written a = flat_map written_in a.named
+abbrev pub sources_in_call : ArgumentsData → List Data
+sources_in_call a = flat_map written_in a.named
 
 -- States that `input` alone gives all sources.
 abbrev pub IsAllInput : ArgumentsData → Type 0
-IsAllInput a = written a ≡ leaves_named (codes "input") a
+IsAllInput a = sources_in_call a ≡ leaves_named (codes "input") a
 
 -- Returns the sources that a call names. Each path must be below the source root.
 abbrev pub written_sources : HereData → ArgumentsData → Said (List NamedData)
-written_sources here a = sources_of here.source_root here.folder (written a)
+written_sources here a = sources_of here.source_root here.folder (sources_in_call a)
 
 -- Returns the sources that a keyword names. None may be an output that no target has.
 abbrev pub sources_by : HereData → ArgumentsData → Text → Said (List SourceData)
 sources_by here a name = do
   named ← sources_of here.source_root here.folder (leaves_named name a)
-  found (sources_in here.earlier named) rules.HasMeaning name
+  found_value (sources_in here.earlier named) rules.HasMeaning name
 
 -- ---- the target
 
@@ -100,7 +100,7 @@ with_needs command more = record { words = command.words; needs = command.needs 
 
 -- Returns the part of the command that a keyword gives. Each placeholder must have a value, and each program must have been found.
 abbrev pub part_by : HereData → ArgumentsData → PlaceData → Text → Said PartData
-part_by here a place name = found (command_of here place (leaves_named name a)) rules.HasMeaning name
+part_by here a place name = found_value (command_of here place (leaves_named name a)) rules.HasMeaning name
 
 -- Returns the command, and the files that it needs: files and targets in it, then `depends`, then `depend_files`.
 abbrev pub whole_command : HereData → ArgumentsData → PlaceData → Said PartData
@@ -112,7 +112,7 @@ whole_command here a place = do
 
 -- Returns the names of the files that the target makes. Each placeholder must have a value.
 abbrev pub names_from : HereData → ArgumentsData → (inputs : List Path) → Said NamesData
-names_from here a inputs = found (names_of (place_with here inputs [] None) a) rules.HasMeaning (codes "output")
+names_from here a inputs = found_value (names_of (place_with here inputs [] None) a) rules.HasMeaning (codes "output")
 
 -- Returns the custom target of a call with these inputs.
 abbrev pub custom_from : HereData → ArgumentsData → (inputs : List SourceData) → Said CustomData
@@ -131,7 +131,7 @@ declared_files here a inputs files = do
 -- the command.
 unfoldable pub declared_custom : HereData → ArgumentsData → Said NamedTargetData
 declared_custom here a = do
-  _ ← unbroken (rule_broken a)
+  _ ← no_breach (rule_broken a)
   named ← written_sources here a
   inputs ← sources_by here a (codes "input")
   declared_files here a inputs (flat_map file_in named)

@@ -7,8 +7,8 @@ use Rattle.values.specs.declared.object.Object.TheVariants as objects
 use Rattle.values.specs.declared.object.Source.{Source}
 use Rattle.values.specs.declared.object.Source.TheVariants as source
 use Rattle.build.specs.Data.{ListsData, SourceData}
-use Rattle.build.specs.Libraries.{LinkedData}
-use Rattle.named_sources.specs.Sources.{NamedData, tree, built, outputs, output}
+use Rattle.build.specs.Libraries.{DeclaredTargetData}
+use Rattle.sources.specs.Sources.{NamedData, tree, built, outputs, output}
 use Rattle.target_calls.specs.Sources.{sources_in}
 
 -- Returns a source of a dependency in the form in which a call names it.
@@ -29,7 +29,7 @@ with_sources d ss = record {
 }
 
 -- Returns the lists that a dependency adds, and none if it has a source that no target makes.
-abbrev pub lists_of : List LinkedData → Dependency → Option ListsData
+abbrev pub lists_of : List DeclaredTargetData → Dependency → Option ListsData
 lists_of earlier d = option_map (with_sources d) (sources_in earlier (map named_of d.sources))
 
 -- Returns the dependency of an object if it was found.
@@ -44,15 +44,15 @@ found_in _ = None
 
 -- Adds the lists of a dependency. One that was not found adds nothing.
 abbrev pub with_found :
-    List LinkedData → List ListsData → Option Dependency → (List ListsData → Option (List ListsData)) → Option (List ListsData)
+    List DeclaredTargetData → List ListsData → Option Dependency → (List ListsData → Option (List ListsData)) → Option (List ListsData)
 with_found earlier ls None next = next ls
 with_found earlier ls (Some d) next = option_and_then (λ l. next (ls ++ l ∷ [])) (lists_of earlier d)
 
 -- Returns lists followed by those that the dependencies among values add.
-abbrev pub lists_behind : List LinkedData → List ListsData → List Data → Option (List ListsData)
+abbrev pub lists_behind : List DeclaredTargetData → List ListsData → List Data → Option (List ListsData)
 lists_behind earlier ls [] = Some ls
 lists_behind earlier ls (v ∷ vs) = with_found earlier ls (found_in v) (λ ms. lists_behind earlier ms vs)
 
 -- Returns the lists that the dependencies among values add, and none if one of them has a source that no target makes.
-abbrev pub dependencies_of : List LinkedData → List Data → Option (List ListsData)
+abbrev pub dependencies_of : List DeclaredTargetData → List Data → Option (List ListsData)
 dependencies_of earlier vs = lists_behind earlier [] vs

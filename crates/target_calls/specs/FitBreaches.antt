@@ -9,7 +9,7 @@ use Rattle.build.specs.project.Adding.{is_target_name}
 use Rattle.build.specs.project.World.{WorldData}
 use Rattle.build.specs.Data.{Build, BuildData, Built, Custom, CustomData, ListsData, Made, SourceData, TargetData, Tree}
 use Rattle.build.specs.Files.{file_name, link_names}
-use Rattle.build.specs.Libraries.{LinkedData, linked_of, links_libraries}
+use Rattle.build.specs.Libraries.{DeclaredTargetData, linked_of, links_libraries}
 use Rattle.build.specs.Sources.{is_foreign}
 
 -- A rule, and the text or the keyword that breaks it.
@@ -57,19 +57,19 @@ foreign_of t = or_later (foreign_in t.own.sources) (foreign_among t.dependencies
 -- ---- the target
 
 -- Returns what breaks a rule about sources or linked libraries.
-abbrev pub source_breach : List LinkedData → BuildData → Option Path → Breach
+abbrev pub source_breach : List DeclaredTargetData → BuildData → Option Path → Breach
 source_breach earlier t (Some path) = (rules.IsSource, path)
 source_breach earlier t None =
     if links_libraries earlier t then (rules.HasSource, t.name) else (rules.TakesLibraries, codes "link_with")
 
 -- Returns what a target breaks: the rule about names of files if a name is bad, and otherwise one about sources or linked libraries.
-abbrev pub file_breach : List LinkedData → BuildData → Option Text → Breach
+abbrev pub file_breach : List DeclaredTargetData → BuildData → Option Text → Breach
 file_breach earlier t (Some name) = (rules.IsFileName, name)
 file_breach earlier t None = source_breach earlier t (foreign_of t)
 
 -- Returns what breaks a rule: the target's name, a name of its files, a bad source file, a linked target that is no library, or a lack of
 -- sources.
-abbrev pub build_fit : List LinkedData → BuildData → Breach
+abbrev pub build_fit : List DeclaredTargetData → BuildData → Breach
 build_fit earlier t =
     if is_target_name t.name then file_breach earlier t (bad_name (file_name t ∷ link_names t)) else (rules.IsTargetName, t.name)
 

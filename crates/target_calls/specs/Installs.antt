@@ -7,20 +7,20 @@ use Rattle.support.specs.paths.Below.{path_below}
 use Rattle.build.specs.project.World.{InstallData}
 use Rattle.build.specs.Data.{Build, BuildData, Custom, TargetData}
 use Rattle.build.specs.Files.{file_name, file_path}
-use Rattle.build.specs.declared.target.Kind.{Kind}
-use Rattle.build.specs.declared.target.Kind.TheVariants as kinds
+use Rattle.build.specs.declared.target.TargetKind.{TargetKind}
+use Rattle.build.specs.declared.target.TargetKind.TheVariants as kinds
 use Rattle.world.specs.Declaring.{add_install}
 use Rattle.world.specs.Deed.{Deed, give}
 use Rattle.world.specs.Options.{option_text}
 use Rattle.world.specs.World.{Facts}
 
 -- Returns the default directory: `bindir` for programs, `libdir` for libraries.
-abbrev pub usual_folder : Facts → Kind → Path
+abbrev pub usual_folder : Facts → TargetKind → Path
 usual_folder facts kinds.Executable = option_text facts.options (codes "bindir")
 usual_folder facts _ = option_text facts.options (codes "libdir")
 
 -- Returns the directory of the keyword `install_dir`, and otherwise the default one.
-abbrev pub install_folder : Facts → ArgumentsData → Kind → Path
+abbrev pub install_folder : Facts → ArgumentsData → TargetKind → Path
 install_folder facts a kind = unwrap_or (text_given (codes "install_dir") a) (usual_folder facts kind)
 
 -- Returns where the target's file is installed: to its directory below the option `prefix`, or to that directory itself if it is absolute.
@@ -37,6 +37,6 @@ install_of facts a (Build t) = if t.is_installed then Some (build_install facts 
 install_of facts a (Custom t) = None
 
 -- Records an installed file, if there is one.
-unfoldable pub noted : Option InstallData → Deed (Unit {0})
-noted None = give tt
-noted (Some install) = add_install install
+unfoldable pub noted_install : Option InstallData → Deed (Unit {0})
+noted_install None = give tt
+noted_install (Some install) = add_install install

@@ -9,7 +9,7 @@ use Rattle.build.specs.edge.Texts.{Text}
 use Rattle.arguments.specs.declared.rule.Rule.TheVariants as rules
 use Rattle.world.specs.Declaring.{add_arguments, add_link_arguments}
 use Rattle.world.specs.Deed.{Deed, give, ◌>>=◌}
-use Rattle.world.specs.Ruled.{obeyed}
+use Rattle.world.specs.Ruled.{obeyed_rule}
 
 -- Holds if a language is `c`.
 abbrev pub is_c : Text → Bool
@@ -22,16 +22,16 @@ are_c (l ∷ ls) = list_all is_c (l ∷ ls)
 
 -- Refuses arguments that are not for C (E9).
 unfoldable pub required_c : ArgumentsData → Deed (Unit {0})
-required_c a = obeyed (are_c (texts (codes "language") a)) rules.TakesC (codes "language")
+required_c a = obeyed_rule (are_c (texts (codes "language") a)) rules.TakesC (codes "language")
 
--- Defines `add_project_arguments(texts..)`. Refuses with E9, E21, E24 in this order.
+-- Adds arguments to all compile commands (`add_project_arguments`). Refuses with E9, E21, E24 in this order.
 unfoldable pub add_project_arguments : ArgumentsData → Deed (Option Data)
 add_project_arguments a = do
   _ ← required_c a
   _ ← add_arguments (flat_all a.positional)
   give None
 
--- Defines `add_project_link_arguments(texts..)`, which adds to all link commands. Refuses with E9, E21, E24 in this order.
+-- Adds arguments to all link commands (`add_project_link_arguments`). Refuses with E9, E21, E24 in this order.
 unfoldable pub add_project_link_arguments : ArgumentsData → Deed (Option Data)
 add_project_link_arguments a = do
   _ ← required_c a

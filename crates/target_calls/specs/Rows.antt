@@ -1,8 +1,8 @@
 -- Defines the rows of the functions: the arguments that each takes.
 use Rattle.std.specs.Prelude.{List, [], ◌∷◌, ◌++◌, codes}
-use Rattle.arguments.specs.declared.row.Kind.TheVariants.{Any, Boolean, Flat, IntegerOrText, Text, Texts}
+use Rattle.arguments.specs.declared.row.ArgumentKind.TheVariants.{Any, Boolean, Flat, IntegerOrText, Text, Texts}
 use Rattle.arguments.specs.declared.row.Piece.TheVariants as pieces
-use Rattle.arguments.specs.Row.{KeywordData, RowData, needed, optional, row, with_others}
+use Rattle.arguments.specs.Row.{KeywordData, RowData, required_keyword, optional, row, with_others}
 
 -- Returns the row of `files(texts..)`.
 abbrev pub files_row : RowData
@@ -14,7 +14,7 @@ include_directories_row = with_others Texts (row [] 0 (optional (codes "is_syste
 
 -- Returns the row of `add_project_arguments(texts..)` and `add_project_link_arguments(texts..)`.
 abbrev pub project_words_row : RowData
-project_words_row = with_others Texts (row [] 0 (needed (codes "language") Texts ∷ []))
+project_words_row = with_others Texts (row [] 0 (required_keyword (codes "language") Texts ∷ []))
 
 -- Returns the keywords of all build targets.
 abbrev pub target_keywords : List KeywordData
@@ -48,8 +48,8 @@ shared_library_row = with_others (Flat pieces.Source) (row (Text ∷ []) 1 (targ
 -- Returns the keywords of `custom_target`.
 abbrev pub custom_target_keywords : List KeywordData
 custom_target_keywords =
-    needed (codes "output") Texts
-    ∷ needed (codes "command") (Flat pieces.CommandWord)
+    required_keyword (codes "output") Texts
+    ∷ required_keyword (codes "command") (Flat pieces.CommandWord)
     ∷ optional (codes "input") (Flat pieces.Source)
     ∷ optional (codes "depend_files") (Flat pieces.Source)
     ∷ optional (codes "depends") (Flat pieces.Target)

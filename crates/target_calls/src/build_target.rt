@@ -3,24 +3,24 @@ ghost use Rattle.std.specs.Prelude.{◌≡◌, IfOk, codes, map, option_map, str
 ghost use Rattle.arguments.specs.Given.{text_given};
 ghost use Rattle.arguments.specs.Refused.{said_data};
 ghost use Rattle.build.specs.View.{build_view, lists_view, source_view};
-ghost use Rattle.named_sources.specs.SourcesView.{named_view, named_views};
+ghost use Rattle.sources.specs.SourcesView.{named_view, named_views};
 ghost use Rattle.world.specs.Prelude.{arguments_data, data_of, here_view};
-ghost use Rattle.target_calls.specs.BuildTargets.{build_target, declared, declared_from, named_sources, number_in, own_lists};
+ghost use Rattle.target_calls.specs.BuildTargets.{build_target, declared_target, declared_from, named_sources, number_in, own_lists};
 ghost use Rattle.target_calls.specs.BuildTargets.{source_values, soversion_given, version_fits};
 ghost use Rattle.target_calls.specs.BuildTargetsView.{named_target_view};
 
 use crate::dependencies::dependencies_given;
-use crate::sources::{files_among, sources_in};
-use arguments::{Arguments, Refused, Rule};
-use build::{BuildTarget, Kind, Lists, Source, Target};
+use crate::source_lookup::{files_among, sources_in};
+use arguments::{ArgumentError, Arguments, Rule};
+use build::{BuildTarget, Lists, Source, Target, TargetKind};
 use itoa::Buffer;
-use named_sources::{NamedSource, folders_named, is_library_version, numbers_named, sources_of};
+use sources::{NamedSource, folders_named, is_library_version, numbers_named, sources_of};
 use std::alloc::{AllocError, Global};
 use std::rc::Rc;
 use values::Value;
 use world::Here;
 
-/// What a call declares.
+/// Says what a call declares.
 #[derive(Drop)]
 pub struct NamedTarget {
     pub target: Target,
@@ -88,7 +88,7 @@ fn source_values<'v>(alloc: Global, arguments: &'v Arguments) -> Result<Vec<&'v 
 fn named_sources(
     here: &Here<'_>,
     arguments: &Arguments,
-) -> Result<Result<Vec<NamedSource>, Refused>, AllocError>
+) -> Result<Result<Vec<NamedSource>, ArgumentError>, AllocError>
     ensures { IfOk result (λ ns. said_data named_views ns ≡ named_sources (here_view here.now) (arguments_data arguments.now)) }
 {
     let values = source_values(here.alloc, arguments)?;
@@ -100,7 +100,7 @@ fn own_lists(
     here: &Here<'_>,
     arguments: &Arguments,
     sources: Vec<Source>,
-) -> Result<Result<Lists, Refused>, AllocError>
+) -> Result<Result<Lists, ArgumentError>, AllocError>
     ensures { IfOk result (λ l. said_data lists_view l
         ≡ own_lists (here_view here.now) (arguments_data arguments.now) (map source_view sources.items)) }
 {
@@ -131,7 +131,7 @@ fn own_lists(
 
 fn build_target(
     here: &Here<'_>,
-    kind: Kind,
+    kind: TargetKind,
     arguments: &Arguments,
     own: Lists,
     dependencies: Vec<Rc<Lists>>,
@@ -155,10 +155,10 @@ fn build_target(
 // Returns what a call with these sources declares, or its refusal.
 fn declare_from(
     here: &Here<'_>,
-    kind: Kind,
+    kind: TargetKind,
     arguments: &Arguments,
     named: Vec<NamedSource>,
-) -> Result<Result<NamedTarget, Refused>, AllocError>
+) -> Result<Result<NamedTarget, ArgumentError>, AllocError>
     ensures { IfOk result (λ d. said_data named_target_view d
         ≡ declared_from (here_view here.now) kind (arguments_data arguments.now) (map named_view named.items)) }
 {
@@ -181,13 +181,13 @@ fn declare_from(
 }
 
 /// Returns what a call declares, or its refusal. Refused are a bad `version` and a path that leads out of the source directory.
-#[tactic(auto, unfolding(crate::specs::BuildTargets::declared))]
+#[tactic(auto, unfolding(crate::specs::BuildTargets::declared_target))]
 pub fn declare_target(
     here: &Here<'_>,
-    kind: Kind,
+    kind: TargetKind,
     arguments: &Arguments,
-) -> Result<Result<NamedTarget, Refused>, AllocError>
-    ensures { IfOk result (λ d. said_data named_target_view d ≡ declared (here_view here.now) kind (arguments_data arguments.now)) }
+) -> Result<Result<NamedTarget, ArgumentError>, AllocError>
+    ensures { IfOk result (λ d. said_data named_target_view d ≡ declared_target (here_view here.now) kind (arguments_data arguments.now)) }
 {
     let fits = version_fits(here.alloc, arguments)?;
     if !fits {

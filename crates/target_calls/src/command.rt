@@ -2,24 +2,25 @@
 ghost use Rattle.std.specs.Prelude.{◌≡◌, ◌∷◌, [], IfOk, None, Some, map, option_map, string_bytes, if◌then◌else◌};
 ghost use Rattle.build.specs.edge.Paths.{source_path as path_from};
 ghost use Rattle.build.specs.edge.Texts.{texts};
-ghost use Rattle.named_sources.specs.HolesView.{place_view};
-ghost use Rattle.named_sources.specs.ThingsView.{thing_view};
+ghost use Rattle.sources.specs.HolesView.{place_view};
+ghost use Rattle.sources.specs.ThingsView.{thing_view};
 ghost use Rattle.build.specs.View.{build_view, source_view};
 ghost use Rattle.world.specs.Prelude.{data_of, here_view};
-ghost use Rattle.target_calls.specs.Commands.{called, command_of, joined, of_build_target, of_file, of_object, of_output, of_outputs};
+ghost use Rattle.target_calls.specs.Commands.{command_path, command_of, joined_parts, of_build_target, of_file, of_object, of_output};
+ghost use Rattle.target_calls.specs.Commands.{of_outputs};
 ghost use Rattle.target_calls.specs.Commands.{of_program, of_text, of_thing, one_path, part_of, words_alone};
 ghost use Rattle.target_calls.specs.CommandsView.{part_view};
 
-use crate::sources::{make_of, one_made_of};
+use crate::source_lookup::{make_of, one_made_of};
 use build::edge::{push_copies, source_path};
 use build::{BuildTarget, Source, file_path};
-use named_sources::{Place, Thing, push_words, strings, thing_of};
+use sources::{PlaceholderValues, Thing, push_words, thing_of};
 use std::alloc::{AllocError, Global};
 use support::paths::has_slash;
-use values::{Object, Program, Text, Value};
+use values::{Object, Program, Text, Value, strings};
 use world::Here;
 
-/// A part of the command: its arguments, and the files that must be built or present before the command runs.
+/// Holds a part of the command: its arguments, and the files that must be built or present before the command runs.
 #[derive(Drop)]
 pub struct Part {
     pub words: Vec<String>,
@@ -28,7 +29,8 @@ pub struct Part {
 
 // Appends a path, and what it needs.
 fn push_path(whole: &mut Part, path: String, need: Source) -> Result<(), AllocError>
-    ensures { IfOk result (λ _. part_view whole.new ≡ joined (part_view whole.old) (one_path (string_bytes path) (source_view need))) }
+    ensures { IfOk result
+        (λ _. part_view whole.new ≡ joined_parts (part_view whole.old) (one_path (string_bytes path) (source_view need))) }
 {
     whole.words.push(path)?;
     whole.needs.push(need)?;
@@ -37,7 +39,7 @@ fn push_path(whole: &mut Part, path: String, need: Source) -> Result<(), AllocEr
 
 // Appends arguments that need nothing.
 fn push_alone(whole: &mut Part, alloc: Global, words: &[Text]) -> Result<(), AllocError>
-    ensures { IfOk result (λ _. part_view whole.new ≡ joined (part_view whole.old) (words_alone words.now)) }
+    ensures { IfOk result (λ _. part_view whole.new ≡ joined_parts (part_view whole.old) (words_alone words.now)) }
 {
     let mut own = strings(alloc, words)?;
     whole.words.append(&mut own)
@@ -50,7 +52,7 @@ fn push_path_alone(
     depth: usize,
     path: &str,
 ) -> Result<(), AllocError>
-    ensures { IfOk result (λ _. part_view whole.new ≡ joined (part_view whole.old) (words_alone (path_from depth path.now ∷ []))) }
+    ensures { IfOk result (λ _. part_view whole.new ≡ joined_parts (part_view whole.old) (words_alone (path_from depth path.now ∷ []))) }
 {
     let word = source_path(alloc, depth, path)?;
     whole.words.push(word)?;
@@ -65,7 +67,7 @@ fn push_program(
     program: &Program,
 ) -> Result<bool, AllocError>
     ensures { IfOk result (λ done. (if done then Some (part_view whole.new) else None)
-        ≡ option_map (joined (part_view whole.old)) (of_program depth program.now)) }
+        ≡ option_map (joined_parts (part_view whole.old)) (of_program depth program.now)) }
 {
     let pushed = match program {
         Program::NotFound => return Ok(false),
@@ -78,7 +80,7 @@ fn push_program(
 
 // Returns how a target is called. A program directly in the build directory is called as `./prog`.
 fn run_word(alloc: Global, target: &BuildTarget) -> Result<String, AllocError>
-    ensures { IfOk result (λ s. string_bytes s ≡ called (build_view target.now)) }
+    ensures { IfOk result (λ s. string_bytes s ≡ command_path (build_view target.now)) }
 {
     let path = file_path(alloc, target)?;
     if !target.kind.is_library() && !has_slash(&path) {
@@ -93,7 +95,7 @@ fn push_build_target(
     alloc: Global,
     target: &BuildTarget,
 ) -> Result<(), AllocError>
-    ensures { IfOk result (λ _. part_view whole.new ≡ joined (part_view whole.old) (of_build_target (build_view target.now))) }
+    ensures { IfOk result (λ _. part_view whole.new ≡ joined_parts (part_view whole.old) (of_build_target (build_view target.now))) }
 {
     let word = run_word(alloc, target)?;
     let path = file_path(alloc, target)?;
@@ -102,7 +104,7 @@ fn push_build_target(
 }
 
 fn push_outputs(whole: &mut Part, alloc: Global, paths: &[String]) -> Result<(), AllocError>
-    ensures { IfOk result (λ _. part_view whole.new ≡ joined (part_view whole.old) (of_outputs (texts paths.now))) }
+    ensures { IfOk result (λ _. part_view whole.new ≡ joined_parts (part_view whole.old) (of_outputs (texts paths.now))) }
 {
     let need = make_of(alloc, paths)?;
     whole.needs.push(need)?;
@@ -110,7 +112,7 @@ fn push_outputs(whole: &mut Part, alloc: Global, paths: &[String]) -> Result<(),
 }
 
 fn push_output(whole: &mut Part, alloc: Global, path: &str) -> Result<(), AllocError>
-    ensures { IfOk result (λ _. part_view whole.new ≡ joined (part_view whole.old) (of_output path.now)) }
+    ensures { IfOk result (λ _. part_view whole.new ≡ joined_parts (part_view whole.old) (of_output path.now)) }
 {
     let word = String::from_str(alloc, path)?;
     let own = String::from_str(alloc, path)?;
@@ -125,7 +127,7 @@ fn push_file(
     path: &str,
     is_built: bool,
 ) -> Result<(), AllocError>
-    ensures { IfOk result (λ _. part_view whole.new ≡ joined (part_view whole.old) (of_file depth path.now is_built)) }
+    ensures { IfOk result (λ _. part_view whole.new ≡ joined_parts (part_view whole.old) (of_file depth path.now is_built)) }
 {
     let own = String::from_str(alloc, path)?;
     if is_built {
@@ -144,7 +146,7 @@ fn push_thing(
     thing: Thing<'_>,
 ) -> Result<bool, AllocError>
     ensures { IfOk result (λ done. (if done then Some (part_view whole.new) else None)
-        ≡ option_map (joined (part_view whole.old)) (of_thing depth (thing_view thing.entry))) }
+        ≡ option_map (joined_parts (part_view whole.old)) (of_thing depth (thing_view thing.entry))) }
 {
     let pushed = match thing {
         Thing::Program(program) => return push_program(whole, alloc, depth, program),
@@ -160,7 +162,7 @@ fn push_thing(
 // Appends an object, or returns false if it cannot be in a command.
 fn push_object(whole: &mut Part, here: &Here<'_>, object: &Object) -> Result<bool, AllocError>
     ensures { IfOk result (λ done. (if done then Some (part_view whole.new) else None)
-        ≡ option_map (joined (part_view whole.old)) (of_object (here_view here.now) object.now)) }
+        ≡ option_map (joined_parts (part_view whole.old)) (of_object (here_view here.now) object.now)) }
 {
     match thing_of(here.earlier, object) {
         Some(thing) => push_thing(whole, here.alloc, here.depth, thing),
@@ -171,11 +173,11 @@ fn push_object(whole: &mut Part, here: &Here<'_>, object: &Object) -> Result<boo
 fn push_text(
     whole: &mut Part,
     alloc: Global,
-    place: &Place<'_>,
+    place: &PlaceholderValues<'_>,
     text: &str,
 ) -> Result<bool, AllocError>
     ensures { IfOk result (λ done. (if done then Some (part_view whole.new) else None)
-        ≡ option_map (joined (part_view whole.old)) (of_text (place_view place.now) text.now)) }
+        ≡ option_map (joined_parts (part_view whole.old)) (of_text (place_view place.now) text.now)) }
 {
     push_words(&mut whole.words, alloc, place, text)
 }
@@ -184,11 +186,11 @@ fn push_text(
 fn push_part(
     whole: &mut Part,
     here: &Here<'_>,
-    place: &Place<'_>,
+    place: &PlaceholderValues<'_>,
     value: &Value,
 ) -> Result<bool, AllocError>
     ensures { IfOk result (λ done. (if done then Some (part_view whole.new) else None)
-        ≡ option_map (joined (part_view whole.old)) (part_of (here_view here.now) (place_view place.now) (data_of value.now))) }
+        ≡ option_map (joined_parts (part_view whole.old)) (part_of (here_view here.now) (place_view place.now) (data_of value.now))) }
 {
     match value {
         Value::Text(text) => push_text(whole, here.alloc, place, text.as_str()),
@@ -201,7 +203,7 @@ fn push_part(
 /// cannot be in a command.
 pub fn command_of(
     here: &Here<'_>,
-    place: &Place<'_>,
+    place: &PlaceholderValues<'_>,
     values: &[&Value],
 ) -> Result<Option<Part>, AllocError>
     ensures { IfOk result (λ p. option_map part_view p

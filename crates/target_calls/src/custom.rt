@@ -4,40 +4,40 @@ ghost use Rattle.std.specs.Bool.{OnTrue};
 ghost use Rattle.arguments.specs.Arguments.{named_data};
 ghost use Rattle.arguments.specs.Given.{texts as texts_given};
 ghost use Rattle.arguments.specs.Refused.{said_data};
-ghost use Rattle.arguments.specs.Said.{found};
+ghost use Rattle.arguments.specs.Said.{found_value};
 ghost use Rattle.arguments.specs.declared.rule.Rule.TheVariants.{HasMeaning as Meaningful};
 ghost use Rattle.build.specs.edge.Texts.{texts};
 ghost use Rattle.build.specs.edge.Folders.{build_folder, source_folder};
 ghost use Rattle.build.specs.edge.Paths.{source_root};
-ghost use Rattle.named_sources.specs.Holes.{first_of};
-ghost use Rattle.named_sources.specs.HolesView.{place_view};
+ghost use Rattle.sources.specs.Holes.{first_of};
+ghost use Rattle.sources.specs.HolesView.{place_view};
 ghost use Rattle.support.specs.paths.Paths.{path_in as path_of_file};
 ghost use Rattle.build.specs.View.{custom_view, source_view};
-ghost use Rattle.named_sources.specs.SourcesView.{named_views};
+ghost use Rattle.sources.specs.SourcesView.{named_views};
 ghost use Rattle.world.specs.Prelude.{arguments_data, data_of, here_view};
 ghost use Rattle.target_calls.specs.BuildTargetsView.{named_target_view};
 ghost use Rattle.target_calls.specs.CommandsView.{part_view};
 ghost use Rattle.target_calls.specs.CustomNames.{names_in, names_of, place_of};
 ghost use Rattle.target_calls.specs.CustomTargets.{IsAllInput, captures_one, count_named, custom_from, custom_target, declared_custom};
 ghost use Rattle.target_calls.specs.CustomTargets.{declared_files, has_place, is_source_keyword, longest, names_from, part_by, rule_broken};
-ghost use Rattle.target_calls.specs.CustomTargets.{sources_by, whole_command, written, written_in, written_sources};
+ghost use Rattle.target_calls.specs.CustomTargets.{sources_by, whole_command, sources_in_call, written_in, written_sources};
 ghost use Rattle.target_calls.specs.CustomTargetsView.{names_view};
 ghost use Rattle.target_calls.specs.Sources.{sources_in};
 
 use crate::build_target::NamedTarget;
 use crate::command::{Part, command_of};
-use crate::sources::{files_among, sources_in};
-use arguments::{Arguments, Named, Refused, Rule};
+use crate::source_lookup::{files_among, sources_in};
+use arguments::{ArgumentError, Arguments, Named, Rule};
 use build::{CustomTarget, Source, Target, paths_in, source_paths};
-use named_sources::{NamedSource, Place, Scope, fill, sources_named, sources_of};
+use sources::{NamedSource, PlaceholderScope, PlaceholderValues, fill, sources_named, sources_of};
 use std::alloc::{AllocError, Global};
 use support::paths::path_in;
-use values::{Value, flat, open_up, opened_count};
+use values::{Value, flat, flatten_value, flattened_count};
 use world::Here;
 
-/// Names of files in the folder of the call.
+/// Holds the names of output files in the folder of the call.
 #[derive(Drop)]
-pub struct Names {
+pub struct OutputNames {
     pub outputs: Vec<String>,
     pub depfile: Option<String>,
 }
@@ -49,7 +49,7 @@ pub fn count_named(arguments: &Arguments, name: &str) -> usize
     ensures { result ≡ count_named name.now (arguments_data arguments.now) }
 {
     match arguments.keyword(name) {
-        Some(value) => opened_count(value),
+        Some(value) => flattened_count(value),
         None => 0,
     }
 }
@@ -127,7 +127,7 @@ fn push_written<'v>(
         ≡ map (λ v. data_of v.now) values.old.items ++ written_in (named_data named.now)) }
 {
     if is_source_keyword(named.name.as_str()) {
-        let more = open_up(alloc, &named.value)?;
+        let more = flatten_value(alloc, &named.value)?;
         push_values(values, more)?;
     }
     Ok(())
@@ -135,7 +135,7 @@ fn push_written<'v>(
 
 // Returns the sources that a call gives, in the order in which its keywords are written.
 fn list_written(alloc: Global, arguments: &Arguments) -> Result<Vec<&Value>, AllocError>
-    ensures { IfOk result (λ vs. map (λ v. data_of v.now) vs.items ≡ written (arguments_data arguments.now)) }
+    ensures { IfOk result (λ vs. map (λ v. data_of v.now) vs.items ≡ sources_in_call (arguments_data arguments.now)) }
 {
     let mut values = Vec::new(alloc);
     for named in &arguments.named {
@@ -167,7 +167,7 @@ fn says_input_alone(arguments: &Arguments) -> bool
 // Returns the only value that gives sources, if there is one and it is no list.
 fn only_written(arguments: &Arguments, input_alone: bool) -> Option<&Value>
     requires { OnTrue input_alone (IsAllInput (arguments_data arguments.now)) }
-    ensures { IfSome result (λ v. written (arguments_data arguments.now) ≡ data_of v.now ∷ []) }
+    ensures { IfSome result (λ v. sources_in_call (arguments_data arguments.now) ≡ data_of v.now ∷ []) }
 {
     if !input_alone {
         return None;
@@ -183,7 +183,7 @@ fn written_sources(
     here: &Here<'_>,
     arguments: &Arguments,
     input_alone: bool,
-) -> Result<Result<Vec<NamedSource>, Refused>, AllocError>
+) -> Result<Result<Vec<NamedSource>, ArgumentError>, AllocError>
     requires { OnTrue input_alone (IsAllInput (arguments_data arguments.now)) }
     ensures { IfOk result (λ ss. said_data named_views ss ≡ written_sources (here_view here.now) (arguments_data arguments.now)) }
 {
@@ -201,9 +201,9 @@ fn sources_said(
     here: &Here<'_>,
     named: Vec<NamedSource>,
     name: &str,
-) -> Result<Result<Vec<Source>, Refused>, AllocError>
+) -> Result<Result<Vec<Source>, ArgumentError>, AllocError>
     ensures { IfOk result (λ ss. said_data (λ v. map source_view v.items) ss
-        ≡ found (sources_in (here_view here.now).earlier (named_views named)) Meaningful name.now) }
+        ≡ found_value (sources_in (here_view here.now).earlier (named_views named)) Meaningful name.now) }
 {
     match sources_in(here.alloc, here.earlier, named)? {
         Some(sources) => Ok(Ok(sources)),
@@ -216,7 +216,7 @@ fn sources_by(
     here: &Here<'_>,
     arguments: &Arguments,
     name: &str,
-) -> Result<Result<Vec<Source>, Refused>, AllocError>
+) -> Result<Result<Vec<Source>, ArgumentError>, AllocError>
     ensures { IfOk result (λ ss. said_data (λ v. map source_view v.items) ss
         ≡ sources_by (here_view here.now) (arguments_data arguments.now) name.now) }
 {
@@ -232,7 +232,7 @@ fn inputs_among(
     arguments: &Arguments,
     named: Vec<NamedSource>,
     input_alone: bool,
-) -> Result<Result<Vec<Source>, Refused>, AllocError>
+) -> Result<Result<Vec<Source>, ArgumentError>, AllocError>
     requires input { OnTrue input_alone (IsAllInput (arguments_data arguments.now)) }
     requires named { written_sources (here_view here.now) (arguments_data arguments.now) ≡ Ok (named_views named) }
     ensures { IfOk result (λ ss. said_data (λ v. map source_view v.items) ss
@@ -254,7 +254,7 @@ fn place_with<'p>(
     inputs: &'p [String],
     outputs: &'p [String],
     depfile: Option<&'p str>,
-) -> Place<'p>
+) -> PlaceholderValues<'p>
     ensures { place_view result ≡ record {
       inputs = texts inputs.now;
       outputs = texts outputs.now;
@@ -264,7 +264,7 @@ fn place_with<'p>(
       source_root = source_root depth;
     } }
 {
-    Place {
+    PlaceholderValues {
         inputs,
         outputs,
         depfile,
@@ -276,7 +276,7 @@ fn place_with<'p>(
 // Returns names of files with their placeholders replaced, and `None` if a placeholder has no value.
 fn names_in(
     alloc: Global,
-    place: &Place<'_>,
+    place: &PlaceholderValues<'_>,
     texts: &[&str],
 ) -> Result<Option<Vec<String>>, AllocError>
     ensures { IfOk result (λ ns. option_map (λ v. map string_bytes v.items) ns
@@ -284,7 +284,7 @@ fn names_in(
 {
     let mut names = Vec::with_capacity(alloc, texts.len())?;
     for text in texts {
-        match fill(alloc, Scope::FileName, place, text)? {
+        match fill(alloc, PlaceholderScope::FileName, place, text)? {
             Some(name) => names.push(name)?,
             None => return Ok(None),
         }
@@ -301,7 +301,7 @@ fn first_of(names: Vec<String>) -> Option<String>
 // Returns the names that a keyword gives. Most often it is one text, and no list is made.
 fn names_given(
     alloc: Global,
-    place: &Place<'_>,
+    place: &PlaceholderValues<'_>,
     arguments: &Arguments,
     name: &str,
 ) -> Result<Option<Vec<String>>, AllocError>
@@ -321,9 +321,9 @@ fn names_given(
 // Returns the names of the outputs and the depfile, whose placeholders refer to the inputs alone.
 fn names_of(
     alloc: Global,
-    place: &Place<'_>,
+    place: &PlaceholderValues<'_>,
     arguments: &Arguments,
-) -> Result<Option<Names>, AllocError>
+) -> Result<Option<OutputNames>, AllocError>
     ensures { IfOk result (λ n. option_map names_view n ≡ names_of (place_view place.now) (arguments_data arguments.now)) }
 {
     let Some(outputs) = names_given(alloc, place, arguments, "output")? else {
@@ -333,7 +333,7 @@ fn names_of(
         return Ok(None);
     };
     let depfile = first_of(depfile);
-    Ok(Some(Names { outputs, depfile }))
+    Ok(Some(OutputNames { outputs, depfile }))
 }
 
 fn path_of(alloc: Global, folder: &str, name: &Option<String>) -> Result<Option<String>, AllocError>
@@ -347,7 +347,7 @@ fn path_of(alloc: Global, folder: &str, name: &Option<String>) -> Result<Option<
 }
 
 // Returns the paths of the files with these names. Returns `None` in the root, where the names are the paths.
-fn files_below(here: &Here<'_>, names: &Names) -> Result<Option<Names>, AllocError>
+fn files_below(here: &Here<'_>, names: &OutputNames) -> Result<Option<OutputNames>, AllocError>
     ensures { let folder = here.now.folder.now in
         IfOk result (λ files. unwrap_or (option_map names_view files) (names_view names.now) ≡ record {
           outputs = map (path_of_file folder) (names_view names.now).outputs;
@@ -359,7 +359,7 @@ fn files_below(here: &Here<'_>, names: &Names) -> Result<Option<Names>, AllocErr
     }
     let outputs = paths_in(here.alloc, here.folder, &names.outputs)?;
     let depfile = path_of(here.alloc, here.folder, &names.depfile)?;
-    Ok(Some(Names { outputs, depfile }))
+    Ok(Some(OutputNames { outputs, depfile }))
 }
 
 fn lend(path: &Option<String>) -> Option<&str>
@@ -376,7 +376,7 @@ fn lend(path: &Option<String>) -> Option<&str>
 fn custom_target(
     here: &Here<'_>,
     arguments: &Arguments,
-    names: Names,
+    names: OutputNames,
     inputs: Vec<Source>,
     command: Part,
 ) -> Result<CustomTarget, AllocError>
@@ -403,9 +403,9 @@ fn custom_target(
 fn part_by(
     here: &Here<'_>,
     arguments: &Arguments,
-    place: &Place<'_>,
+    place: &PlaceholderValues<'_>,
     name: &str,
-) -> Result<Result<Part, Refused>, AllocError>
+) -> Result<Result<Part, ArgumentError>, AllocError>
     ensures { IfOk result (λ p. said_data part_view p
         ≡ part_by (here_view here.now) (arguments_data arguments.now) (place_view place.now) name.now) }
 {
@@ -420,8 +420,8 @@ fn part_by(
 fn whole_command(
     here: &Here<'_>,
     arguments: &Arguments,
-    place: &Place<'_>,
-) -> Result<Result<Part, Refused>, AllocError>
+    place: &PlaceholderValues<'_>,
+) -> Result<Result<Part, ArgumentError>, AllocError>
     ensures { IfOk result (λ p. said_data part_view p
         ≡ whole_command (here_view here.now) (arguments_data arguments.now) (place_view place.now)) }
 {
@@ -449,7 +449,7 @@ fn names_from<'p>(
     arguments: &Arguments,
     folder: &'p str,
     inputs: &'p [String],
-) -> Result<Result<Names, Refused>, AllocError>
+) -> Result<Result<OutputNames, ArgumentError>, AllocError>
     requires { folder.now ≡ here.now.folder.now }
     ensures { IfOk result (λ n. said_data names_view n
         ≡ names_from (here_view here.now) (arguments_data arguments.now) (texts inputs.now)) }
@@ -467,8 +467,8 @@ fn command_from<'p>(
     arguments: &Arguments,
     folder: &'p str,
     inputs: &'p [String],
-    names: &'p Names,
-) -> Result<Result<Part, Refused>, AllocError>
+    names: &'p OutputNames,
+) -> Result<Result<Part, ArgumentError>, AllocError>
     requires { folder.now ≡ here.now.folder.now }
     ensures { IfOk result (λ p. said_data part_view p ≡ whole_command (here_view here.now) (arguments_data arguments.now)
         (place_of (here_view here.now) (texts inputs.now) (names_view names.now))) }
@@ -484,7 +484,7 @@ fn custom_from(
     here: &Here<'_>,
     arguments: &Arguments,
     inputs: Vec<Source>,
-) -> Result<Result<CustomTarget, Refused>, AllocError>
+) -> Result<Result<CustomTarget, ArgumentError>, AllocError>
     ensures { IfOk result (λ t. said_data custom_view t
         ≡ custom_from (here_view here.now) (arguments_data arguments.now) (map source_view inputs.items)) }
 {
@@ -507,7 +507,7 @@ fn declare_files(
     arguments: &Arguments,
     inputs: Vec<Source>,
     files: Vec<String>,
-) -> Result<Result<NamedTarget, Refused>, AllocError>
+) -> Result<Result<NamedTarget, ArgumentError>, AllocError>
     ensures { IfOk result (λ t. said_data named_target_view t
         ≡ declared_files (here_view here.now) (arguments_data arguments.now) (map source_view inputs.items) (texts files.items)) }
 {
@@ -528,7 +528,7 @@ fn declare_files(
 pub fn declare_custom(
     here: &Here<'_>,
     arguments: &Arguments,
-) -> Result<Result<NamedTarget, Refused>, AllocError>
+) -> Result<Result<NamedTarget, ArgumentError>, AllocError>
     ensures { IfOk result (λ t. said_data named_target_view t
         ≡ declared_custom (here_view here.now) (arguments_data arguments.now)) }
 {

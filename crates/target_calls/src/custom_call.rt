@@ -3,9 +3,9 @@ ghost use Rattle.std.specs.Prelude.{option_map};
 ghost use Rattle.world.specs.Prelude.{Does, MayFail, arguments_data, data_of};
 ghost use Rattle.target_calls.specs.CustomCalls.{custom_target};
 
+use crate::build_target_calls::require_fit;
 use crate::custom::{count_named, declare_custom};
 use crate::custom_installs::add_custom;
-use crate::declaring::require_fit;
 use crate::tree::require_all;
 use arguments::Arguments;
 use ports::{Outputs, Tree};

@@ -16,12 +16,12 @@ use std::alloc::{AllocError, Global};
 use support::paths::{path_below, path_in};
 use world::{Caller, Stop, Store};
 
-/// Where outputs come from, and where they are installed.
+/// Says where outputs come from, and where they are installed.
 #[derive(Drop)]
 pub struct Way {
     /// An absolute path.
     pub build_root: String,
-    /// The folder of the build file, `""` for the root.
+    /// The folder of the definition file, `""` for the root.
     pub folder: String,
     /// The directory where they are installed.
     pub destination: String,

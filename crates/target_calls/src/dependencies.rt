@@ -1,19 +1,19 @@
 //! Reads what dependencies add to a target.
 ghost use Rattle.std.specs.Prelude.{◌≡◌, IfOk, codes, map, option_map};
 ghost use Rattle.arguments.specs.Leaves.{leaves_named};
-ghost use Rattle.build.specs.LinkedViews.{linked_views};
+ghost use Rattle.build.specs.DeclaredTargetViews.{declared_target_views};
 ghost use Rattle.build.specs.View.{lists_view};
-ghost use Rattle.named_sources.specs.SourcesView.{named_view};
+ghost use Rattle.sources.specs.SourcesView.{named_view};
 ghost use Rattle.world.specs.Prelude.{arguments_data, data_of, here_view};
 ghost use Rattle.target_calls.specs.Dependencies.{dependencies_of, found_in, lists_of, named_of};
 
-use crate::sources::sources_in;
+use crate::source_lookup::sources_in;
 use arguments::Arguments;
-use build::{Linked, Lists};
-use named_sources::{NamedSource, strings};
+use build::{DeclaredTarget, Lists};
+use sources::NamedSource;
 use std::alloc::{AllocError, Global};
 use std::rc::Rc;
-use values::{Dependency, Object, Value};
+use values::{Dependency, Object, Value, strings};
 use world::Here;
 
 fn to_named(alloc: Global, source: &values::Source) -> Result<NamedSource, AllocError>
@@ -48,10 +48,10 @@ fn all_named(alloc: Global, sources: &[values::Source]) -> Result<Vec<NamedSourc
 // Returns the lists that a dependency adds, and `None` if it has a source that no target makes.
 fn lists_of(
     alloc: Global,
-    earlier: &[Linked],
+    earlier: &[DeclaredTarget],
     dependency: &Dependency,
 ) -> Result<Option<Lists>, AllocError>
-    ensures { IfOk result (λ l. option_map lists_view l ≡ lists_of (linked_views earlier.now) dependency.now) }
+    ensures { IfOk result (λ l. option_map lists_view l ≡ lists_of (declared_target_views earlier.now) dependency.now) }
 {
     let named = all_named(alloc, dependency.sources.as_slice())?;
     let Some(sources) = sources_in(alloc, earlier, named)? else {
@@ -97,11 +97,11 @@ fn find_in(value: &Value) -> Option<&Dependency>
 // target makes.
 fn dependencies_of(
     alloc: Global,
-    earlier: &[Linked],
+    earlier: &[DeclaredTarget],
     values: &[&Value],
 ) -> Result<Option<Vec<Rc<Lists>>>, AllocError>
     ensures { IfOk result (λ ls. option_map (λ v. map (λ l. lists_view l.value) v.items) ls
-        ≡ dependencies_of (linked_views earlier.now) (map (λ v. data_of v.now) values.now)) }
+        ≡ dependencies_of (declared_target_views earlier.now) (map (λ v. data_of v.now) values.now)) }
 {
     let mut all = Vec::new(alloc);
     for value in values {

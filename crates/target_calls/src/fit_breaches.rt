@@ -5,7 +5,7 @@ ghost use Rattle.build.specs.edge.Texts.{texts};
 ghost use Rattle.build.specs.project.Adding.{is_target_name};
 ghost use Rattle.build.specs.Files.{file_name, link_names};
 ghost use Rattle.build.specs.Sources.{is_header};
-ghost use Rattle.build.specs.LinkedViews.{linked_views};
+ghost use Rattle.build.specs.DeclaredTargetViews.{declared_target_views};
 ghost use Rattle.build.specs.View.{build_view, custom_view, lists_view, source_view, target_view};
 ghost use Rattle.target_calls.specs.FitBreaches.{bad_name, build_fit, custom_fit, file_breach, fit_breach, foreign_among, foreign_in};
 ghost use Rattle.target_calls.specs.FitBreaches.{foreign_of, foreign_path, source_breach};
@@ -13,7 +13,7 @@ ghost use Rattle.target_calls.specs.FitBreaches.{foreign_of, foreign_path, sourc
 use arguments::Rule;
 use build::project::Project;
 use build::{
-    BuildTarget, CustomTarget, Linked, Lists, Source, Target, file_name, is_c, link_names,
+    BuildTarget, CustomTarget, DeclaredTarget, Lists, Source, Target, file_name, is_c, link_names,
     links_libraries,
 };
 use std::alloc::{AllocError, Global};
@@ -101,9 +101,9 @@ fn foreign_of(target: &BuildTarget) -> Option<&str>
 
 // ---- the target
 
-fn source_breach<'t>(earlier: &[Linked], target: &'t BuildTarget) -> (Rule, &'t str)
+fn source_breach<'t>(earlier: &[DeclaredTarget], target: &'t BuildTarget) -> (Rule, &'t str)
     ensures { (result.0, result.1.now)
-        ≡ source_breach (linked_views earlier.now) (build_view target.now) (foreign_of (build_view target.now)) }
+        ≡ source_breach (declared_target_views earlier.now) (build_view target.now) (foreign_of (build_view target.now)) }
 {
     match foreign_of(target) {
         Some(path) => (Rule::IsSource, path),
@@ -120,10 +120,10 @@ fn source_breach<'t>(earlier: &[Linked], target: &'t BuildTarget) -> (Rule, &'t 
 // Returns the rule that a target breaks whose file may have its name, and what breaks it.
 fn link_breach(
     alloc: Global,
-    earlier: &[Linked],
+    earlier: &[DeclaredTarget],
     target: &BuildTarget,
 ) -> Result<(Rule, String), AllocError>
-    ensures { IfOk result (λ b. (b.0, string_bytes b.1) ≡ file_breach (linked_views earlier.now) (build_view target.now)
+    ensures { IfOk result (λ b. (b.0, string_bytes b.1) ≡ file_breach (declared_target_views earlier.now) (build_view target.now)
         (bad_name (link_names (build_view target.now)))) }
 {
     let names = link_names(alloc, target)?;
@@ -136,10 +136,10 @@ fn link_breach(
 
 fn file_breach(
     alloc: Global,
-    earlier: &[Linked],
+    earlier: &[DeclaredTarget],
     target: &BuildTarget,
 ) -> Result<(Rule, String), AllocError>
-    ensures { IfOk result (λ b. (b.0, string_bytes b.1) ≡ file_breach (linked_views earlier.now) (build_view target.now)
+    ensures { IfOk result (λ b. (b.0, string_bytes b.1) ≡ file_breach (declared_target_views earlier.now) (build_view target.now)
         (bad_name (file_name (build_view target.now) ∷ link_names (build_view target.now)))) }
 {
     let name = file_name(alloc, target)?;
@@ -152,10 +152,10 @@ fn file_breach(
 
 fn build_fit(
     alloc: Global,
-    earlier: &[Linked],
+    earlier: &[DeclaredTarget],
     target: &BuildTarget,
 ) -> Result<(Rule, String), AllocError>
-    ensures { IfOk result (λ b. (b.0, string_bytes b.1) ≡ build_fit (linked_views earlier.now) (build_view target.now)) }
+    ensures { IfOk result (λ b. (b.0, string_bytes b.1) ≡ build_fit (declared_target_views earlier.now) (build_view target.now)) }
 {
     let name = target.name.as_str();
     if is_target_name(name) {

@@ -3,28 +3,28 @@ ghost use Rattle.std.specs.Prelude.{◌≡◌, IfOk, option_map};
 ghost use Rattle.build.specs.project.View.{install_view};
 ghost use Rattle.build.specs.View.{build_view, target_view};
 ghost use Rattle.world.specs.Prelude.{Does, arguments_data, world_of};
-ghost use Rattle.target_calls.specs.Installs.{build_install, install_folder, install_of, noted, usual_folder};
+ghost use Rattle.target_calls.specs.Installs.{build_install, install_folder, install_of, noted_install, usual_folder};
 
 use arguments::Arguments;
 use build::project::Install;
-use build::{BuildTarget, Kind, Target, file_name, file_path};
+use build::{BuildTarget, Target, TargetKind, file_name, file_path};
 use ports::{Outputs, Tree};
 use std::alloc::{AllocError, Global};
 use support::paths::path_below;
 use world::{Caller, Stop, Store};
 
 // Returns the default directory: `bindir` for programs, `libdir` for libraries.
-fn usual_folder(store: &Store, kind: Kind) -> &str
+fn usual_folder(store: &Store, kind: TargetKind) -> &str
     ensures { result.now ≡ usual_folder (world_of store.now).facts kind }
 {
     match kind {
-        Kind::Executable => store.option_text("bindir"),
-        Kind::StaticLibrary | Kind::SharedLibrary => store.option_text("libdir"),
+        TargetKind::Executable => store.option_text("bindir"),
+        TargetKind::StaticLibrary | TargetKind::SharedLibrary => store.option_text("libdir"),
     }
 }
 
 // Returns the directory of the keyword `install_dir`, and otherwise the default one.
-fn install_folder<'s>(store: &'s Store, arguments: &'s Arguments, kind: Kind) -> &'s str
+fn install_folder<'s>(store: &'s Store, arguments: &'s Arguments, kind: TargetKind) -> &'s str
     ensures { result.now ≡ install_folder (world_of store.now).facts (arguments_data arguments.now) kind }
 {
     match arguments.text_given("install_dir") {
@@ -80,7 +80,7 @@ pub fn note<T: Tree, O: Outputs>(
     caller: &mut Caller<'_, T, O>,
     install: Option<Install>,
 ) -> Result<(), Stop>
-    ensures { Does T.seen O.seen (λ u. u) (noted (option_map install_view install)) caller.old result caller.new }
+    ensures { Does T.seen O.seen (λ u. u) (noted_install (option_map install_view install)) caller.old result caller.new }
 {
     match install {
         Some(install) => caller.add_install(install),

@@ -6,9 +6,9 @@ ghost use Rattle.support.specs.paths.Folder.{strings_of};
 ghost use Rattle.world.specs.Prelude.{Does, MayFail, arguments_data, data_of, here_view};
 ghost use Rattle.target_calls.specs.Files.{all_required, files, include_directories, named_paths, path_named, paths_named, rule_of};
 
-use arguments::{Arguments, Refused, Rule};
-use named_sources::{directories_at, files_at};
+use arguments::{ArgumentError, Arguments, Rule};
 use ports::{Outputs, Tree};
+use sources::{directories_at, files_at};
 use std::alloc::AllocError;
 use support::paths::{folder_path, tree_path};
 use values::Value;
@@ -33,7 +33,7 @@ impl Wanted {
         }
     }
 
-    // Returns the path that a text of the present build file names, and `None` if it names none.
+    // Returns the path that a text of the present definition file names, and `None` if it names none.
     fn path(self, here: &Here<'_>, text: &str) -> Result<Option<String>, AllocError>
         ensures { IfOk result (λ path. option_map string_bytes path ≡ path_named (here_view here.now) self text.now) }
     {
@@ -49,7 +49,7 @@ fn paths_named(
     here: &Here<'_>,
     wanted: Wanted,
     texts: &[&str],
-) -> Result<Result<Vec<String>, Refused>, AllocError>
+) -> Result<Result<Vec<String>, ArgumentError>, AllocError>
     ensures { IfOk result (λ ps. said_data strings_of ps ≡ paths_named (here_view here.now) wanted (map (λ t. t.now) texts.now)) }
 {
     let mut paths = Vec::new(here.alloc);

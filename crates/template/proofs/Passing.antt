@@ -21,7 +21,7 @@ use Rattle.ports.proofs.Sending.{writes_nothing, sends_part, sends_stop}
 use Rattle.template.specs.Config.{Entries}
 use Rattle.template.specs.declared.stop.PassStop.{PassStop}
 use Rattle.template.specs.declared.stop.PassStop.TheVariants.{Template, Limit, Device}
-use Rattle.template.specs.Line.{Refusal, LongLine, TooLong, line_fault, line_steps, reading}
+use Rattle.template.specs.Line.{Refusal, LongLine, TooLong, line_fault, line_steps, reading_of_line}
 use Rattle.template.proofs.Define.{fault_read, refusal-TooLong, steps_read, steps-TooLong}
 use Rattle.template.specs.Template.{Agrees, Lacks, ending_of, fault_from, first_fault, lines_of, onto, steps_from}
 use Rattle.ports.proofs.Going.{Going, going_start, going_on, going_stop, going_last, going_end, going_as}
@@ -180,8 +180,8 @@ pub passing_fault : {old mid : OutputState} {entries : Entries} {path file : Lis
     → IsPassing old mid entries path file number rest → Sends old mid (steps_from entries path 1 (lines_of file)) false
 passing_fault {old} {mid} {entries} {path} {file} {number} {rest} h = subst (λ r. Sends old mid r false) (sym h.going.of_run) (sends_stop _ (sends_part h.going.writes.sends))
 
-long_reading : (line : List ℕ) → 65536 < length line → reading line ≡ TooLong
-unfolding reading
+long_reading : (line : List ℕ) → 65536 < length line → reading_of_line line ≡ TooLong
+unfolding reading_of_line
 long_reading line h = let e : nat_lt 65536 (length line) ≡ true = lt-ltb 65536 (length line) h in rw e refl
 
 long_fault : (line : List ℕ) → 65536 < length line → line_fault line ≡ Some LongLine

@@ -20,7 +20,7 @@ use Rattle.std.proofs.Math.Seq.{take-length}
 use Rattle.std.proofs.lemmas.List.{get_or-take, get_or_past}
 use Rattle.std.proofs.lemmas.List.Sums.{prefix_len_passes}
 use Rattle.template.specs.Template.{Lacks}
-use Rattle.template.specs.Line.{is_name_byte, name_length, in_place, replaced}
+use Rattle.template.specs.Line.{is_name_byte, name_length, in_place, replaced_line}
 use Rattle.template.specs.Scan.{slashes_at, sign_steps, IsSign, IsPlain}
 
 pub puts-append : (a b : List ℕ) → puts (a ++ b) ≡ puts a ++ puts b
@@ -43,8 +43,8 @@ pub slashes_at-drop : (slashes : ℕ) (xs : List ℕ) (n : ℕ) → n < length x
 unfolding slashes_at
 slashes_at-drop slashes xs n h = ap (slashes_at slashes) (drop_more xs n 0 h)
 
-pub replaced-skip : (entries : Entries) (path : List ℕ) (number : ℕ) (skip : ℕ) (bytes : List ℕ) → replaced entries path number skip 0 bytes ≡ replaced entries path number 0 0 (drop skip bytes)
-unfolding replaced
+pub replaced-skip : (entries : Entries) (path : List ℕ) (number : ℕ) (skip : ℕ) (bytes : List ℕ) → replaced_line entries path number skip 0 bytes ≡ replaced_line entries path number 0 0 (drop skip bytes)
+unfolding replaced_line
 replaced-skip entries path number zero bytes = refl
 replaced-skip entries path number (suc skip) [] = refl
 replaced-skip entries path number (suc skip) (b ∷ bytes) = replaced-skip entries path number skip bytes
@@ -58,17 +58,17 @@ kept slashes (b ∷ bytes) = if b == 92 then kept (slashes + 1) bytes else (repl
 unfoldable pub at_sign : Entries → List ℕ → ℕ → ℕ → List ℕ → List Step
 at_sign entries path number slashes bytes =
     if slashes % 2 == 0 && nat_lt 0 (name_length bytes)
-    then in_place entries path number (take (name_length bytes) bytes) ++ replaced entries path number (name_length bytes + 1) 0 bytes
-    else puts (64 ∷ []) ++ replaced entries path number 0 0 bytes
+    then in_place entries path number (take (name_length bytes) bytes) ++ replaced_line entries path number (name_length bytes + 1) 0 bytes
+    else puts (64 ∷ []) ++ replaced_line entries path number 0 0 bytes
 
 replaced-slash : (entries : Entries) (path : List ℕ) (number slashes b : ℕ) (bytes : List ℕ) → (b == 92) ≡ true
-    → replaced entries path number 0 slashes (b ∷ bytes) ≡ replaced entries path number 0 (slashes + 1) bytes
-unfolding replaced
+    → replaced_line entries path number 0 slashes (b ∷ bytes) ≡ replaced_line entries path number 0 (slashes + 1) bytes
+unfolding replaced_line
 replaced-slash entries path number slashes b bytes e = rw e
 
 replaced-other : (entries : Entries) (path : List ℕ) (number slashes b : ℕ) (bytes : List ℕ) → (b == 92) ≡ false → (b == 64) ≡ false
-    → replaced entries path number 0 slashes (b ∷ bytes) ≡ puts (replicate slashes 92 ++ b ∷ []) ++ replaced entries path number 0 0 bytes
-unfolding replaced
+    → replaced_line entries path number 0 slashes (b ∷ bytes) ≡ puts (replicate slashes 92 ++ b ∷ []) ++ replaced_line entries path number 0 0 bytes
+unfolding replaced_line
 replaced-other entries path number slashes b bytes e f = rw e (rw f)
 
 kept-slash : (slashes b : ℕ) (bytes : List ℕ) → (b == 92) ≡ true → kept slashes (b ∷ bytes) ≡ kept (slashes + 1) bytes
@@ -88,12 +88,12 @@ unfolding slashes_at
 slashes_at-other slashes b bytes e = rw e
 
 replaced-sign : (entries : Entries) (path : List ℕ) (number slashes : ℕ) (rest : List ℕ)
-    → replaced entries path number 0 slashes (64 ∷ rest) ≡ puts (kept slashes []) ++ at_sign entries path number (slashes_at slashes []) rest
-unfolding replaced kept at_sign slashes_at
+    → replaced_line entries path number 0 slashes (64 ∷ rest) ≡ puts (kept slashes []) ++ at_sign entries path number (slashes_at slashes []) rest
+unfolding replaced_line kept at_sign slashes_at
 replaced-sign entries path number slashes rest = refl
 
 pub replaced-at : (entries : Entries) (path : List ℕ) (number : ℕ) (text rest : List ℕ) (slashes : ℕ) → Lacks 64 text
-    → replaced entries path number 0 slashes (text ++ 64 ∷ rest) ≡ puts (kept slashes text) ++ at_sign entries path number (slashes_at slashes text) rest
+    → replaced_line entries path number 0 slashes (text ++ 64 ∷ rest) ≡ puts (kept slashes text) ++ at_sign entries path number (slashes_at slashes text) rest
 replaced-at entries path number [] rest slashes h = replaced-sign entries path number slashes rest
 replaced-at entries path number (b ∷ text) rest slashes h =
     ⊎_elim
@@ -116,15 +116,15 @@ replaced-at entries path number (b ∷ text) rest slashes h =
 replicate-on : (n x : ℕ) (text : List ℕ) → replicate (n + 1) x ++ text ≡ replicate n x ++ x ∷ text
 replicate-on n x text = ap (λ r. r ++ text) (sym (replicate-append-replicate n 1 x)) ∙ append_assoc (replicate n x) (x ∷ []) text
 
-replaced-end : (entries : Entries) (path : List ℕ) (number slashes : ℕ) → replaced entries path number 0 slashes [] ≡ puts (replicate slashes 92)
-unfolding replaced
+replaced-end : (entries : Entries) (path : List ℕ) (number slashes : ℕ) → replaced_line entries path number 0 slashes [] ≡ puts (replicate slashes 92)
+unfolding replaced_line
 replaced-end entries path number slashes = refl
 
 replicate-byte : (n b : ℕ) (text : List ℕ) → (b == 92) ≡ true → replicate (n + 1) 92 ++ text ≡ replicate n 92 ++ b ∷ text
 replicate-byte n b text e = replicate-on n 92 text ∙ ap (λ x. replicate n 92 ++ x ∷ text) (sym (eqb-true b 92 e))
 
 pub replaced-plain : (entries : Entries) (path : List ℕ) (number : ℕ) (text : List ℕ) (slashes : ℕ) → Lacks 64 text
-    → replaced entries path number 0 slashes text ≡ puts (replicate slashes 92 ++ text)
+    → replaced_line entries path number 0 slashes text ≡ puts (replicate slashes 92 ++ text)
 replaced-plain entries path number [] slashes h = replaced-end entries path number slashes ∙ ap puts (sym (append-nil (replicate slashes 92)))
 replaced-plain entries path number (b ∷ text) slashes h =
     ⊎_elim
@@ -176,7 +176,7 @@ kept-is slashes (b ∷ text) =
 
 -- one '@' further
 pub replaced-first : (entries : Entries) (path : List ℕ) (number : ℕ) (rest : List ℕ) (k : ℕ) → k < length rest → Lacks 64 (take k rest) → get_or rest k 0 ≡ 64
-    → replaced entries path number 0 0 rest
+    → replaced_line entries path number 0 0 rest
     ≡ puts (take (k - (slashes_at 0 (take k rest) - slashes_at 0 (take k rest) / 2)) rest) ++ at_sign entries path number (slashes_at 0 (take k rest)) (drop (k + 1) rest)
 replaced-first entries path number rest k le lacks at64 =
     let text = take k rest in
@@ -184,15 +184,15 @@ replaced-first entries path number rest k le lacks at64 =
     let len : length text ≡ k = length-take-le k rest (omega arith) in
     let cut : rest ≡ text ++ 64 ∷ drop (k + 1) rest = sym (take-append-drop k rest) ∙ ap (λ r. text ++ r) (drop_more rest k 0 le) ∙ ap (λ x. text ++ x ∷ drop (k + 1) rest) at64 in
     let same : kept 0 text ≡ take (k - (s - s / 2)) rest = kept-is 0 text ∙ ap (λ n. take n text) (omega arith) ∙ take-take (k - (s - s / 2)) k rest (omega arith) in
-    ap (λ r. replaced entries path number 0 0 r) cut ∙ replaced-at entries path number text (drop (k + 1) rest) 0 lacks ∙ ap (λ b. puts b ++ at_sign entries path number s (drop (k + 1) rest)) same
+    ap (λ r. replaced_line entries path number 0 0 r) cut ∙ replaced-at entries path number text (drop (k + 1) rest) 0 lacks ∙ ap (λ b. puts b ++ at_sign entries path number s (drop (k + 1) rest)) same
 
 sign_steps-name : (entries : Entries) (path : List ℕ) (number name : ℕ) (bytes : List ℕ) → 0 < name
-    → sign_steps entries path number name bytes ≡ in_place entries path number (take name bytes) ++ replaced entries path number 0 0 (drop (name + 1) bytes)
+    → sign_steps entries path number name bytes ≡ in_place entries path number (take name bytes) ++ replaced_line entries path number 0 0 (drop (name + 1) bytes)
 unfolding sign_steps
 sign_steps-name entries path number name bytes h = let f : nat_lt 0 name ≡ true = lt-ltb 0 name h in rw f
 
 sign_steps-alone : (entries : Entries) (path : List ℕ) (number name : ℕ) (bytes : List ℕ) → name ≤ 0
-    → sign_steps entries path number name bytes ≡ puts (64 ∷ []) ++ replaced entries path number 0 0 bytes
+    → sign_steps entries path number name bytes ≡ puts (64 ∷ []) ++ replaced_line entries path number 0 0 bytes
 unfolding sign_steps
 sign_steps-alone entries path number zero bytes h = refl
 sign_steps-alone entries path number (suc name) bytes h = absurd (omega arith)
@@ -201,7 +201,7 @@ drop_on : (from n : ℕ) (line : List ℕ) → drop n (drop from line) ≡ drop 
 drop_on from n line = drop-drop n from line ∙ ap (λ k. drop k line) (omega arith)
 
 sign_going : {old mid : OutputState} {run : List Step} (entries : Entries) (path : List ℕ) (number : ℕ) (line : List ℕ) (from text at name : ℕ)
-    → Going old mid run (replaced entries path number 0 0 (drop from line)) → IsSign (take (length line - from) (drop from line)) text at name
+    → Going old mid run (replaced_line entries path number 0 0 (drop from line)) → IsSign (take (length line - from) (drop from line)) text at name
     → Going old mid run (puts (take (from + text - from) (drop from line)) ++ sign_steps entries path number name (drop (from + (at + 1)) line))
 sign_going entries path number line from text at name h s =
     let s' = rw take_rest at s in
@@ -210,26 +210,26 @@ sign_going entries path number line from text at name h s =
     ∙ ap (λ n. puts (take n (drop from line)) ++ sign_steps entries path number name (drop (from + (at + 1)) line)) (let e : text ≡ from + text - from = omega arith in e))
 
 pub sign_text : {old mid new : OutputState} {run : List Step} (entries : Entries) (path : List ℕ) (number : ℕ) (line : List ℕ) (from text at name : ℕ)
-    → Going old mid run (replaced entries path number 0 0 (drop from line)) → IsSign (take (length line - from) (drop from line)) text at name
+    → Going old mid run (replaced_line entries path number 0 0 (drop from line)) → IsSign (take (length line - from) (drop from line)) text at name
     → Writes mid (puts (take (from + text - from) (drop from line))) Whole new → Going old new run (sign_steps entries path number name (drop (from + (at + 1)) line))
 sign_text entries path number line from text at name h s t = going_on (sign_going entries path number line from text at name h s) t
 
 pub sign_text_stop : {old mid new : OutputState} {run : List Step} (entries : Entries) (path : List ℕ) (number : ℕ) (line : List ℕ) (from text at name : ℕ)
-    → Going old mid run (replaced entries path number 0 0 (drop from line)) → IsSign (take (length line - from) (drop from line)) text at name
+    → Going old mid run (replaced_line entries path number 0 0 (drop from line)) → IsSign (take (length line - from) (drop from line)) text at name
     → Writes mid (puts (take (from + text - from) (drop from line))) Failed new → Writes old run Failed new
 sign_text_stop entries path number line from text at name h s t = going_stop _ (sign_going entries path number line from text at name h s) t
 
 name_going : {old mid : OutputState} {run : List Step} (entries : Entries) (path : List ℕ) (number : ℕ) (line : List ℕ) (i name : ℕ)
     → Going old mid run (sign_steps entries path number name (drop i line)) → 0 < name
-    → Going old mid run (in_place entries path number (take (i + name - i) (drop i line)) ++ replaced entries path number 0 0 (drop (i + (name + 1)) line))
+    → Going old mid run (in_place entries path number (take (i + name - i) (drop i line)) ++ replaced_line entries path number 0 0 (drop (i + (name + 1)) line))
 name_going entries path number line i name h some =
     going_as h (sign_steps-name entries path number name (drop i line) some
-    ∙ ap (λ r. in_place entries path number (take name (drop i line)) ++ replaced entries path number 0 0 r) (drop_on i (name + 1) line)
-    ∙ ap (λ n. in_place entries path number (take n (drop i line)) ++ replaced entries path number 0 0 (drop (i + (name + 1)) line)) (let e : name ≡ i + name - i = omega arith in e))
+    ∙ ap (λ r. in_place entries path number (take name (drop i line)) ++ replaced_line entries path number 0 0 r) (drop_on i (name + 1) line)
+    ∙ ap (λ n. in_place entries path number (take n (drop i line)) ++ replaced_line entries path number 0 0 (drop (i + (name + 1)) line)) (let e : name ≡ i + name - i = omega arith in e))
 
 pub name_on : {old mid new : OutputState} {run : List Step} (entries : Entries) (path : List ℕ) (number : ℕ) (line : List ℕ) (i name : ℕ)
     → Going old mid run (sign_steps entries path number name (drop i line)) → 0 < name → Writes mid (in_place entries path number (take (i + name - i) (drop i line))) Whole new
-    → Going old new run (replaced entries path number 0 0 (drop (i + (name + 1)) line))
+    → Going old new run (replaced_line entries path number 0 0 (drop (i + (name + 1)) line))
 name_on entries path number line i name h some t = going_on (name_going entries path number line i name h some) t
 
 pub name_stop : {old mid new : OutputState} {run : List Step} (entries : Entries) (path : List ℕ) (number : ℕ) (line : List ℕ) (i name : ℕ)
@@ -238,11 +238,11 @@ pub name_stop : {old mid new : OutputState} {run : List Step} (entries : Entries
 name_stop entries path number line i name h some t = going_stop _ (name_going entries path number line i name h some) t
 
 pub alone_going : {old mid : OutputState} {run : List Step} (entries : Entries) (path : List ℕ) (number name : ℕ) (bytes : List ℕ)
-    → Going old mid run (sign_steps entries path number name bytes) → name ≤ 0 → Going old mid run (puts (64 ∷ []) ++ replaced entries path number 0 0 bytes)
+    → Going old mid run (sign_steps entries path number name bytes) → name ≤ 0 → Going old mid run (puts (64 ∷ []) ++ replaced_line entries path number 0 0 bytes)
 alone_going entries path number name bytes h none = going_as h (sign_steps-alone entries path number name bytes none)
 
 pub plain_last : {old mid new : OutputState} {run : List Step} (entries : Entries) (path : List ℕ) (number : ℕ) (line : List ℕ) (from : ℕ) {e : Ending}
-    → Going old mid run (replaced entries path number 0 0 (drop from line)) → IsPlain (take (length line - from) (drop from line))
+    → Going old mid run (replaced_line entries path number 0 0 (drop from line)) → IsPlain (take (length line - from) (drop from line))
     → Writes mid (puts (take (length line - from) (drop from line))) e new → Writes old run e new
 plain_last entries path number line from h p t =
     let p' = rw take_rest at p in
@@ -317,7 +317,7 @@ at_sign-odd entries path number slashes bytes e =
     let f : (slashes % 2 == 0) ≡ false = false_of (slashes % 2 == 0) (λ h. e (eqb-true (slashes % 2) 0 h)) in rw f
 
 sign_first : (rest : List ℕ) (at s : ℕ) → IsFirstByte (is_byte 64) rest (Some at) → s ≡ slashes_at 0 (take at rest)
-    → (entries : Entries) (path : List ℕ) (number : ℕ) → replaced entries path number 0 0 rest ≡ puts (take (at - (s - s / 2)) rest) ++ at_sign entries path number s (drop (at + 1) rest)
+    → (entries : Entries) (path : List ℕ) (number : ℕ) → replaced_line entries path number 0 0 rest ≡ puts (take (at - (s - s / 2)) rest) ++ at_sign entries path number s (drop (at + 1) rest)
 sign_first rest at s first is entries path number =
     replaced-first entries path number rest at first.0.high (lacks-take 64 rest at (λ j low lt. first.0.before j low lt)) (eqb-true (get_or rest at 0) 64 first.1)
     ∙ ap (λ n. puts (take (at - (n - n / 2)) rest) ++ at_sign entries path number n (drop (at + 1) rest)) (sym is)

@@ -21,7 +21,7 @@ use Rattle.std.proofs.lemmas.Bool.{cases_Bool, false≢true}
 use Rattle.std.proofs.lemmas.Str.{inside_one}
 use Rattle.std.proofs.lemmas.Map.Text.{is_eq-slice_cmp}
 use Rattle.template.specs.declared.config.ConfigValue.{ConfigValue}
-use Rattle.template.specs.Config.{Content, Entries, escaped, merged, names, value_of, with_value}
+use Rattle.template.specs.Config.{Content, Entries, escaped_quotes, entries_with_others, names, value_of, with_value}
 use Rattle.template.specs.ConfigData.{content_of, entries_of}
 
 -- looking up
@@ -108,33 +108,33 @@ names_ascend (e ∷ es) h = (below_plain e.0 es h.0, names_ascend es h.1)
 
 -- merging
 
-pub merged-none : (entries : Entries) → merged entries [] ≡ entries
-unfolding merged
+pub merged-none : (entries : Entries) → entries_with_others entries [] ≡ entries
+unfolding entries_with_others
 merged-none entries = refl
 
-merged-next : (entries : Entries) (name : List ℕ) (content : Content) (others : Entries) → merged entries ((name, content) ∷ others) ≡ merged (with_value entries name content) others
-unfolding merged
+merged-next : (entries : Entries) (name : List ℕ) (content : Content) (others : Entries) → entries_with_others entries ((name, content) ∷ others) ≡ entries_with_others (with_value entries name content) others
+unfolding entries_with_others
 merged-next entries name content others = refl
 
 pub merged-more : (all all' s later : List (String Global × ConfigValue)) (name key : String Global) (value held : ConfigValue)
     → s ≡ (name, value) ∷ later → string_bytes key ≡ string_bytes name → content_of held ≡ content_of value
     → entries_of all' ≡ with_value (entries_of all) (string_bytes key) (content_of held)
-    → merged (entries_of all') (entries_of later) ≡ merged (entries_of all) (entries_of s)
+    → entries_with_others (entries_of all') (entries_of later) ≡ entries_with_others (entries_of all) (entries_of s)
 merged-more all all' s later name key value held at k v e =
-    ap (λ a. merged a (entries_of later)) e
-    ∙ ap (λ n. merged (with_value (entries_of all) n (content_of held)) (entries_of later)) k
-    ∙ ap (λ n. merged (with_value (entries_of all) (string_bytes name) n) (entries_of later)) v
+    ap (λ a. entries_with_others a (entries_of later)) e
+    ∙ ap (λ n. entries_with_others (with_value (entries_of all) n (content_of held)) (entries_of later)) k
+    ∙ ap (λ n. entries_with_others (with_value (entries_of all) (string_bytes name) n) (entries_of later)) v
     ∙ sym (merged-next (entries_of all) (string_bytes name) (content_of value) (entries_of later))
-    ∙ ap (λ r. merged (entries_of all) (entries_of r)) (sym at)
+    ∙ ap (λ r. entries_with_others (entries_of all) (entries_of r)) (sym at)
 
 -- quotes
 
-escaped-other : (b : ℕ) (text : List ℕ) → (b == 34) ≡ false → escaped (b ∷ text) ≡ b ∷ escaped text
-unfolding escaped
+escaped-other : (b : ℕ) (text : List ℕ) → (b == 34) ≡ false → escaped_quotes (b ∷ text) ≡ b ∷ escaped_quotes text
+unfolding escaped_quotes
 escaped-other b text e = rw e refl
 
 -- bytes without quote are their own
-escaped-plain : (bytes rest : List ℕ) → ((k : ℕ) → k < length bytes → get_or bytes k 0 ≡ 34 → ⊥) → escaped (bytes ++ rest) ≡ bytes ++ escaped rest
+escaped-plain : (bytes rest : List ℕ) → ((k : ℕ) → k < length bytes → get_or bytes k 0 ≡ 34 → ⊥) → escaped_quotes (bytes ++ rest) ≡ bytes ++ escaped_quotes rest
 escaped-plain [] rest h = refl
 escaped-plain (b ∷ bytes) rest h =
     ⊎_elim
@@ -143,7 +143,7 @@ escaped-plain (b ∷ bytes) rest h =
     (cases_Bool (b == 34))
 
 -- a character and what stands behind it
-escaped-char : (c : ℕ) (rest : List ℕ) → (c ≡ 34 → ⊥) → escaped (encode_utf8 c ++ rest) ≡ encode_utf8 c ++ escaped rest
+escaped-char : (c : ℕ) (rest : List ℕ) → (c ≡ 34 → ⊥) → escaped_quotes (encode_utf8 c ++ rest) ≡ encode_utf8 c ++ escaped_quotes rest
 escaped-char c rest other = escaped-plain (encode_utf8 c) rest (λ k lt is. other (plain_byte c rest k lt is)) where
   plain_byte : (c : ℕ) (rest : List ℕ) (k : ℕ) → k < length (encode_utf8 c) → get_or (encode_utf8 c) k 0 ≡ 34 → c ≡ 34
   plain_byte c rest k lt is =
@@ -151,11 +151,11 @@ escaped-char c rest other = escaped-plain (encode_utf8 c) rest (λ k lt is. othe
       inside_one c rest (encode_utf8 c ++ rest) k refl lt (omega arith) ∙ here
 
 -- one character more of a text in quotes
-pub quoting_other : (made made' s later whole : List ℕ) (c : ℕ) → made ++ escaped s ≡ whole → s ≡ encode_utf8 c ++ later → (c ≡ 34 → ⊥) → made' ≡ made ++ encode_utf8 c
-    → made' ++ escaped later ≡ whole
+pub quoting_other : (made made' s later whole : List ℕ) (c : ℕ) → made ++ escaped_quotes s ≡ whole → s ≡ encode_utf8 c ++ later → (c ≡ 34 → ⊥) → made' ≡ made ++ encode_utf8 c
+    → made' ++ escaped_quotes later ≡ whole
 quoting_other made made' s later whole c h at other e =
-    ap (λ m. m ++ escaped later) e ∙ append_assoc made (encode_utf8 c) (escaped later)
-    ∙ ap (λ r. made ++ r) (sym (ap escaped at ∙ escaped-char c later other)) ∙ h
+    ap (λ m. m ++ escaped_quotes later) e ∙ append_assoc made (encode_utf8 c) (escaped_quotes later)
+    ∙ ap (λ r. made ++ r) (sym (ap escaped_quotes at ∙ escaped-char c later other)) ∙ h
 
 -- what a name stands for after a change
 
@@ -218,7 +218,7 @@ either_first : (b : Bool) (x : Content) (o p : Option Content) → (b ≡ true �
 either_first true x o p h = ap (λ r. option_or r (Some x)) (h refl)
 either_first false x o p h = refl
 
-pub value_of-merged : (entries others : Entries) → IsStrictlySortedBy (slice_cmp nat_cmp) (names others) → (q : List ℕ) → value_of (merged entries others) q ≡ option_or (value_of others q) (value_of entries q)
+pub value_of-merged : (entries others : Entries) → IsStrictlySortedBy (slice_cmp nat_cmp) (names others) → (q : List ℕ) → value_of (entries_with_others entries others) q ≡ option_or (value_of others q) (value_of entries q)
 unfolding IsStrictlySortedBy
 value_of-merged entries [] h q = ap (λ r. value_of r q) (merged-none entries) ∙ ap (λ o. option_or o (value_of entries q)) (sym (value_of-nil q))
 value_of-merged entries (other ∷ others) h q =

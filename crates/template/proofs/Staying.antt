@@ -4,10 +4,10 @@ use Rattle.std.specs.Prelude.{◌+◌, ◌/◌, ◌%◌, ◌&&◌, codes, drop, 
 use Rattle.ports.specs.Outputs.{Step, name_after, puts, logs}
 use Rattle.ports.proofs.OpenNames.{name_after-puts, name_after-logs}
 use Rattle.ports.proofs.Sending.{name_after-append}
-use Rattle.template.specs.Config.{Content, Flag, Number, Bytes, Entries, printed, value_of}
+use Rattle.template.specs.Config.{Content, Flag, Number, Bytes, Entries, printed_content, value_of}
 use Rattle.template.specs.Header.{entry_lines, header_steps}
 use Rattle.template.specs.Line.{Reading, Plain, Defines, Malformed, TooLong, body_length, definition, definition_or_comment, in_place}
-use Rattle.template.specs.Line.{line_fault, line_steps, name_length, no_value, reading, replaced, steps_of, value_or_warning, warning}
+use Rattle.template.specs.Line.{line_fault, line_steps, name_length, no_value, reading_of_line, replaced_line, steps_of, value_or_warning, warning}
 use Rattle.template.specs.Template.{lines_of, steps_from, template_steps}
 
 -- whichever output is open before these steps is open after them
@@ -44,15 +44,15 @@ warning-stays path number name =
 
 value-stays : (content : Option Content) {steps : List Step} → Stays steps → Stays (value_or_warning content steps)
 unfolding value_or_warning
-value-stays (Some content) p = written (printed content)
+value-stays (Some content) p = written (printed_content content)
 value-stays None p = p
 
 in_place-stays : (entries : Entries) (path : List ℕ) (number : ℕ) (name : List ℕ) → Stays (in_place entries path number name)
 unfolding in_place
 in_place-stays entries path number name = value-stays (value_of entries name) (warning-stays path number name)
 
-replaced-stays : (entries : Entries) (path : List ℕ) (number skip slashes : ℕ) (bytes : List ℕ) → Stays (replaced entries path number skip slashes bytes)
-unfolding replaced
+replaced-stays : (entries : Entries) (path : List ℕ) (number skip slashes : ℕ) (bytes : List ℕ) → Stays (replaced_line entries path number skip slashes bytes)
+unfolding replaced_line
 replaced-stays entries path number skip slashes [] = written (replicate slashes 92)
 replaced-stays entries path number (suc skip) slashes (b ∷ bytes) = replaced-stays entries path number skip slashes bytes
 replaced-stays entries path number zero slashes (b ∷ bytes) =
@@ -68,8 +68,8 @@ definition-stays : (name : List ℕ) (content : Content) → Stays (definition n
 unfolding definition
 definition-stays name (Flag true) = joined (written (codes "#define ")) (written name)
 definition-stays name (Flag false) = joined (written (codes "#undef ")) (written name)
-definition-stays name (Number z) = joined (written (codes "#define ")) (joined (written name) (joined (written (codes " ")) (written (printed (Number z)))))
-definition-stays name (Bytes text) = joined (written (codes "#define ")) (joined (written name) (joined (written (codes " ")) (written (printed (Bytes text)))))
+definition-stays name (Number z) = joined (written (codes "#define ")) (joined (written name) (joined (written (codes " ")) (written (printed_content (Number z)))))
+definition-stays name (Bytes text) = joined (written (codes "#define ")) (joined (written name) (joined (written (codes " ")) (written (printed_content (Bytes text)))))
 
 definition_or_comment-stays : (name : List ℕ) (content : Option Content) → Stays (definition_or_comment name content)
 unfolding definition_or_comment
@@ -85,7 +85,7 @@ read-stays entries path number bytes TooLong = nothing
 
 line-stays : (entries : Entries) (path : List ℕ) (number : ℕ) (bytes : List ℕ) → Stays (line_steps entries path number bytes)
 unfolding line_steps
-line-stays entries path number bytes = read-stays entries path number bytes (reading bytes)
+line-stays entries path number bytes = read-stays entries path number bytes (reading_of_line bytes)
 
 -- ---- a template, and a header without one
 

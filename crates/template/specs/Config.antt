@@ -23,9 +23,10 @@ pub record Configuration : Type 0 where
   pub frozen : Bool
 
 -- Returns configuration data with these entries, which may be changed.
-abbrev pub unfrozen : Entries → Configuration
-unfrozen entries = record { entries = entries; frozen = false }
+abbrev pub unfrozen_configuration : Entries → Configuration
+unfrozen_configuration entries = record { entries = entries; frozen = false }
 
+-- Returns the names of entries, in their order.
 abbrev pub names : Entries → List (List ℕ)
 names entries = map (λ entry. entry.0) entries
 
@@ -38,22 +39,22 @@ unfoldable pub with_value : Entries → List ℕ → Content → Entries
 with_value entries name content = insert_entry (slice_cmp nat_cmp) entries name content
 
 -- Returns the entries with each of these others set in turn.
-unfoldable pub merged : Entries → Entries → Entries
-merged entries [] = entries
-merged entries (other ∷ others) = merged (with_value entries other.0 other.1) others
+unfoldable pub entries_with_others : Entries → Entries → Entries
+entries_with_others entries [] = entries
+entries_with_others entries (other ∷ others) = entries_with_others (with_value entries other.0 other.1) others
 
 -- Returns a text with a backslash before each quote.
-unfoldable pub escaped : List ℕ → List ℕ
-escaped [] = []
-escaped (b ∷ text) = if b == 34 then 92 ∷ 34 ∷ escaped text else b ∷ escaped text
+unfoldable pub escaped_quotes : List ℕ → List ℕ
+escaped_quotes [] = []
+escaped_quotes (b ∷ text) = if b == 34 then 92 ∷ 34 ∷ escaped_quotes text else b ∷ escaped_quotes text
 
 -- Returns a text in quotes, the quotes inside escaped.
-unfoldable pub quoted : List ℕ → List ℕ
-quoted text = 34 ∷ escaped text ++ 34 ∷ []
+unfoldable pub double_quoted_text : List ℕ → List ℕ
+double_quoted_text text = 34 ∷ escaped_quotes text ++ 34 ∷ []
 
 -- Returns a value in printed form.
-unfoldable pub printed : Content → List ℕ
-printed (Flag true) = codes "true"
-printed (Flag false) = codes "false"
-printed (Number z) = signed_decimal z
-printed (Bytes text) = text
+unfoldable pub printed_content : Content → List ℕ
+printed_content (Flag true) = codes "true"
+printed_content (Flag false) = codes "false"
+printed_content (Number z) = signed_decimal z
+printed_content (Bytes text) = text

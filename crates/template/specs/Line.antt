@@ -5,15 +5,15 @@ use Rattle.std.specs.List.{starts_with, prefix_len, list_all}
 use Rattle.std.specs.Str.{bytes_eq}
 use Rattle.support.specs.Limits.{line_bytes}
 use Rattle.ports.specs.Outputs.{Step, puts, logs}
-use Rattle.template.specs.Config.{Content, Flag, Number, Bytes, Entries, value_of, printed}
+use Rattle.template.specs.Config.{Content, Flag, Number, Bytes, Entries, value_of, printed_content}
 
 -- Returns whether the byte is valid in a name: a letter, a digit, '-' or '_'.
 abbrev pub is_name_byte : ℕ → Bool
 is_name_byte b = (nat_le 97 b && nat_le b 122) || (nat_le 65 b && nat_le b 90) || (nat_le 48 b && nat_le b 57) || b == 45 || b == 95
 
 -- Returns whether the name has at least one byte, and only valid ones.
-unfoldable pub is_name : List ℕ → Bool
-is_name name = nat_lt 0 (length name) && list_all is_name_byte name
+unfoldable pub is_placeholder_name : List ℕ → Bool
+is_placeholder_name name = nat_lt 0 (length name) && list_all is_name_byte name
 
 -- ---- names in a line of text
 
@@ -32,26 +32,26 @@ warning path number name =
 
 -- Returns the steps of a value, or those of a warning if there is none.
 unfoldable pub value_or_warning : Option Content → List Step → List Step
-value_or_warning (Some content) warning = puts (printed content)
+value_or_warning (Some content) warning = puts (printed_content content)
 value_or_warning None warning = warning
 
--- Returns what replaces a name between two '@': its value, or nothing and a warning in the log.
+-- Returns the steps that write a name's value in place of the name between two '@'. Without a value they write a warning to the log.
 unfoldable pub in_place : Entries → List ℕ → ℕ → List ℕ → List Step
 in_place entries path number name = value_or_warning (value_of entries name) (warning path number name)
 
 -- Returns a line with its names replaced. The first `skip` bytes are those of a name that has been replaced, and this many backslashes
 -- precede the others. Directly before an '@', two backslashes are one. If one is left over, it is dropped, and the '@' begins no name.
 -- Elsewhere each backslash is itself.
-unfoldable pub replaced : Entries → List ℕ → ℕ → ℕ → ℕ → List ℕ → List Step
-replaced entries path number skip slashes [] = puts (replicate slashes 92)
-replaced entries path number (suc skip) slashes (b ∷ bytes) = replaced entries path number skip slashes bytes
-replaced entries path number zero slashes (b ∷ bytes) =
-    if b == 92 then replaced entries path number 0 (slashes + 1) bytes else
+unfoldable pub replaced_line : Entries → List ℕ → ℕ → ℕ → ℕ → List ℕ → List Step
+replaced_line entries path number skip slashes [] = puts (replicate slashes 92)
+replaced_line entries path number (suc skip) slashes (b ∷ bytes) = replaced_line entries path number skip slashes bytes
+replaced_line entries path number zero slashes (b ∷ bytes) =
+    if b == 92 then replaced_line entries path number 0 (slashes + 1) bytes else
     (if b == 64 then puts (replicate (slashes / 2) 92) ++
     (if slashes % 2 == 0 && nat_lt 0 (name_length bytes)
-    then in_place entries path number (take (name_length bytes) bytes) ++ replaced entries path number (name_length bytes + 1) 0 bytes
-    else puts (64 ∷ []) ++ replaced entries path number 0 0 bytes)
-    else puts (replicate slashes 92 ++ b ∷ []) ++ replaced entries path number 0 0 bytes)
+    then in_place entries path number (take (name_length bytes) bytes) ++ replaced_line entries path number (name_length bytes + 1) 0 bytes
+    else puts (64 ∷ []) ++ replaced_line entries path number 0 0 bytes)
+    else puts (replicate slashes 92 ++ b ∷ []) ++ replaced_line entries path number 0 0 bytes)
 
 -- ---- a line by its words
 
@@ -60,14 +60,14 @@ abbrev pub is_blank : ℕ → Bool
 is_blank b = b == 32 || b == 9 || b == 13
 
 -- Puts a word that ends here before the words after it, if it has any bytes.
-unfoldable pub ended : List ℕ → List (List ℕ) → List (List ℕ)
-ended [] words = words
-ended (b ∷ word) words = (b ∷ word) ∷ words
+unfoldable pub words_with_first : List ℕ → List (List ℕ) → List (List ℕ)
+words_with_first [] words = words
+words_with_first (b ∷ word) words = (b ∷ word) ∷ words
 
 -- Returns the words of some bytes, given the bytes so far of the first word.
 unfoldable pub words_after : List ℕ → List ℕ → List (List ℕ)
-words_after word [] = ended word []
-words_after word (b ∷ bytes) = if is_blank b then ended word (words_after [] bytes) else words_after (word ++ b ∷ []) bytes
+words_after word [] = words_with_first word []
+words_after word (b ∷ bytes) = if is_blank b then words_with_first word (words_after [] bytes) else words_after (word ++ b ∷ []) bytes
 
 -- Returns the words of some bytes, which blanks separate.
 abbrev pub words : List ℕ → List (List ℕ)
@@ -80,17 +80,21 @@ body_length bytes =
     if nat_lt 0 n && (slice_index bytes (n - 1) == 10) then
     (if nat_lt 1 n && (slice_index bytes (n - 2) == 13) then n - 2 else n - 1) else n
 
--- Whether a line defines a name, and which.
+-- The reading of a line says whether the line defines a name.
 pub data Reading : Type 0 where
+  -- The first word of the line does not begin with `#mesondefine`. The names between two `@` are replaced.
   Plain : Reading
+  -- The words of the line are `#mesondefine` and this valid name.
   Defines : (name : List ℕ) → Reading
+  -- The first word begins with `#mesondefine`, but the words are not `#mesondefine` and one valid name.
   Malformed : Reading
+  -- The line has more bytes than a line of a template may have.
   TooLong : Reading
 
 -- Returns the name that follows the word, if the word is `#mesondefine` and exactly one name follows it.
 unfoldable pub defined_in : List ℕ → List (List ℕ) → Reading
 defined_in word [] = Malformed
-defined_in word (name ∷ []) = if bytes_eq word (codes "#mesondefine") && is_name name then Defines name else Malformed
+defined_in word (name ∷ []) = if bytes_eq word (codes "#mesondefine") && is_placeholder_name name then Defines name else Malformed
 defined_in word (name ∷ next ∷ others) = Malformed
 
 -- Returns the reading of a line of these words. It defines a name if the first word begins with `#mesondefine`.
@@ -99,24 +103,26 @@ reading_of [] = Plain
 reading_of (word ∷ others) = if starts_with nat_eq word (codes "#mesondefine") then defined_in word others else Plain
 
 -- Returns how a line is read. Its end counts for its length.
-unfoldable pub reading : List ℕ → Reading
-reading bytes = if nat_lt line_bytes (length bytes) then TooLong else reading_of (words (take (body_length bytes) bytes))
+unfoldable pub reading_of_line : List ℕ → Reading
+reading_of_line bytes = if nat_lt line_bytes (length bytes) then TooLong else reading_of (words (take (body_length bytes) bytes))
 
 -- Returns the line that defines a name with a value, without its end.
 unfoldable pub definition : List ℕ → Content → List Step
 definition name (Flag true) = puts (codes "#define ") ++ puts name
 definition name (Flag false) = puts (codes "#undef ") ++ puts name
-definition name (Number z) = puts (codes "#define ") ++ (puts name ++ (puts (codes " ") ++ puts (printed (Number z))))
-definition name (Bytes text) = puts (codes "#define ") ++ (puts name ++ (puts (codes " ") ++ puts (printed (Bytes text))))
+definition name (Number z) = puts (codes "#define ") ++ (puts name ++ (puts (codes " ") ++ puts (printed_content (Number z))))
+definition name (Bytes text) = puts (codes "#define ") ++ (puts name ++ (puts (codes " ") ++ puts (printed_content (Bytes text))))
 
--- Returns the same for a name that may have no value.
+-- Returns the line for `#mesondefine NAME`, without its end: the name's definition, or `/* undef NAME */` if the name has no value.
 unfoldable pub definition_or_comment : List ℕ → Option Content → List Step
 definition_or_comment name None = puts (codes "/* undef ") ++ (puts name ++ puts (codes " */"))
 definition_or_comment name (Some content) = definition name content
 
--- Why a line is refused: E19 or E22.
+-- The reasons why a line is refused.
 pub data Refusal : Type 0 where
+  -- The first word begins with `#mesondefine`, but the line defines no name (E19).
   BadDefine : Refusal
+  -- The line is too long (E22).
   LongLine : Refusal
 
 -- Returns why a line with this reading is refused, if it is.
@@ -128,16 +134,16 @@ refusal TooLong = Some LongLine
 
 -- Returns why a line is refused, if it is.
 unfoldable pub line_fault : List ℕ → Option Refusal
-line_fault bytes = refusal (reading bytes)
+line_fault bytes = refusal (reading_of_line bytes)
 
--- Returns what a line with this reading writes: nothing if it is refused.
+-- Returns the steps that a line with this reading writes, and none if the line is refused.
 unfoldable pub steps_of : Entries → List ℕ → ℕ → List ℕ → Reading → List Step
-steps_of entries path number bytes Plain = replaced entries path number 0 0 bytes
+steps_of entries path number bytes Plain = replaced_line entries path number 0 0 bytes
 steps_of entries path number bytes (Defines name) =
     definition_or_comment name (value_of entries name) ++ puts (drop (body_length bytes) bytes)
 steps_of entries path number bytes Malformed = []
 steps_of entries path number bytes TooLong = []
 
--- Returns what a line writes.
+-- Returns the steps that a line writes, given the template's path and the line's number, from 1. A refused line has none.
 unfoldable pub line_steps : Entries → List ℕ → ℕ → List ℕ → List Step
-line_steps entries path number bytes = steps_of entries path number bytes (reading bytes)
+line_steps entries path number bytes = steps_of entries path number bytes (reading_of_line bytes)

@@ -18,22 +18,23 @@ unfoldable pub lines_of : List ℕ → List (List ℕ)
 lines_of [] = []
 lines_of (b ∷ bytes) = if b == 10 then (b ∷ []) ∷ lines_of bytes else onto b (lines_of bytes)
 
--- Returns what the lines write from this number on, up to the first fault.
+-- Returns the steps that lines write, up to the first fault. `number` is that of the first line.
 unfoldable pub steps_from : Entries → List ℕ → ℕ → List (List ℕ) → List Step
 steps_from entries path number [] = []
 steps_from entries path number (line ∷ lines) =
     line_steps entries path number line ++ (if is_some (line_fault line) then [] else steps_from entries path (number + 1) lines)
 
+-- Returns the fault of the line with this number if it has one, and otherwise the first fault of the later lines, if they have one.
 unfoldable pub first_fault : ℕ → Option Refusal → Option (ℕ × Refusal) → Option (ℕ × Refusal)
 first_fault number (Some fault) later = Some (number, fault)
 first_fault number None later = later
 
--- Returns the first line with a fault.
+-- Returns the number of the first line with a fault, and the fault. `number` is that of the first line.
 unfoldable pub fault_from : ℕ → List (List ℕ) → Option (ℕ × Refusal)
 fault_from number [] = None
 fault_from number (line ∷ lines) = first_fault number (line_fault line) (fault_from (number + 1) lines)
 
--- Returns what a template with this path writes with these entries.
+-- Returns the steps that a template with this path writes with these entries, up to the first fault.
 abbrev pub template_steps : Entries → List ℕ → List ℕ → List Step
 template_steps entries path bytes = steps_from entries path 1 (lines_of bytes)
 

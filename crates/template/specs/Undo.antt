@@ -20,5 +20,6 @@ abbrev pub AreSet : List (List ℕ × Option Content) → Entries → Entries �
 AreSet [] old new = new ≡ old
 AreSet (change ∷ changes) old new = (mid : Entries) × (IsSet change.0 change.1 old mid × AreSet changes mid new)
 
+-- Returns the data of changes of the code: each name that was set, with its value before, or none if it had none.
 abbrev pub changes_of : List (String Global × Option ConfigValue) → List (List ℕ × Option Content)
 changes_of changes = map (λ change. (string_bytes change.0, option_map content_of change.1)) changes

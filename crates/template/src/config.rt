@@ -1,3 +1,4 @@
+//! Holds configuration data: values by name, which can be changed until they are frozen.
 ghost use Rattle.std.specs.Prelude.{◌≡◌, ◌↔◌, ℕ, List, [], true, false, pos, IsTrue, IsErrOf, OnOk, OnErr, IfOk, None, Some, is_some, map};
 ghost use Rattle.std.specs.Prelude.{string_bytes, if◌then◌else◌};
 ghost use Rattle.std.specs.Option.{option_map, option_or};
@@ -6,7 +7,8 @@ ghost use Rattle.std.specs.List.Sorted.{IsStrictlySortedBy};
 ghost use Rattle.std.specs.Cmp.Lexicographic.{slice_cmp};
 ghost use Rattle.std.specs.Ordering.{nat_cmp};
 ghost use Rattle.std.specs.Str.{bytes_eq};
-ghost use Rattle.template.specs.Config.{Entries, Number, Bytes, merged, names, quoted, unfrozen, value_of, with_value};
+ghost use Rattle.template.specs.Config.{Entries, Number, Bytes, entries_with_others, names, double_quoted_text, unfrozen_configuration};
+ghost use Rattle.template.specs.Config.{value_of, with_value};
 ghost use Rattle.template.specs.ConfigData.{content_of, entries_of};
 ghost use Rattle.template.specs.Line.{is_name_byte};
 ghost use Rattle.template.specs.Undo.{AreSet, IsSet, changes_of};
@@ -93,7 +95,7 @@ impl Model for ConfigData {
 impl ConfigData {
     /// Returns configuration data without values.
     pub fn new(alloc: Global) -> ConfigData
-        ensures { result ≡ unfrozen [] }
+        ensures { result ≡ unfrozen_configuration [] }
     {
         ConfigData {
             alloc,
@@ -104,7 +106,7 @@ impl ConfigData {
 
     /// Returns a copy that is not frozen.
     pub fn copy(&self) -> Result<ConfigData, AllocError>
-        ensures { IfOk result (λ copy. copy ≡ unfrozen self.now.entries) }
+        ensures { IfOk result (λ copy. copy ≡ unfrozen_configuration self.now.entries) }
     {
         Ok(ConfigData {
             alloc: self.alloc,
@@ -185,7 +187,7 @@ impl ConfigData {
 
     /// Sets the value of this name to the text in quotes, with a backslash before each quote inside.
     pub fn set_quoted(&mut self, name: &str, text: &str) -> Result<(), SetStop>
-        ensures ok { let content = Bytes (quoted text.now) in
+        ensures ok { let content = Bytes (double_quoted_text text.now) in
             OnOk result (self.new ≡ record self.old { entries = with_value self.old.entries name.now content }) }
         ensures frozen { IsErrOf result SetStop.Frozen ↔ IsTrue self.old.frozen }
         ensures err { OnErr result (self.new ≡ self.old) }
@@ -200,7 +202,7 @@ impl ConfigData {
     /// Sets each name of the other data to its value there. Takes time and memory for the other data, and changes nothing if memory runs
     /// out.
     pub fn merge_from(&mut self, other: &ConfigData) -> Result<(), SetStop>
-        ensures ok { OnOk result (self.new ≡ record self.old { entries = merged self.old.entries other.now.entries }) }
+        ensures ok { OnOk result (self.new ≡ record self.old { entries = entries_with_others self.old.entries other.now.entries }) }
         ensures found { OnOk result ((q : List ℕ) → value_of self.new.entries q
             ≡ option_or (value_of other.now.entries q) (value_of self.old.entries q)) }
         ensures frozen { IsErrOf result SetStop.Frozen ↔ IsTrue self.old.frozen }
@@ -235,9 +237,9 @@ fn put(
 }
 
 // Returns the text in quotes, with a backslash before each quote inside.
-#[tactic(auto, unfolding(crate::specs::Config::quoted, crate::specs::Config::escaped))]
+#[tactic(auto, unfolding(crate::specs::Config::double_quoted_text, crate::specs::Config::escaped_quotes))]
 fn make_quoted(alloc: Global, text: &str) -> Result<String, AllocError>
-    ensures { IfOk result (λ made. string_bytes made ≡ quoted text.now) }
+    ensures { IfOk result (λ made. string_bytes made ≡ double_quoted_text text.now) }
 {
     let mut made = String::from_str(alloc, "\"")?;
     for c in text.chars() {
@@ -252,7 +254,7 @@ fn make_quoted(alloc: Global, text: &str) -> Result<String, AllocError>
 }
 
 // Sets each of the other values in turn, and notes the earlier value of each name.
-#[tactic(auto, unfolding(crate::specs::Config::merged))]
+#[tactic(auto, unfolding(crate::specs::Config::entries_with_others))]
 fn merge(
     entries: &mut BTreeMap<String, ConfigValue>,
     others: &BTreeMap<String, ConfigValue>,
@@ -260,7 +262,7 @@ fn merge(
 ) -> Result<(), AllocError>
     requires { changes.old.items ≡ [] }
     ensures entries { OnOk result (entries_of entries.new.entries
-        ≡ merged (entries_of entries.old.entries) (entries_of others.now.entries)) }
+        ≡ entries_with_others (entries_of entries.old.entries) (entries_of others.now.entries)) }
     ensures changes { AreSet (changes_of changes.new.items) (entries_of entries.old.entries) (entries_of entries.new.entries) }
     ensures ascending { OnOk result (IsStrictlySortedBy (slice_cmp nat_cmp) (names (entries_of others.now.entries))) }
 {

@@ -1,5 +1,6 @@
+//! Writes the header that `configure_file` makes of configuration data alone.
 ghost use Rattle.std.specs.Prelude.{◌++◌, codes};
-ghost use Rattle.ports.specs.Endings.{ended};
+ghost use Rattle.ports.specs.Endings.{ending_of_result};
 ghost use Rattle.ports.specs.Outputs.{IsOpen, Writes, puts};
 ghost use Rattle.template.specs.ConfigData.{content_of};
 ghost use Rattle.template.specs.Header.{header_steps};
@@ -13,7 +14,8 @@ use ports::{DeviceFault, Outputs, put_all};
 #[tactic(auto, using(ports::proofs::Sending::sending))]
 fn put_line<O: Outputs>(name: &str, value: &ConfigValue, out: &mut O) -> Result<(), DeviceFault>
     requires { IsOpen (O.seen out.old) }
-    ensures { Writes (O.seen out.old) (definition name.now (content_of value.now) ++ puts (codes "\n")) (ended result) (O.seen out.new) }
+    ensures { Writes (O.seen out.old) (definition name.now (content_of value.now) ++ puts (codes "\n")) (ending_of_result result)
+        (O.seen out.new) }
 {
     put_key(name.as_bytes(), value, out)?;
     put_all(out, b"\n")
@@ -25,7 +27,7 @@ fn put_line<O: Outputs>(name: &str, value: &ConfigValue, out: &mut O) -> Result<
 /// a device does.
 pub fn header<O: Outputs>(config: &ConfigData, out: &mut O) -> Result<(), DeviceFault>
     requires { IsOpen (O.seen out.old) }
-    ensures { Writes (O.seen out.old) (header_steps config.now.entries) (ended result) (O.seen out.new) }
+    ensures { Writes (O.seen out.old) (header_steps config.now.entries) (ending_of_result result) (O.seen out.new) }
 {
     put_all(out, b"/* Generated. Do not edit. */\n#pragma once\n\n")?;
     for (name, value) in &config.entries {

@@ -1,12 +1,14 @@
+//! Replaces the placeholders of one line of a template (Meson manual, page "Configuration").
 ghost use Rattle.std.specs.Prelude.{MatchOption, length, None, ◌≡◌, ◌≤◌, ◌++◌, IfSome, codes, decimal};
-ghost use Rattle.ports.specs.Endings.{HasRoom, ended};
+ghost use Rattle.ports.specs.Endings.{HasRoom, ending_of_result};
 ghost use Rattle.ports.specs.Outputs.{IsOpen, Writes, logs, puts};
 ghost use Rattle.std.specs.List.{prefix_len, list_all, AllPass};
-ghost use Rattle.template.specs.Config.{value_of, printed};
+ghost use Rattle.template.specs.Config.{value_of, printed_content};
 ghost use Rattle.template.specs.ConfigData.{content_of};
 ghost use Rattle.template.specs.Template.{Agrees, ending_of, first_fault};
-ghost use Rattle.template.specs.Line.{Defines, Malformed, body_length, defined_in, definition, definition_or_comment, is_blank, is_name};
-ghost use Rattle.template.specs.Line.{line_fault, line_steps, in_place, name_length, no_value, replaced, warning, words, is_name_byte};
+ghost use Rattle.template.specs.Line.{Defines, Malformed, body_length, defined_in, definition, definition_or_comment, is_blank};
+ghost use Rattle.template.specs.Line.{is_placeholder_name};
+ghost use Rattle.template.specs.Line.{line_fault, line_steps, in_place, name_length, no_value, replaced_line, warning, words, is_name_byte};
 ghost use Rattle.template.specs.Scan.{is_word_byte, IsFirstWord, IsPlain, IsSign, slashes_at};
 
 use crate::{ConfigData, ConfigValue, PassStop};
@@ -98,7 +100,8 @@ fn put_replaced<O: Outputs>(
     out: &mut O,
 ) -> Result<(), DeviceFault>
     requires { IsOpen (O.seen out.old) }
-    ensures { Writes (O.seen out.old) (replaced config.now.entries path.now number 0 0 line.now) (ended result) (O.seen out.new) }
+    ensures { Writes (O.seen out.old) (replaced_line config.now.entries path.now number 0 0 line.now) (ending_of_result result)
+        (O.seen out.new) }
 {
     let mut from = 0;
     while let Some(sign) = find_sign(&line[from..]) {
@@ -125,7 +128,7 @@ fn put_in_place<O: Outputs>(
 ) -> Result<(), DeviceFault>
     requires out { IsOpen (O.seen out.old) }
     requires named { AllPass is_name_byte name.now }
-    ensures { Writes (O.seen out.old) (in_place config.now.entries path.now number name.now) (ended result) (O.seen out.new) }
+    ensures { Writes (O.seen out.old) (in_place config.now.entries path.now number name.now) (ending_of_result result) (O.seen out.new) }
 {
     match config.value_at(name) {
         Some(value) => put_value(value, out),
@@ -134,10 +137,10 @@ fn put_in_place<O: Outputs>(
 }
 
 /// Writes a value in printed form.
-#[tactic(auto, using(ports::proofs::Sending::sending), unfolding(crate::specs::Config::printed))]
+#[tactic(auto, using(ports::proofs::Sending::sending), unfolding(crate::specs::Config::printed_content))]
 fn put_value<O: Outputs>(value: &ConfigValue, out: &mut O) -> Result<(), DeviceFault>
     requires { IsOpen (O.seen out.old) }
-    ensures { Writes (O.seen out.old) (puts (printed (content_of value.now))) (ended result) (O.seen out.new) }
+    ensures { Writes (O.seen out.old) (puts (printed_content (content_of value.now))) (ending_of_result result) (O.seen out.new) }
 {
     match value {
         ConfigValue::Boolean(true) => put_all(out, b"true"),
@@ -151,7 +154,7 @@ fn put_value<O: Outputs>(value: &ConfigValue, out: &mut O) -> Result<(), DeviceF
 #[tactic(auto, using(ports::proofs::Sending::sending), unfolding(crate::specs::Line::no_value))]
 fn log_no_value<O: Outputs>(name: &[u8], out: &mut O) -> Result<(), DeviceFault>
     requires { HasRoom (O.seen out.old).failures }
-    ensures { Writes (O.seen out.old) (no_value name.now) (ended result) (O.seen out.new) }
+    ensures { Writes (O.seen out.old) (no_value name.now) (ending_of_result result) (O.seen out.new) }
 {
     log_all(out, b": no value for ")?;
     log_all(out, name)?;
@@ -163,7 +166,7 @@ fn log_no_value<O: Outputs>(name: &[u8], out: &mut O) -> Result<(), DeviceFault>
 fn log_numbered<O: Outputs>(number: u64, name: &[u8], out: &mut O) -> Result<(), DeviceFault>
     requires { HasRoom (O.seen out.old).failures }
     ensures { let run = logs (codes ":") ++ (logs (decimal number) ++ no_value name.now) in
-        Writes (O.seen out.old) run (ended result) (O.seen out.new) }
+        Writes (O.seen out.old) run (ending_of_result result) (O.seen out.new) }
 {
     log_all(out, b":")?;
     log_all(out, Buffer::new().format(number).as_bytes())?;
@@ -179,7 +182,7 @@ fn log_warning<O: Outputs>(
     out: &mut O,
 ) -> Result<(), DeviceFault>
     requires { HasRoom (O.seen out.old).failures }
-    ensures { Writes (O.seen out.old) (warning path.now number name.now) (ended result) (O.seen out.new) }
+    ensures { Writes (O.seen out.old) (warning path.now number name.now) (ending_of_result result) (O.seen out.new) }
 {
     log_all(out, b"WARNING: ")?;
     log_all(out, path.as_bytes())?;
@@ -257,9 +260,9 @@ fn are_name_bytes(bytes: &[u8]) -> bool
 }
 
 /// Returns whether these bytes are a name.
-#[tactic(auto, unfolding(crate::specs::Line::is_name))]
-fn is_name(bytes: &[u8]) -> bool
-    ensures { result ≡ is_name bytes.now }
+#[tactic(auto, unfolding(crate::specs::Line::is_placeholder_name))]
+fn is_placeholder_name(bytes: &[u8]) -> bool
+    ensures { result ≡ is_placeholder_name bytes.now }
 {
     !bytes.is_empty() && are_name_bytes(bytes)
 }
@@ -272,7 +275,10 @@ fn defined_name<'a>(word: &[u8], rest: &'a [u8]) -> Option<&'a [u8]>
 {
     let second = first_word(rest);
     let third = first_word(second.rest);
-    if word == b"#mesondefine".as_slice() && is_name(second.word) && third.word.is_empty() {
+    if word == b"#mesondefine".as_slice()
+        && is_placeholder_name(second.word)
+        && third.word.is_empty()
+    {
         Some(second.word)
     } else {
         None
@@ -283,7 +289,7 @@ fn defined_name<'a>(word: &[u8], rest: &'a [u8]) -> Option<&'a [u8]>
 #[tactic(auto, using(ports::proofs::Sending::sending))]
 fn put_behind<O: Outputs>(word: &[u8], name: &[u8], out: &mut O) -> Result<(), DeviceFault>
     requires { IsOpen (O.seen out.old) }
-    ensures { Writes (O.seen out.old) (puts word.now ++ puts name.now) (ended result) (O.seen out.new) }
+    ensures { Writes (O.seen out.old) (puts word.now ++ puts name.now) (ending_of_result result) (O.seen out.new) }
 {
     put_all(out, word)?;
     put_all(out, name)
@@ -295,7 +301,7 @@ fn put_define<O: Outputs>(config: &ConfigData, name: &[u8], out: &mut O) -> Resu
     requires out { IsOpen (O.seen out.old) }
     requires named { AllPass is_name_byte name.now }
     ensures { let run = definition_or_comment name.now (value_of config.now.entries name.now) in
-        Writes (O.seen out.old) run (ended result) (O.seen out.new) }
+        Writes (O.seen out.old) run (ending_of_result result) (O.seen out.new) }
 {
     match config.value_at(name) {
         None => {
@@ -314,7 +320,7 @@ pub(crate) fn put_key<O: Outputs>(
     out: &mut O,
 ) -> Result<(), DeviceFault>
     requires { IsOpen (O.seen out.old) }
-    ensures { Writes (O.seen out.old) (definition name.now (content_of value.now)) (ended result) (O.seen out.new) }
+    ensures { Writes (O.seen out.old) (definition name.now (content_of value.now)) (ending_of_result result) (O.seen out.new) }
 {
     match value {
         ConfigValue::Boolean(true) => put_behind(b"#define ", name, out),

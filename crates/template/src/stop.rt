@@ -1,3 +1,4 @@
+//! Says why a template is not written to its end.
 ghost use Rattle.template.specs.declared.stop.PassStop.TheVariants.{Device};
 ghost use Rattle.std.specs.Prelude.{◌≡◌};
 

@@ -1,5 +1,6 @@
+//! Writes a template to outputs line by line, through one lent buffer.
 ghost use Rattle.std.specs.Prelude.{◌≡◌, ℕ, ◌+◌, ◌-◌, ◌^◌, ◌<◌, ◌≤◌, ◌++◌, List, take, drop, length, nat_lt, IsTrue, IfOk};
-ghost use Rattle.ports.specs.Endings.{HasRoom, ended, is_whole};
+ghost use Rattle.ports.specs.Endings.{HasRoom, ending_of_result, is_whole};
 ghost use Rattle.ports.specs.Outputs.{IsOpen, Sends, Writes};
 ghost use Rattle.ports.specs.Tree.{bytes_at, Asks, Stays};
 ghost use Rattle.template.specs.Given.{Gave, Passed, UnlessFailed};
@@ -12,7 +13,7 @@ use memchr::memchr;
 use ports::{DeviceFault, Outputs, Tree};
 use support::limits::LINE_BYTES;
 
-/// The maximum number of bytes of a line of a template, with its end.
+/// States how many bytes a line of a template may have, including its line ending.
 pub const LINE_LIMIT: usize = LINE_BYTES;
 
 /// Moves the bytes from `start` to `end` to the front, and returns their number.
@@ -60,7 +61,7 @@ fn fill<T: Tree>(
         → IfOk result (λ n. filled < length line.old → at < size → at < length file → 0 < n) }
     ensures given { filled < length line.old
         → IfOk result (λ n. Gave T.gives path.now size at tree.old (take n (drop filled line.new)) tree.new) }
-    ensures asks { Asks (T.seen tree.old) (ended result) (T.seen tree.new) }
+    ensures asks { Asks (T.seen tree.old) (ending_of_result result) (T.seen tree.new) }
 {
     let left = size - at;
     let want = ask_for(left, line.len() - filled);
@@ -77,7 +78,7 @@ fn has_more<T: Tree>(tree: &mut T, path: &str, at: u64, size: u64) -> Result<boo
         → size ≡ length file → IfOk result (λ more. more ≡ nat_lt at size) }
     ensures given { IfOk result (λ more. (piece : List ℕ) × (more ≡ nat_lt 0 (length piece))
         × Gave T.gives path.now size at tree.old piece tree.new) }
-    ensures asks { Asks (T.seen tree.old) (ended result) (T.seen tree.new) }
+    ensures asks { Asks (T.seen tree.old) (ending_of_result result) (T.seen tree.new) }
 {
     if at >= size {
         return Ok(false);

@@ -5,7 +5,7 @@ use Rattle.std.specs.Prelude.{max, nat_le, nat_lt, option_map, option_and_then, 
 use Rattle.std.proofs.lemmas.Bool.{leb-true, leb-false, ltb-true}
 use Rattle.values.specs.Builder.{replaced_depth}
 use Rattle.std.specs.Cmp.Lexicographic.{bytes_decides}
-use Rattle.values.specs.Data.{Data, count, Entries, no_entries, entry, entry_count, entry_values, keys_in, find, put, merged, AreDistinct}
+use Rattle.values.specs.Data.{Data, count, Entries, no_entries, entry, entry_count, entry_values, keys_in, find, entries_with, merged_entries, AreDistinct}
 use Rattle.values.specs.Limits.{is_within, entries_fit}
 use Rattle.values.specs.Weight.{weight, depth, items_weight, items_depth, entries_weight, entries_depth}
 use Rattle.values.specs.View.{data_of, items_of, entries_of}
@@ -44,38 +44,38 @@ pub weight_replaced : (ks : List (List ℕ)) (vs : List Value) (i : ℕ) (w d : 
 weight_replaced ks vs i w d fit h =
     omega (arith, entries_weight-entries_of ks vs fit, entries_weight-entries_of ks (set vs i w) (fit ∙ sym (length-set-values vs i w)), items_weight-set vs i w d h)
 
-weight_put-new_at : (b : Bool) (k l : List ℕ) (d e : Data) (es : Entries) → (if b then Some e else find k es) ≡ None → (find k es ≡ None → entries_weight (put k d es) ≡ entries_weight es + (length k + 1 + weight d))
-    → entries_weight (if b then entry l d es else entry l e (put k d es)) ≡ entries_weight (entry l e es) + (length k + 1 + weight d)
+weight_put-new_at : (b : Bool) (k l : List ℕ) (d e : Data) (es : Entries) → (if b then Some e else find k es) ≡ None → (find k es ≡ None → entries_weight (entries_with k d es) ≡ entries_weight es + (length k + 1 + weight d))
+    → entries_weight (if b then entry l d es else entry l e (entries_with k d es)) ≡ entries_weight (entry l e es) + (length k + 1 + weight d)
 weight_put-new_at true k l d e es none later = absurd cc
 weight_put-new_at false k l d e es none later = omega (arith, later none)
 
-pub weight_put-new : (k : List ℕ) (d : Data) (es : Entries) → find k es ≡ None → entries_weight (put k d es) ≡ entries_weight es + (length k + 1 + weight d)
+pub weight_put-new : (k : List ℕ) (d : Data) (es : Entries) → find k es ≡ None → entries_weight (entries_with k d es) ≡ entries_weight es + (length k + 1 + weight d)
 weight_put-new k d no_entries none = omega arith
 weight_put-new k d (entry l e es) none = weight_put-new_at (bytes_eq k l) k l d e es none (weight_put-new k d es)
 
-depth_put-new_at : (b : Bool) (k l : List ℕ) (d e : Data) (es : Entries) → (if b then Some e else find k es) ≡ None → (find k es ≡ None → entries_depth (put k d es) ≡ max (entries_depth es) (depth d))
-    → entries_depth (if b then entry l d es else entry l e (put k d es)) ≡ max (entries_depth (entry l e es)) (depth d)
+depth_put-new_at : (b : Bool) (k l : List ℕ) (d e : Data) (es : Entries) → (if b then Some e else find k es) ≡ None → (find k es ≡ None → entries_depth (entries_with k d es) ≡ max (entries_depth es) (depth d))
+    → entries_depth (if b then entry l d es else entry l e (entries_with k d es)) ≡ max (entries_depth (entry l e es)) (depth d)
 depth_put-new_at true k l d e es none later = absurd cc
 depth_put-new_at false k l d e es none later = omega (arith, later none)
 
-pub depth_put-new : (k : List ℕ) (d : Data) (es : Entries) → find k es ≡ None → entries_depth (put k d es) ≡ max (entries_depth es) (depth d)
+pub depth_put-new : (k : List ℕ) (d : Data) (es : Entries) → find k es ≡ None → entries_depth (entries_with k d es) ≡ max (entries_depth es) (depth d)
 depth_put-new k d no_entries none = omega arith
 depth_put-new k d (entry l e es) none = depth_put-new_at (bytes_eq k l) k l d e es none (depth_put-new k d es)
 
 -- a put never makes a value weigh more than all together
-weight_put-le_at : (b : Bool) (k l : List ℕ) (d e : Data) (es : Entries) → entries_weight (put k d es) ≤ entries_weight es + (length k + 1 + weight d)
-    → entries_weight (if b then entry l d es else entry l e (put k d es)) ≤ entries_weight (entry l e es) + (length k + 1 + weight d)
+weight_put-le_at : (b : Bool) (k l : List ℕ) (d e : Data) (es : Entries) → entries_weight (entries_with k d es) ≤ entries_weight es + (length k + 1 + weight d)
+    → entries_weight (if b then entry l d es else entry l e (entries_with k d es)) ≤ entries_weight (entry l e es) + (length k + 1 + weight d)
 weight_put-le_at true k l d e es later = omega arith
 weight_put-le_at false k l d e es later = omega (arith, later)
 
-pub weight_put-le : (k : List ℕ) (d : Data) (es : Entries) → entries_weight (put k d es) ≤ entries_weight es + (length k + 1 + weight d)
+pub weight_put-le : (k : List ℕ) (d : Data) (es : Entries) → entries_weight (entries_with k d es) ≤ entries_weight es + (length k + 1 + weight d)
 weight_put-le k d no_entries = omega arith
 weight_put-le k d (entry l e es) = weight_put-le_at (bytes_eq k l) k l d e es (weight_put-le k d es)
 
 -- ---- keys stay distinct
 
-find_put-other_at : (b c : Bool) (k l m : List ℕ) (d e : Data) (es : Entries) → bytes_eq l k ≡ false → (bytes_eq k m ≡ b) → (bytes_eq l m ≡ c) → find l (put k d es) ≡ find l es
-    → find l (if b then entry m d es else entry m e (put k d es)) ≡ find l (entry m e es)
+find_put-other_at : (b c : Bool) (k l m : List ℕ) (d e : Data) (es : Entries) → bytes_eq l k ≡ false → (bytes_eq k m ≡ b) → (bytes_eq l m ≡ c) → find l (entries_with k d es) ≡ find l es
+    → find l (if b then entry m d es else entry m e (entries_with k d es)) ≡ find l (entry m e es)
 find_put-other_at true true k l m d e es apart is is' later =
     let same : l ≡ k = (bytes_decides l m).0 is' ∙ sym ((bytes_decides k m).0 is) in
     let both : bytes_eq l k ≡ true = (bytes_decides l k).1 same in
@@ -83,7 +83,7 @@ find_put-other_at true true k l m d e es apart is is' later =
 find_put-other_at true false k l m d e es apart is is' later = ap (λ z. if z then Some d else find l es) is' ∙ sym (ap (λ z. if z then Some e else find l es) is')
 find_put-other_at false c k l m d e es apart is is' later = ap (λ z. if bytes_eq l m then Some e else z) later
 
-find_put-other : (k l : List ℕ) (d : Data) (es : Entries) → bytes_eq l k ≡ false → find l (put k d es) ≡ find l es
+find_put-other : (k l : List ℕ) (d : Data) (es : Entries) → bytes_eq l k ≡ false → find l (entries_with k d es) ≡ find l es
 find_put-other k l d no_entries apart = ap (λ z. if z then Some d else None) apart
 find_put-other k l d (entry m e es) apart = find_put-other_at (bytes_eq k m) (bytes_eq l m) k l m d e es apart refl refl (find_put-other k l d es apart)
 
@@ -94,12 +94,12 @@ false_is false h = refl
 flip_false : (k l : List ℕ) → bytes_eq k l ≡ false → bytes_eq l k ≡ false
 flip_false k l h = false_is (bytes_eq l k) (λ e. let same : bytes_eq k l ≡ true = (bytes_decides k l).1 (sym ((bytes_decides l k).0 e)) in absurd cc)
 
-put-distinct_at : (b : Bool) (k l : List ℕ) (d e : Data) (es : Entries) → bytes_eq k l ≡ b → find l es ≡ None → AreDistinct es → AreDistinct (put k d es)
-    → AreDistinct (if b then entry l d es else entry l e (put k d es))
+put-distinct_at : (b : Bool) (k l : List ℕ) (d e : Data) (es : Entries) → bytes_eq k l ≡ b → find l es ≡ None → AreDistinct es → AreDistinct (entries_with k d es)
+    → AreDistinct (if b then entry l d es else entry l e (entries_with k d es))
 put-distinct_at true k l d e es is none rest later = (none, rest)
 put-distinct_at false k l d e es is none rest later = (find_put-other k l d es (flip_false k l is) ∙ none, later)
 
-pub put-distinct : (k : List ℕ) (d : Data) (es : Entries) → AreDistinct es → AreDistinct (put k d es)
+pub put-distinct : (k : List ℕ) (d : Data) (es : Entries) → AreDistinct es → AreDistinct (entries_with k d es)
 put-distinct k d no_entries h = (refl, tt)
 put-distinct k d (entry l e es) h = put-distinct_at (bytes_eq k l) k l d e es refl h.0 h.1 (put-distinct k d es h.1)
 
@@ -171,12 +171,12 @@ entries_append_assoc : (a b c : Entries) → entries_append (entries_append a b)
 entries_append_assoc no_entries b c = refl
 entries_append_assoc (entry k d es) b c = ap (entry k d) (entries_append_assoc es b c)
 
-put-absent_at : (b : Bool) (k l : List ℕ) (d e : Data) (es : Entries) → (if b then Some e else find k es) ≡ None → (find k es ≡ None → put k d es ≡ entries_append es (entry k d no_entries))
-    → (if b then entry l d es else entry l e (put k d es)) ≡ entry l e (entries_append es (entry k d no_entries))
+put-absent_at : (b : Bool) (k l : List ℕ) (d e : Data) (es : Entries) → (if b then Some e else find k es) ≡ None → (find k es ≡ None → entries_with k d es ≡ entries_append es (entry k d no_entries))
+    → (if b then entry l d es else entry l e (entries_with k d es)) ≡ entry l e (entries_append es (entry k d no_entries))
 put-absent_at true k l d e es none later = absurd cc
 put-absent_at false k l d e es none later = ap (entry l e) (later none)
 
-put-absent : (k : List ℕ) (d : Data) (es : Entries) → find k es ≡ None → put k d es ≡ entries_append es (entry k d no_entries)
+put-absent : (k : List ℕ) (d : Data) (es : Entries) → find k es ≡ None → entries_with k d es ≡ entries_append es (entry k d no_entries)
 put-absent k d no_entries none = refl
 put-absent k d (entry l e es) none = put-absent_at (bytes_eq k l) k l d e es none (put-absent k d es)
 
@@ -184,16 +184,16 @@ other_key_at : (b : Bool) (e : Data) (r : Option Data) → (if b then Some e els
 other_key_at true e r h = absurd cc
 other_key_at false e r h = (refl, h)
 
-apart_put : (k : List ℕ) (d : Data) (es fs : Entries) → find k fs ≡ None → AreApart es fs → AreApart (put k d es) fs
+apart_put : (k : List ℕ) (d : Data) (es fs : Entries) → find k fs ≡ None → AreApart es fs → AreApart (entries_with k d es) fs
 apart_put k d es no_entries none h = tt
 apart_put k d es (entry l e fs) none h =
     let other = other_key_at (bytes_eq k l) e (find k fs) none in
     (find_put-other k l d es (flip_false k l other.0) ∙ h.0, apart_put k d es fs other.1 h.1)
 
-merged_apart : (es fs : Entries) → AreDistinct fs → AreApart es fs → merged es fs ≡ entries_append es fs
+merged_apart : (es fs : Entries) → AreDistinct fs → AreApart es fs → merged_entries es fs ≡ entries_append es fs
 merged_apart es no_entries h apart = sym (append_no_entries es)
 merged_apart es (entry k d fs) h apart =
-    merged_apart (put k d es) fs h.1 (apart_put k d es fs h.0 apart.1)
+    merged_apart (entries_with k d es) fs h.1 (apart_put k d es fs h.0 apart.1)
     ∙ ap (λ x. entries_append x fs) (put-absent k d es apart.0)
     ∙ entries_append_assoc es (entry k d no_entries) fs
 
@@ -201,7 +201,7 @@ apart_none : (fs : Entries) → AreApart no_entries fs
 apart_none no_entries = tt
 apart_none (entry k d fs) = (refl, apart_none fs)
 
-pub merged_none : (es : Entries) → AreDistinct es → merged no_entries es ≡ es
+pub merged_none : (es : Entries) → AreDistinct es → merged_entries no_entries es ≡ es
 merged_none es h = merged_apart no_entries es h (apart_none es)
 
 -- ---- the depth, where it is known

@@ -5,7 +5,7 @@ use Rattle.std.specs.Prelude.{nat_lt, slice_get, slice_set, not, ◌||◌, if◌
 use Rattle.std.specs.List.{position, position_or_len, list_any}
 use Rattle.std.proofs.lemmas.Option.{slice_get-get_or, slice_get_past}
 use Rattle.std.proofs.lemmas.Bool.{ltb-true, ltb-false}
-use Rattle.values.specs.Data.{Data, dictionary, item, Entries, no_entries, entry, find, put, entry_count, entry_values, keys_in}
+use Rattle.values.specs.Data.{Data, dictionary, item, Entries, no_entries, entry, find, entries_with, entry_count, entry_values, keys_in}
 use Rattle.values.specs.Weight.{items_weight, entries_weight}
 use Rattle.values.specs.View.{data_of, items_of, entries_of}
 use Rattle.values.specs.declared.value.Value.{Value}
@@ -42,27 +42,27 @@ find_out q (k ∷ ks) [] h = refl
 find_out q (k ∷ ks) (v ∷ vs) h = one_missing (bytes_eq q k) (place q ks) (length ks) v (find q (entries_of ks vs)) h (find_out q ks vs)
 
 one_put : (b : Bool) (n m : ℕ) (q : List ℕ) (k : List ℕ) (w v : Value) (ks : List (List ℕ)) (vs : List Value) → cond (not b) (1 + n) 0 < suc m
-    → (n < m → entries_of ks (slice_set vs n w) ≡ put q (data_of w) (entries_of ks vs))
-    → entries_of (k ∷ ks) (slice_set (v ∷ vs) (cond (not b) (1 + n) 0) w) ≡ (if b then entry k (data_of w) (entries_of ks vs) else entry k (data_of v) (put q (data_of w) (entries_of ks vs)))
+    → (n < m → entries_of ks (slice_set vs n w) ≡ entries_with q (data_of w) (entries_of ks vs))
+    → entries_of (k ∷ ks) (slice_set (v ∷ vs) (cond (not b) (1 + n) 0) w) ≡ (if b then entry k (data_of w) (entries_of ks vs) else entry k (data_of v) (entries_with q (data_of w) (entries_of ks vs)))
 one_put true n m q k w v ks vs h later = refl
 one_put false n m q k w v ks vs h later =
     let e : 1 + n ≡ suc n = omega arith in
     ap (λ i. entries_of (k ∷ ks) (slice_set (v ∷ vs) i w)) e ∙ ap (entry k (data_of v)) (later (omega arith))
 
 -- a value written at the place of its key
-pub put_in : (q : List ℕ) (w : Value) (ks : List (List ℕ)) (vs : List Value) → length ks ≡ length vs → place q ks < length ks → entries_of ks (slice_set vs (place q ks) w) ≡ put q (data_of w) (entries_of ks vs)
+pub put_in : (q : List ℕ) (w : Value) (ks : List (List ℕ)) (vs : List Value) → length ks ≡ length vs → place q ks < length ks → entries_of ks (slice_set vs (place q ks) w) ≡ entries_with q (data_of w) (entries_of ks vs)
 put_in q w [] vs fit h = absurd (omega arith)
 put_in q w (k ∷ ks) [] fit h = absurd (omega arith)
 put_in q w (k ∷ ks) (v ∷ vs) fit h = one_put (bytes_eq q k) (place q ks) (length ks) q k w v ks vs h (put_in q w ks vs (omega arith))
 
-one_new : (b : Bool) (n m : ℕ) (q : List ℕ) (k : List ℕ) (w v : Value) (x y : Entries) → suc m ≤ cond (not b) (1 + n) 0 → (m ≤ n → x ≡ put q (data_of w) y)
-    → entry k (data_of v) x ≡ (if b then entry k (data_of w) y else entry k (data_of v) (put q (data_of w) y))
+one_new : (b : Bool) (n m : ℕ) (q : List ℕ) (k : List ℕ) (w v : Value) (x y : Entries) → suc m ≤ cond (not b) (1 + n) 0 → (m ≤ n → x ≡ entries_with q (data_of w) y)
+    → entry k (data_of v) x ≡ (if b then entry k (data_of w) y else entry k (data_of v) (entries_with q (data_of w) y))
 one_new true n m q k w v x y h later = absurd (omega arith)
 one_new false n m q k w v x y h later = ap (entry k (data_of v)) (later (omega arith))
 
 -- a new key goes last
 pub put_new : (new : List ℕ) (w : Value) (ks : List (List ℕ)) (vs : List Value) → length ks ≡ length vs → length ks ≤ place new ks
-    → entries_of (ks ++ new ∷ []) (vs ++ w ∷ []) ≡ put new (data_of w) (entries_of ks vs)
+    → entries_of (ks ++ new ∷ []) (vs ++ w ∷ []) ≡ entries_with new (data_of w) (entries_of ks vs)
 put_new new w [] [] fit h = refl
 put_new new w [] (v ∷ vs) fit h = absurd (omega arith)
 put_new new w (k ∷ ks) [] fit h = absurd (omega arith)

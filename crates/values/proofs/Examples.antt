@@ -3,15 +3,15 @@ use Rattle.std.proofs.Common.{◌≡◌, ℕ, true, false, List, [], ◌∷◌, 
 use Rattle.std.specs.Prelude.{codes}
 use Rattle.std.specs.Char.{encode_utf8}
 use Rattle.std.specs.Str.{chars}
-use Rattle.values.specs.declared.refusal.Refusal.TheVariants as refusal
+use Rattle.values.specs.declared.refusal.OperationRefusal.TheVariants as refusal
 use Rattle.values.specs.texts.Search.{contains}
-use Rattle.values.specs.texts.Strip.{is_blank, is_among, stripped}
+use Rattle.values.specs.texts.Strip.{is_blank, is_among, stripped_text}
 use Rattle.values.specs.texts.Part.{part}
 use Rattle.values.specs.texts.Number.{integer_of}
-use Rattle.values.specs.texts.Letters.{underscorified}
+use Rattle.values.specs.texts.Letters.{underscorified_text}
 use Rattle.values.specs.texts.Pieces.{split_at, words, lines}
-use Rattle.values.specs.texts.Joined.{joined, replaced}
-use Rattle.values.specs.declared.texts.placed.Places.TheVariants as places
+use Rattle.values.specs.texts.Joined.{joined_texts, replaced_text}
+use Rattle.values.specs.declared.texts.placeholders.Places.TheVariants as places
 use Rattle.values.specs.texts.Segments.{text, place, segments}
 
 -- an `é`, in UTF-8
@@ -28,15 +28,15 @@ empty_inside : contains [] [] ≡ true
 empty_inside = refl
 
 -- a vertical tab is white space, and an `é` is not
-blanks_go : stripped is_blank ((9 ∷ 11 ∷ 32 ∷ []) ++ acute ++ codes " b\n\r") ≡ acute ++ codes " b"
+blanks_go : stripped_text is_blank ((9 ∷ 11 ∷ 32 ∷ []) ++ acute ++ codes " b\n\r") ≡ acute ++ codes " b"
 unfolding chars encode_utf8
 blanks_go = refl
 
-given_go : stripped (is_among (codes "yx")) (codes "xyaxy") ≡ codes "a"
+given_go : stripped_text (is_among (codes "yx")) (codes "xyaxy") ≡ codes "a"
 unfolding chars encode_utf8
 given_go = refl
 
-all_go : stripped (is_among (codes "a")) (codes "aaa") ≡ []
+all_go : stripped_text (is_among (codes "a")) (codes "aaa") ≡ []
 unfolding chars encode_utf8
 all_go = refl
 
@@ -84,7 +84,7 @@ past_the_most = refl
 long_and_wrong : integer_of (codes "999999999999999999999999999999999999999999x") ≡ Err refusal.Arguments
 long_and_wrong = refl
 
-one_for_each_character : underscorified (codes "a_B-" ++ acute) ≡ codes "a_B__"
+one_for_each_character : underscorified_text (codes "a_B-" ++ acute) ≡ codes "a_B__"
 unfolding chars encode_utf8
 one_for_each_character = refl
 
@@ -115,13 +115,13 @@ no_lines = refl
 empty_line : lines (codes "\n") ≡ [] ∷ []
 empty_line = refl
 
-dashes : joined (codes "-") (codes "a" ∷ [] ∷ codes "b" ∷ []) ≡ codes "a--b"
+dashes : joined_texts (codes "-") (codes "a" ∷ [] ∷ codes "b" ∷ []) ≡ codes "a--b"
 dashes = refl
 
-nothing_joined : joined (codes "-") [] ≡ []
+nothing_joined : joined_texts (codes "-") [] ≡ []
 nothing_joined = refl
 
-from_the_left : replaced (codes "aaa") (codes "aa") (codes "b") ≡ Ok (codes "ba")
+from_the_left : replaced_text (codes "aaa") (codes "aa") (codes "b") ≡ Ok (codes "ba")
 from_the_left = refl
 
 -- places are found from the left, and a name is not looked at again

@@ -4,7 +4,7 @@ use Rattle.std.proofs.Common.{◌∙◌, arith, add-one}
 use Rattle.std.proofs.Math.Seq.{drop-cons}
 use Rattle.std.specs.Prelude.{max, ◌||◌, Ok, Err, if◌then◌else◌}
 use Rattle.std.proofs.lemmas.Bool.Decides.{nat_tests}
-use Rattle.values.specs.declared.refusal.Refusal.TheVariants as refusal
+use Rattle.values.specs.declared.refusal.OperationRefusal.TheVariants as refusal
 use Rattle.values.specs.Data.{Data, Items, no_items, item, items_append, count}
 use Rattle.values.specs.Data.{has_disabler, have_disabler}
 use Rattle.values.specs.Weight.{weight, depth, items_weight, items_depth}

@@ -5,9 +5,9 @@ use Rattle.std.specs.Prelude.{Ok, Err, nat_le, nat_eq, ◌==◌, if◌then◌els
 use Rattle.std.specs.List.{flat_map, starts_with, onto_first}
 use Rattle.std.proofs.lemmas.List.{append_assoc, length-append, drop_more, drop_all}
 use Rattle.std.proofs.lemmas.Bool.{cond-true, cond-false}
-use Rattle.values.specs.declared.refusal.Refusal.TheVariants as refusal
+use Rattle.values.specs.declared.refusal.OperationRefusal.TheVariants as refusal
 use Rattle.values.specs.texts.Pieces.{parts, parts_after}
-use Rattle.values.specs.texts.Joined.{joined, replaced}
+use Rattle.values.specs.texts.Joined.{joined_texts, replaced_text}
 use Rattle.values.specs.Limits.{within_bytes}
 
 pub too_long : (all made piece more : List ℕ) → all ≡ made ++ (piece ++ more) → 16777216 < length (made ++ piece)
@@ -50,14 +50,14 @@ some_part zero separator (b ∷ bs) = some_front (starts_with nat_eq (b ∷ bs) 
 some_part (suc passed) separator (b ∷ bs) = some_part passed separator bs
 
 -- a part before others is followed by what stands between parts
-pub joined_more : (between part separator rest : List ℕ) → joined between (part ∷ parts separator rest) ≡
-    (part ++ between) ++ joined between (parts separator rest)
+pub joined_more : (between part separator rest : List ℕ) → joined_texts between (part ∷ parts separator rest) ≡
+    (part ++ between) ++ joined_texts between (parts separator rest)
 joined_more between part separator rest =
     let first = some_part zero separator rest in
-    ap (λ ps. joined between (part ∷ ps)) first.2
+    ap (λ ps. joined_texts between (part ∷ ps)) first.2
     ∙ ap (λ text. part ++ text) (append_assoc between first.0 (flat_map (λ next. between ++ next) first.1))
-    ∙ sym (append_assoc part between (joined between (first.0 ∷ first.1)))
-    ∙ ap (λ ps. (part ++ between) ++ joined between ps) (sym first.2)
+    ∙ sym (append_assoc part between (joined_texts between (first.0 ∷ first.1)))
+    ∙ ap (λ ps. (part ++ between) ++ joined_texts between ps) (sym first.2)
 
-pub replaced_is : (text old new : List ℕ) → length old == 0 ≡ false → replaced text old new ≡ within_bytes (joined new (parts old text))
-replaced_is text old new filled = cond-false (length old == 0) (Err refusal.Arguments) (within_bytes (joined new (parts old text))) filled
+pub replaced_is : (text old new : List ℕ) → length old == 0 ≡ false → replaced_text text old new ≡ within_bytes (joined_texts new (parts old text))
+replaced_is text old new filled = cond-false (length old == 0) (Err refusal.Arguments) (within_bytes (joined_texts new (parts old text))) filled

@@ -2,36 +2,36 @@
 use Rattle.std.proofs.Common.{◌≡◌, ℕ, zero, suc, ◌-◌, ◌<◌, Bool, true, false, List, []}
 use Rattle.std.proofs.Common.{◌∷◌, ◌++◌, length, drop, nat_eq, refl, sym, ap, ◌∙◌, subst, arith}
 use Rattle.std.specs.Prelude.{Result, Ok, Err, IfOk, nat_le, if◌then◌else◌}
-use Rattle.values.specs.declared.refusal.Refusal.{Refusal}
-use Rattle.values.specs.declared.refusal.Refusal.TheVariants as refusal
+use Rattle.values.specs.declared.refusal.OperationRefusal.{OperationRefusal}
+use Rattle.values.specs.declared.refusal.OperationRefusal.TheVariants as refusal
 use Rattle.std.specs.List.{starts_with, onto_first, flat_map, All}
 use Rattle.std.proofs.lemmas.List.Elements.{All-cons, All-nil}
 use Rattle.std.proofs.lemmas.Bool.{or_from, false≢true, false_from_ne_true}
 use Rattle.std.proofs.lemmas.List.{append_assoc, drop_at}
 use Rattle.values.specs.texts.Pieces.{parts, parts_after, within_items}
 use Rattle.values.specs.texts.Search.{contains}
-use Rattle.values.specs.texts.Joined.{joined}
+use Rattle.values.specs.texts.Joined.{joined_texts}
 use Rattle.values.proofs.SearchLemmas.{Decides-starts_with}
 use Rattle.values.proofs.JoinedLemmas.{some_part}
 
-joined-onto_first : (separator : List ℕ) (b : ℕ) (pieces : List (List ℕ)) → joined separator
-    (onto_first b pieces) ≡ b ∷ joined separator pieces
+joined-onto_first : (separator : List ℕ) (b : ℕ) (pieces : List (List ℕ)) → joined_texts separator
+    (onto_first b pieces) ≡ b ∷ joined_texts separator pieces
 joined-onto_first separator b [] = refl
 joined-onto_first separator b (piece ∷ pieces) = refl
 
 -- an empty part in front adds a separator
-joined-empty : (separator : List ℕ) (passed : ℕ) (text : List ℕ) → joined separator
-    ([] ∷ parts_after passed separator text) ≡ separator ++ joined separator (parts_after passed separator text)
+joined-empty : (separator : List ℕ) (passed : ℕ) (text : List ℕ) → joined_texts separator
+    ([] ∷ parts_after passed separator text) ≡ separator ++ joined_texts separator (parts_after passed separator text)
 joined-empty separator passed text =
     let first = some_part passed separator text in
-    ap (λ ps. joined separator ([] ∷ ps)) first.2
+    ap (λ ps. joined_texts separator ([] ∷ ps)) first.2
     ∙ append_assoc separator first.0 (flat_map (λ next. separator ++ next) first.1)
-    ∙ ap (λ ps. separator ++ joined separator ps) (sym first.2)
+    ∙ ap (λ ps. separator ++ joined_texts separator ps) (sym first.2)
 
 whole_case : (s : ℕ) (ss : List ℕ) (stands : Bool) (b : ℕ) (bs : List ℕ) → starts_with nat_eq (b ∷ bs) (s ∷ ss) ≡ stands
-    → joined (s ∷ ss) (parts_after (length (s ∷ ss) - 1) (s ∷ ss) bs) ≡ drop (length (s ∷ ss) - 1) bs → joined (s ∷ ss)
+    → joined_texts (s ∷ ss) (parts_after (length (s ∷ ss) - 1) (s ∷ ss) bs) ≡ drop (length (s ∷ ss) - 1) bs → joined_texts (s ∷ ss)
     (parts (s ∷ ss) bs) ≡ bs
-    → joined (s ∷ ss) (if stands then [] ∷ parts_after (length (s ∷ ss) - 1) (s ∷ ss) bs else onto_first b (parts (s ∷ ss) bs)) ≡ b ∷ bs
+    → joined_texts (s ∷ ss) (if stands then [] ∷ parts_after (length (s ∷ ss) - 1) (s ∷ ss) bs else onto_first b (parts (s ∷ ss) bs)) ≡ b ∷ bs
 whole_case s ss true b bs is behind here =
     let w = (Decides-starts_with (b ∷ bs) (s ∷ ss)).0 is in
     let shorter : length (s ∷ ss) - 1 ≡ length ss = omega arith in
@@ -40,7 +40,7 @@ whole_case s ss true b bs is behind here =
     joined-empty (s ∷ ss) (length (s ∷ ss) - 1) bs ∙ ap (λ more. s ∷ ss ++ more) (behind ∙ rest) ∙ sym w.1
 whole_case s ss false b bs is behind here = joined-onto_first (s ∷ ss) b (parts (s ∷ ss) bs) ∙ ap (λ more. b ∷ more) here
 
-joined-parts_after : (s : ℕ) (ss : List ℕ) (passed : ℕ) (text : List ℕ) → joined (s ∷ ss)
+joined-parts_after : (s : ℕ) (ss : List ℕ) (passed : ℕ) (text : List ℕ) → joined_texts (s ∷ ss)
     (parts_after passed (s ∷ ss) text) ≡ drop passed text
 joined-parts_after s ss zero [] = refl
 joined-parts_after s ss (suc passed) [] = refl
@@ -50,7 +50,7 @@ joined-parts_after s ss zero (b ∷ bs) =
 joined-parts_after s ss (suc passed) (b ∷ bs) = joined-parts_after s ss passed bs
 
 -- the parts, joined by the separator, are the text
-pub joined-parts : (separator text : List ℕ) → 0 < length separator → joined separator (parts separator text) ≡ text
+pub joined-parts : (separator text : List ℕ) → 0 < length separator → joined_texts separator (parts separator text) ≡ text
 joined-parts [] text filled = absurd (omega arith)
 joined-parts (s ∷ ss) text filled = joined-parts_after s ss zero text
 
@@ -70,13 +70,13 @@ front_lacks separator b bs front more bs_is lacks none =
     none
 
 first_longer : (separator : List ℕ) (b : ℕ) (bs : List ℕ) (pieces : List (List ℕ)) → starts_with nat_eq (b ∷ bs) separator ≡ false
-    → joined separator pieces ≡ bs → All (λ piece. contains piece separator ≡ false) pieces → (q : List ℕ) (qs : List (List ℕ))
+    → joined_texts separator pieces ≡ bs → All (λ piece. contains piece separator ≡ false) pieces → (q : List ℕ) (qs : List (List ℕ))
     → pieces ≡ q ∷ qs
     → All (λ piece. contains piece separator ≡ false) (onto_first b pieces)
 first_longer separator b bs pieces lacks whole each q qs pieces_is =
     let P : List ℕ → Type 0 = λ piece. contains piece separator ≡ false in
     let cut : All P (q ∷ qs) = let Q : List (List ℕ) → Type 0 = λ ps. All P ps in subst Q pieces_is each in
-    let bs_is : bs ≡ q ++ flat_map (λ next. separator ++ next) qs = sym whole ∙ ap (joined separator) pieces_is in
+    let bs_is : bs ≡ q ++ flat_map (λ next. separator ++ next) qs = sym whole ∙ ap (joined_texts separator) pieces_is in
     let Q : List (List ℕ) → Type 0 = λ ps. All P (onto_first b ps) in
     subst Q (sym pieces_is) (All-cons P (b ∷ q) qs
     (front_lacks separator b bs q (flat_map (λ next. separator ++ next) qs) bs_is lacks (cut 0 q (omega arith)))
@@ -112,14 +112,14 @@ found_are true found pieces e = cc
 found_are false found pieces e = absurd cc
 
 -- the laws of an answer that has the parts
-pub whole_answer : (separator text : List ℕ) (answer : Result (List (List ℕ)) Refusal) → 0 < length separator
-    → answer ≡ within_items (parts separator text) → IfOk answer (λ found. joined separator found ≡ text)
+pub whole_answer : (separator text : List ℕ) (answer : Result (List (List ℕ)) OperationRefusal) → 0 < length separator
+    → answer ≡ within_items (parts separator text) → IfOk answer (λ found. joined_texts separator found ≡ text)
 whole_answer separator text (Err e) filled is = tt
 whole_answer separator text (Ok found) filled is =
-    ap (joined separator) (found_are (nat_le (length (parts separator text)) 65536) found (parts separator text) is)
+    ap (joined_texts separator) (found_are (nat_le (length (parts separator text)) 65536) found (parts separator text) is)
     ∙ joined-parts separator text filled
 
-pub apart_answer : (separator text : List ℕ) (answer : Result (List (List ℕ)) Refusal) → 0 < length separator
+pub apart_answer : (separator text : List ℕ) (answer : Result (List (List ℕ)) OperationRefusal) → 0 < length separator
     → answer ≡ within_items (parts separator text) → IfOk answer (All (λ part. contains part separator ≡ false))
 apart_answer separator text (Err e) filled is = tt
 apart_answer separator text (Ok found) filled is =

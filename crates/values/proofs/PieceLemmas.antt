@@ -7,16 +7,16 @@ use Rattle.values.specs.Data.{Data, boolean, integer, text, list, dictionary, ob
 use Rattle.values.specs.Data.{entry_values, keys_in}
 use Rattle.values.specs.View.{data_of, items_of, entries_of}
 use Rattle.values.specs.declared.value.Value.{Value}
-use Rattle.values.specs.printing.Printed.{shown, inside, quoted, listed, item_texts, entry_texts, boolean_text}
+use Rattle.values.specs.printing.Printed.{text_of_value, inside, quoted_text, comma_list, item_texts, entry_texts, boolean_text}
 use Rattle.values.specs.printing.Pieces.{pieces, inside_pieces, item_pieces, entry_pieces, separator, whole}
-use Rattle.values.specs.printing.Parts.{left, part_pieces}
+use Rattle.values.specs.printing.Parts.{remaining_pieces, part_pieces}
 use Rattle.values.specs.declared.printing.pieces.Part.{Part}
 
 -- ---- parts on the stack
 
-pub left_push : (ps : List Part) (p : Part) → left (ps ++ p ∷ []) ≡ part_pieces p ++ left ps
+pub left_push : (ps : List Part) (p : Part) → remaining_pieces (ps ++ p ∷ []) ≡ part_pieces p ++ remaining_pieces ps
 left_push [] p = sym (append-nil (part_pieces p))
-left_push (q ∷ ps) p = ap (λ x. x ++ part_pieces q) (left_push ps p) ∙ append_assoc (part_pieces p) (left ps) (part_pieces q)
+left_push (q ∷ ps) p = ap (λ x. x ++ part_pieces q) (left_push ps p) ∙ append_assoc (part_pieces p) (remaining_pieces ps) (part_pieces q)
 
 -- ---- the entries of a dictionary, by its keys and values
 
@@ -36,7 +36,7 @@ whole-append (p ∷ ps) qs = ap (λ x. p ++ x) (whole-append ps qs) ∙ sym (app
 
 -- texts with a comma and a space between each two, and in front of the first unless it is the first of all
 abbrev rest : Bool → List (List ℕ) → List ℕ
-rest true ts = listed ts
+rest true ts = comma_list ts
 rest false ts = flat_map (λ next. codes ", " ++ next) ts
 
 one_more : (is_first : Bool) (t end more : List ℕ) (ts : List (List ℕ)) → more ≡ rest false ts ++ end
@@ -47,18 +47,18 @@ one_more false t end more ts is =
     ∙ sym (append_assoc (codes ", ") (t ++ rest false ts) end)
     ∙ ap (λ x. x ++ end) (sym (append_assoc (codes ", ") t (rest false ts)))
 
-key_whole : (k t more : List ℕ) → codes "'" ++ (k ++ (codes "' : " ++ (t ++ more))) ≡ ((quoted k ++ codes " : ") ++ t) ++ more
+key_whole : (k t more : List ℕ) → codes "'" ++ (k ++ (codes "' : " ++ (t ++ more))) ≡ ((quoted_text k ++ codes " : ") ++ t) ++ more
 key_whole k t more =
     ap (λ x. codes "'" ++ x) (sym (append_assoc k (codes "'") (codes " : " ++ (t ++ more))))
-    ∙ sym (append_assoc (quoted k) (codes " : ") (t ++ more))
-    ∙ sym (append_assoc (quoted k ++ codes " : ") t more)
+    ∙ sym (append_assoc (quoted_text k) (codes " : ") (t ++ more))
+    ∙ sym (append_assoc (quoted_text k ++ codes " : ") t more)
 
 one_entry : (is_first : Bool) (k t end more : List ℕ) (ts : List (List ℕ)) → more ≡ rest false ts ++ end
-    → (separator is_first ++ codes "'") ++ (k ++ (codes "' : " ++ (t ++ more))) ≡ rest is_first (((quoted k ++ codes " : ") ++ t) ∷ ts) ++ end
+    → (separator is_first ++ codes "'") ++ (k ++ (codes "' : " ++ (t ++ more))) ≡ rest is_first (((quoted_text k ++ codes " : ") ++ t) ∷ ts) ++ end
 one_entry is_first k t end more ts is =
     append_assoc (separator is_first) (codes "'") (k ++ (codes "' : " ++ (t ++ more)))
     ∙ ap (λ x. separator is_first ++ x) (key_whole k t more)
-    ∙ one_more is_first ((quoted k ++ codes " : ") ++ t) end more ts is
+    ∙ one_more is_first ((quoted_text k ++ codes " : ") ++ t) end more ts is
 
 mutual
   whole_inside : (d : Data) → whole (inside_pieces d) ≡ inside d
@@ -85,7 +85,7 @@ mutual
       ∙ ap (λ x. x ++ whole (entry_pieces false es)) (whole_inside d))
       ∙ one_entry is_first k (inside d) (codes "}") (whole (entry_pieces false es)) (entry_texts es) (whole_entries false es)
 
-pub whole_pieces : (d : Data) → whole (pieces d) ≡ shown d
+pub whole_pieces : (d : Data) → whole (pieces d) ≡ text_of_value d
 whole_pieces (boolean b) = whole_inside (boolean b)
 whole_pieces (integer z) = whole_inside (integer z)
 whole_pieces (text t) = append-nil t

@@ -6,7 +6,7 @@ use Rattle.std.specs.List.{starts_with, slice_split, onto_first, position_or_len
 use Rattle.std.specs.Str.Pattern.{LacksTextAt}
 use Rattle.std.proofs.lemmas.List.{length-append, append_assoc, map_push}
 use Rattle.std.proofs.lemmas.Bool.{eqb-true, false_from_ne_true, cond-true, cond-false}
-use Rattle.values.specs.declared.refusal.Refusal.TheVariants as refusal
+use Rattle.values.specs.declared.refusal.OperationRefusal.TheVariants as refusal
 use Rattle.values.specs.texts.Strip.{is_blank}
 use Rattle.values.specs.texts.Pieces.{parts, parts_after, words, lines, lines_after, is_filled, is_line_end, within_items}
 use Rattle.values.specs.texts.Cut.{lines_behind}

@@ -1,4 +1,4 @@
--- What the tests of `specs/Search.antt` tell.
+-- What the tests of `specs/texts/Search.antt` tell.
 use Rattle.std.proofs.Common.{◌≡◌, ℕ, List, [], ◌∷◌, ◌++◌, length, take, drop, nat_eq, Decides, refl, sym, ap, ◌∙◌, inl, inr, ◌⊎◌}
 use Rattle.std.specs.List.{starts_with}
 use Rattle.std.specs.Str.Iter.{HasSubslice}

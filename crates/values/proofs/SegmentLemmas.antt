@@ -11,11 +11,11 @@ use Rattle.std.proofs.lemmas.Bool.{eq-eqb, eqb-true, cases_lt, cond-true, cond-f
 use Rattle.std.proofs.lemmas.Bool.Decides.{nat_tests}
 use Rattle.std.proofs.lemmas.List.{take_all, drop_all, drop_more, append-nil, append_assoc, take-append-drop}
 use Rattle.std.proofs.lemmas.List.Sums.{prefix_len_passes}
-use Rattle.values.specs.declared.texts.placed.Places.{Places}
-use Rattle.values.specs.declared.texts.placed.Places.TheVariants as places
+use Rattle.values.specs.declared.texts.placeholders.Places.{Places}
+use Rattle.values.specs.declared.texts.placeholders.Places.TheVariants as places
 use Rattle.values.specs.texts.Segments.{Segment, text, place, is_name_start, is_name_byte, name_length, place_length, onto_text}
 use Rattle.values.specs.texts.Segments.{segments_after}
-use Rattle.values.specs.texts.Segments.{segments, text_segments, spelled, is_number, number_of}
+use Rattle.values.specs.texts.Segments.{segments, text_segments, text_of_segment, is_number, place_number}
 use Rattle.values.proofs.NumberLemmas.{AllDigits-from_test}
 use Rattle.values.proofs.CutLemmas.{boundary_after}
 
@@ -141,7 +141,7 @@ boundary_in_place kind rest count n utf8 is some within =
 
 -- ---- segments spell the text
 
-onto_spelled : (b : ℕ) (ss : List Segment) → flat_map spelled (onto_text b ss) ≡ b ∷ flat_map spelled ss
+onto_spelled : (b : ℕ) (ss : List Segment) → flat_map text_of_segment (onto_text b ss) ≡ b ∷ flat_map text_of_segment ss
 onto_spelled b [] = refl
 onto_spelled b (text t ∷ ss) = refl
 onto_spelled b (place name ∷ ss) = refl
@@ -156,9 +156,9 @@ place_whole b bs more n first end is =
     ∙ ap (λ x. x ∷ bs) (sym first)
 
 spelled_case : (none : Bool) (kind : Places) (b : ℕ) (bs : List ℕ) → (place_length kind (b ∷ bs) == 0) ≡ none
-    → flat_map spelled (segments_after 0 kind bs) ≡ bs
-    → flat_map spelled (segments_after (place_length kind (b ∷ bs) + 1) kind bs) ≡ drop (place_length kind (b ∷ bs) + 1) bs
-    → flat_map spelled (if none then onto_text b (segments_after 0 kind bs)
+    → flat_map text_of_segment (segments_after 0 kind bs) ≡ bs
+    → flat_map text_of_segment (segments_after (place_length kind (b ∷ bs) + 1) kind bs) ≡ drop (place_length kind (b ∷ bs) + 1) bs
+    → flat_map text_of_segment (if none then onto_text b (segments_after 0 kind bs)
     else place (take (place_length kind (b ∷ bs)) bs) ∷ segments_after (place_length kind (b ∷ bs) + 1) kind bs) ≡ b ∷ bs
 spelled_case true kind b bs is later behind_it = onto_spelled b (segments_after 0 kind bs) ∙ ap (λ t. b ∷ t) later
 spelled_case false kind b bs is later behind_it =
@@ -166,9 +166,9 @@ spelled_case false kind b bs is later behind_it =
     let some : 0 < count = grind (arith, nat_tests) in
     let parts = place_parts (b == 64) (slice_index bs (name_length kind bs) == 64) (name_length kind bs) count refl some in
     let end : get_or bs count 0 ≡ 64 = ap (λ n. get_or bs n 0) parts.2 ∙ eqb-true (slice_index bs (name_length kind bs)) 64 parts.1 in
-    place_whole b bs (flat_map spelled (segments_after (count + 1) kind bs)) count (eqb-true b 64 parts.0) end behind_it
+    place_whole b bs (flat_map text_of_segment (segments_after (count + 1) kind bs)) count (eqb-true b 64 parts.0) end behind_it
 
-spelled_after : (passed : ℕ) (kind : Places) (t : List ℕ) → flat_map spelled (segments_after passed kind t) ≡ drop passed t
+spelled_after : (passed : ℕ) (kind : Places) (t : List ℕ) → flat_map text_of_segment (segments_after passed kind t) ≡ drop passed t
 spelled_after zero kind [] = refl
 spelled_after (suc passed) kind [] = refl
 spelled_after zero kind (b ∷ bs) =
@@ -176,7 +176,7 @@ spelled_after zero kind (b ∷ bs) =
     (spelled_after (place_length kind (b ∷ bs) + 1) kind bs)
 spelled_after (suc passed) kind (b ∷ bs) = spelled_after passed kind bs
 
-pub segments_spell : (kind : Places) (t : List ℕ) → flat_map spelled (segments kind t) ≡ t
+pub segments_spell : (kind : Places) (t : List ℕ) → flat_map text_of_segment (segments kind t) ≡ t
 segments_spell kind t = spelled_after 0 kind t
 
 -- ---- segments that are found one after another
@@ -210,7 +210,7 @@ digits_numeral t h =
     (some, AllDigits-from_test t parts.1)
 
 number_case : (b c : Bool) (v : ℕ) (t : List ℕ) → is_number t ≡ b → nat_lt (digits_value 10 t) (2 ^ 64) ≡ c → (b && c) ≡ true → v ≡ digits_value 10 t
-    → Some v ≡ number_of t
+    → Some v ≡ place_number t
 number_case true true v t is fits both_true v_is =
     ap (λ x. Some x) v_is ∙ sym (ap (λ (x : Bool). if x && nat_lt (digits_value 10 t) (2 ^ 64) then Some (digits_value 10 t) else None) is
     ∙ ap (λ (x : Bool). if x then Some (digits_value 10 t) else None) fits)
@@ -219,7 +219,7 @@ number_case false c v t is fits both_true v_is = absurd cc
 
 pub number_read : (t : List ℕ) (v : ℕ) → is_number t ≡ true
     → (IsNumeral 10 (without_leading_plus t) × (digits_value 10 (without_leading_plus t) < 2 ^ 64)) × (v ≡ digits_value 10 (without_leading_plus t))
-    → Some v ≡ number_of t
+    → Some v ≡ place_number t
 number_read t v h read =
     let plain = no_plus t h in
     let value : v ≡ digits_value 10 t = read.1 ∙ ap (digits_value 10) plain in
@@ -227,7 +227,7 @@ number_read t v h read =
     let test : nat_lt (digits_value 10 t) (2 ^ 64) ≡ true = grind (arith, nat_tests) in
     number_case true true v t h test refl value
 
-none_case : (c : Bool) (t : List ℕ) → nat_lt (digits_value 10 t) (2 ^ 64) ≡ c → c ≡ false → is_number t ≡ true → None ≡ number_of t
+none_case : (c : Bool) (t : List ℕ) → nat_lt (digits_value 10 t) (2 ^ 64) ≡ c → c ≡ false → is_number t ≡ true → None ≡ place_number t
 none_case true t is h digits = absurd cc
 none_case false t is h digits =
     sym (ap (λ (x : Bool). if x && nat_lt (digits_value 10 t) (2 ^ 64) then Some (digits_value 10 t) else None) digits
@@ -238,7 +238,7 @@ large_false true v is large = absurd (large (grind (arith, nat_tests)))
 large_false false v is large = refl
 
 pub number_too_large : (t : List ℕ) → is_number t ≡ true
-    → ¬ (IsNumeral 10 (without_leading_plus t) × (digits_value 10 (without_leading_plus t) < 2 ^ 64)) → None ≡ number_of t
+    → ¬ (IsNumeral 10 (without_leading_plus t) × (digits_value 10 (without_leading_plus t) < 2 ^ 64)) → None ≡ place_number t
 number_too_large t h large =
     let plain = no_plus t h in
     let numeral : IsNumeral 10 (without_leading_plus t) = subst (λ x. IsNumeral 10 x) (sym plain) (digits_numeral t h) in

@@ -5,7 +5,7 @@ use Rattle.std.specs.Char.{encode_utf8}
 use Rattle.std.specs.Str.{chars, encode_utf8_all, IsUtf8}
 use Rattle.std.proofs.lemmas.List.{nil_from_length, append-nil, reverse-append, reverse-reverse, length-append}
 use Rattle.std.proofs.lemmas.Str.{chars-nil, chars_past_char, encodes_same, encodes-chars, encodes-append, length-encode, len_utf8_bounds}
-use Rattle.values.specs.texts.Strip.{without_first, without_last, stripped}
+use Rattle.values.specs.texts.Strip.{without_first, without_last, stripped_text}
 
 same_if : (a b : Bool) (xs ys zs : List ℕ) → a ≡ b → xs ≡ ys → (if a then xs else zs) ≡ (if b then ys else zs)
 same_if true true xs ys zs e h = h
@@ -19,7 +19,7 @@ without_first-same p q agree [] = refl
 without_first-same p q agree (c ∷ cs) =
     same_if (p c) (q c) (without_first p cs) (without_first q cs) (c ∷ cs) (agree c) (without_first-same p q agree cs)
 
-pub stripped-same : (p q : ℕ → Bool) → ((c : ℕ) → p c ≡ q c) → (text : List ℕ) → stripped p text ≡ stripped q text
+pub stripped-same : (p q : ℕ → Bool) → ((c : ℕ) → p c ≡ q c) → (text : List ℕ) → stripped_text p text ≡ stripped_text q text
 stripped-same p q agree text =
     let front = without_first-same p q agree (chars text) in
     ap (λ cs. encode_utf8_all (without_last p cs)) front

@@ -12,7 +12,7 @@ use Rattle.std.specs.Cmp.Lexicographic.{slice_cmp}
 use Rattle.std.proofs.lemmas.List.Elements.{All-head, All-tail}
 use Rattle.std.proofs.lemmas.Bool.{cases_lt}
 use Rattle.std.proofs.Math.Nat.{pow-suc, mul-le-mul_right, pow-le-pow_right}
-use Rattle.values.specs.texts.Version.{spelled}
+use Rattle.values.specs.texts.Version.{integer_of_digits}
 
 pub digit_bounds : (d : ℕ) → is_ascii_digit d ≡ true → (48 ≤ d) × (d ≤ 57)
 digit_bounds d h = (grind arith, grind arith)
@@ -23,10 +23,10 @@ digit_place d n s h below =
     rw pow-suc (omega arith)
 
 -- n digits spell less than 10 to the n
-pub spelled-lt : (ds : List ℕ) → AllPass is_ascii_digit ds → spelled ds < 10 ^ length ds
+pub spelled-lt : (ds : List ℕ) → AllPass is_ascii_digit ds → integer_of_digits ds < 10 ^ length ds
 spelled-lt [] h = lit< tt
 spelled-lt (d ∷ ds) h =
-    digit_place d (length ds) (spelled ds) (digit_bounds d (All-head (λ x. is_ascii_digit x ≡ true) d ds h)).1 (spelled-lt ds (All-tail (λ x. is_ascii_digit x ≡ true) d ds h))
+    digit_place d (length ds) (integer_of_digits ds) (digit_bounds d (All-head (λ x. is_ascii_digit x ≡ true) d ds h)).1 (spelled-lt ds (All-tail (λ x. is_ascii_digit x ≡ true) d ds h))
 
 pub nat_cmp-less : (x y : ℕ) → x < y → nat_cmp x y ≡ Less
 nat_cmp-less x y h = sym (nat_cmp_is x y Less h)
@@ -66,7 +66,7 @@ order_at x y n s t later hx hy hs ht e =
 
 -- as many digits: their bytes decide
 pub same_length_order : (ds es : List ℕ) → AllPass is_ascii_digit ds → AllPass is_ascii_digit es → length ds ≡ length es
-    → slice_cmp nat_cmp ds es ≡ nat_cmp (spelled ds) (spelled es)
+    → slice_cmp nat_cmp ds es ≡ nat_cmp (integer_of_digits ds) (integer_of_digits es)
 same_length_order [] [] hd he e = refl
 same_length_order [] (y ∷ ys) hd he e = absurd (omega arith)
 same_length_order (x ∷ xs) [] hd he e = absurd (omega arith)
@@ -76,36 +76,36 @@ same_length_order (x ∷ xs) (y ∷ ys) hd he e =
     let dy = All-tail (λ z. is_ascii_digit z ≡ true) y ys he in
     let bx = digit_bounds x (All-head (λ z. is_ascii_digit z ≡ true) x xs hd) in
     let by = digit_bounds y (All-head (λ z. is_ascii_digit z ≡ true) y ys he) in
-    let below : spelled ys < 10 ^ length xs = rw long (spelled-lt ys dy) in
-    order_at x y (length xs) (spelled xs) (spelled ys) (slice_cmp nat_cmp xs ys) bx.0 by.0 (spelled-lt xs dx) below (same_length_order xs ys dx dy long)
-    ∙ ap (λ n. nat_cmp (spelled (x ∷ xs)) ((y - 48) * 10 ^ n + spelled ys)) long
+    let below : integer_of_digits ys < 10 ^ length xs = rw long (spelled-lt ys dy) in
+    order_at x y (length xs) (integer_of_digits xs) (integer_of_digits ys) (slice_cmp nat_cmp xs ys) bx.0 by.0 (spelled-lt xs dx) below (same_length_order xs ys dx dy long)
+    ∙ ap (λ n. nat_cmp (integer_of_digits (x ∷ xs)) ((y - 48) * 10 ^ n + integer_of_digits ys)) long
 
 -- digits without a zero in front spell at least the place of the first
-pub place-le-spelled : (d : ℕ) (ds : List ℕ) → 48 < d → 10 ^ length ds ≤ spelled (d ∷ ds)
+pub place-le-spelled : (d : ℕ) (ds : List ℕ) → 48 < d → 10 ^ length ds ≤ integer_of_digits (d ∷ ds)
 place-le-spelled d ds h =
     let step : 1 * 10 ^ length ds ≤ (d - 48) * 10 ^ length ds = mul-le-mul_right (10 ^ length ds) (omega arith) in
     omega arith
 
 -- of two without zeros in front, the longer spells more
-pub longer_spells_more : (ds es : List ℕ) → AllPass is_ascii_digit ds → AllPass is_ascii_digit es → slice_get es 0 ≢ Some 48 → length ds < length es → spelled ds < spelled es
+pub longer_spells_more : (ds es : List ℕ) → AllPass is_ascii_digit ds → AllPass is_ascii_digit es → slice_get es 0 ≢ Some 48 → length ds < length es → integer_of_digits ds < integer_of_digits es
 longer_spells_more ds [] hd he z l = absurd (omega arith)
 longer_spells_more ds (y ∷ ys) hd he z l =
     let b = digit_bounds y (All-head (λ x. is_ascii_digit x ≡ true) y ys he) in
     let not_zero : y ≢ 48 = λ e. z (ap Some e) in
-    let place : 10 ^ length ys ≤ spelled (y ∷ ys) = place-le-spelled y ys (omega arith) in
+    let place : 10 ^ length ys ≤ integer_of_digits (y ∷ ys) = place-le-spelled y ys (omega arith) in
     let wide : 10 ^ length ds ≤ 10 ^ length ys = pow-le-pow_right (omega arith) (omega arith) in
     let below = spelled-lt ds hd in
     omega arith
 
 -- a zero in front counts for nothing
-pub zero_taken : (ds rest : List ℕ) (d : ℕ) → ds ≡ d ∷ rest → d ≡ 48 → spelled rest ≡ spelled ds
+pub zero_taken : (ds rest : List ℕ) (d : ℕ) → ds ≡ d ∷ rest → d ≡ 48 → integer_of_digits rest ≡ integer_of_digits ds
 zero_taken ds rest d split is_zero =
-    let counts : spelled (48 ∷ rest) ≡ spelled rest = omega arith in
-    sym counts ∙ ap (λ z. spelled (z ∷ rest)) (sym is_zero) ∙ ap spelled (sym split)
+    let counts : integer_of_digits (48 ∷ rest) ≡ integer_of_digits rest = omega arith in
+    sym counts ∙ ap (λ z. integer_of_digits (z ∷ rest)) (sym is_zero) ∙ ap integer_of_digits (sym split)
 
 -- of two of different lengths without zeros in front, the longer spells more
 pub lengths_decide : (ds es : List ℕ) → AllPass is_ascii_digit ds → AllPass is_ascii_digit es → slice_get ds 0 ≢ Some 48 → slice_get es 0 ≢ Some 48 → length ds ≢ length es
-    → nat_cmp (length ds) (length es) ≡ nat_cmp (spelled ds) (spelled es)
+    → nat_cmp (length ds) (length es) ≡ nat_cmp (integer_of_digits ds) (integer_of_digits es)
 lengths_decide ds es hd he zd ze n =
     ⊎_elim
     (λ l. nat_cmp-less (length ds) (length es) l ∙ sym (nat_cmp-less _ _ (longer_spells_more ds es hd he ze l)))

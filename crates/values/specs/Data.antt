@@ -5,6 +5,7 @@ use Rattle.values.specs.declared.object.Object.TheVariants as TheObject
 
 -- The plain data of values: a value, the items of a list, and the entries of a dictionary.
 mutual
+  -- A value of the language, without its place in memory.
   pub data Data : Type 0 where
     boolean : Bool → Data
     integer : ℤ → Data
@@ -13,10 +14,12 @@ mutual
     dictionary : Entries → Data
     object : Object → Data
 
+  -- The items of a list, in order.
   pub data Items : Type 0 where
     no_items : Items
     item : Data → Items → Items
 
+  -- The entries of a dictionary, in order of insertion. Each has a key and a value.
   pub data Entries : Type 0 where
     no_entries : Entries
     entry : List ℕ → Data → Entries → Entries
@@ -37,9 +40,9 @@ find k no_entries = None
 find k (entry l d es) = if bytes_eq k l then Some d else find k es
 
 -- Returns the entries with a key set to a value. A key that is present keeps its place; a new key goes last.
-abbrev pub put : List ℕ → Data → Entries → Entries
-put k d no_entries = entry k d no_entries
-put k d (entry l e es) = if bytes_eq k l then entry l d es else entry l e (put k d es)
+abbrev pub entries_with : List ℕ → Data → Entries → Entries
+entries_with k d no_entries = entry k d no_entries
+entries_with k d (entry l e es) = if bytes_eq k l then entry l d es else entry l e (entries_with k d es)
 
 -- Returns the number of entries.
 abbrev pub entry_count : Entries → ℕ
@@ -101,6 +104,7 @@ abbrev mutual
   has_disabler (dictionary es) = false
   has_disabler (object o) = is_disabler (object o)
 
+  -- Holds if one of the items is a disabler, or a list that contains one at any depth of lists.
   pub have_disabler : Items → Bool
   have_disabler no_items = false
   have_disabler (item d ds) = has_disabler d || have_disabler ds
@@ -111,6 +115,6 @@ AreDistinct no_entries = Unit {0}
 AreDistinct (entry k d es) = (find k es ≡ None) × AreDistinct es
 
 -- Returns one dictionary updated with the entries of another. Keys of the first keep their places; values of the second win.
-abbrev pub merged : Entries → Entries → Entries
-merged es no_entries = es
-merged es (entry k d fs) = merged (put k d es) fs
+abbrev pub merged_entries : Entries → Entries → Entries
+merged_entries es no_entries = es
+merged_entries es (entry k d fs) = merged_entries (entries_with k d es) fs

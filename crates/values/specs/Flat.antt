@@ -12,6 +12,7 @@ abbrev mutual
   is_texts (dictionary es) = false
   is_texts (object o) = false
 
+  -- Holds if each item is a text, or a list of texts of any depth.
   pub items_are_texts : Items → Bool
   items_are_texts no_items = true
   items_are_texts (item d ds) = is_texts d && items_are_texts ds
@@ -31,6 +32,7 @@ abbrev mutual
   flat (dictionary es) = []
   flat (object o) = []
 
+  -- Returns the texts in the items, in order, with all lists flattened.
   pub flat_items : Items → List (List ℕ)
   flat_items no_items = []
   flat_items (item d ds) = flat d ++ flat_items ds
@@ -50,6 +52,7 @@ abbrev mutual
   opened (dictionary es) = dictionary es ∷ []
   opened (object o) = object o ∷ []
 
+  -- Returns the items, in order, with all nested lists flattened.
   pub opened_items : Items → List Data
   opened_items no_items = []
   opened_items (item d ds) = opened d ++ opened_items ds

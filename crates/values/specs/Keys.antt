@@ -1,8 +1,8 @@
 -- Defines the keys of a dictionary, whether they are in a vector or in a hash set.
 use Rattle.std.specs.Prelude.{◌≡◌, List, ℕ, [], bytes_eq}
 use Rattle.support.specs.Sets.{insert_all}
-use Rattle.values.specs.declared.keys.Kept.{Kept}
-use Rattle.values.specs.declared.keys.Kept.TheVariants.{Few, Many}
+use Rattle.values.specs.declared.dictionary_keys.Kept.{Kept}
+use Rattle.values.specs.declared.dictionary_keys.Kept.TheVariants.{Few, Many}
 
 -- Returns the keys, in order of insertion.
 abbrev pub keys_of : Kept → List (List ℕ)

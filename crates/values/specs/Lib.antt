@@ -13,6 +13,7 @@ pub mod Content
 pub mod Few
 pub mod Kept
 pub mod Keys
+pub mod Copies
 pub mod language_names
 pub mod printing
 pub mod texts

@@ -1,8 +1,8 @@
 -- Defines how large a value may be.
 use Rattle.std.specs.Prelude.{◌≡◌, ◌<◌, ◌≤◌, ◌++◌, ◌+◌, ℕ, Bool, true, ◌&&◌, nat_le, List, length, Result, Ok, Err, if◌then◌else◌}
 use Rattle.support.specs.Limits.{items as most_items, levels as most_levels, weight as most_weight, text_bytes, is_short}
-use Rattle.values.specs.declared.refusal.Refusal.{Refusal}
-use Rattle.values.specs.declared.refusal.Refusal.TheVariants as refusal
+use Rattle.values.specs.declared.refusal.OperationRefusal.{OperationRefusal}
+use Rattle.values.specs.declared.refusal.OperationRefusal.TheVariants as refusal
 use Rattle.values.specs.Data.{Data, boolean, integer, text, list, dictionary, object, Items, Entries, count, entry_count}
 use Rattle.values.specs.Weight.{items_weight, items_depth, entries_weight, entries_depth}
 
@@ -28,14 +28,14 @@ fits (dictionary es) = entries_fit es
 fits (object o) = true
 
 -- Returns a text that is within the limit of its length, and otherwise the refusal.
-abbrev pub within_bytes : List ℕ → Result (List ℕ) Refusal
+abbrev pub within_bytes : List ℕ → Result (List ℕ) OperationRefusal
 within_bytes t = if is_short t then Ok t else Err refusal.Limit
 
 -- Holds if a text was extended by a piece, or if the longer text would have passed the limit.
-abbrev pub Appends : List ℕ → List ℕ → List ℕ → Result (Unit {0}) Refusal → Type 0
+abbrev pub Appends : List ℕ → List ℕ → List ℕ → Result (Unit {0}) OperationRefusal → Type 0
 Appends before piece after (Ok done) = (after ≡ before ++ piece) × (length after ≤ text_bytes)
 Appends before piece after (Err e) = (e ≡ refusal.Limit) × (text_bytes < length (before ++ piece))
 
 -- Returns a value that is within the limits, and otherwise the refusal.
-abbrev pub within : Data → Result Data Refusal
+abbrev pub within : Data → Result Data OperationRefusal
 within d = if fits d then Ok d else Err refusal.Limit

@@ -85,11 +85,13 @@ abbrev mutual
   same (object o) (object p) = same_object o p
   same _ _ = false
 
+  -- Holds if two lists have the same number of items, and the items at each index are the same.
   pub same_items : Items → Items → Bool
   same_items no_items no_items = true
   same_items (item x xs) (item y ys) = same x y && same_items xs ys
   same_items _ _ = false
 
+  -- Holds if two dictionaries have the same keys in the same order, with the same values.
   pub same_entries : Entries → Entries → Bool
   same_entries no_entries no_entries = true
   same_entries (entry k d es) (entry l e fs) = bytes_eq k l && (same d e && same_entries es fs)

@@ -34,16 +34,24 @@ pub record IsList (inside : ListInside) : Type 0 where
   pub weight : inside.weight ≡ items_weight (items_of inside.items.items)
   pub depth : inside.depth ≡ items_depth (items_of inside.items.items)
   pub disabled : inside.has_disabler ≡ have_disabler (items_of inside.items.items)
+  -- A list has at most 65536 items.
   pub few : length inside.items.items ≤ 65536
+  -- A list weighs at most 33554432.
   pub light : inside.weight + 1 ≤ 33554432
+  -- A list has at most 64 levels.
   pub shallow : inside.depth + 1 ≤ 64
 
 -- Holds if a dictionary has as many values as keys, stores their weight and depth, and is within the limits.
 pub record IsDictionary (inside : DictionaryInside) : Type 0 where
+  -- There are as many values as keys.
   pub pairs : length inside.keys ≡ length inside.values.items
+  -- No key occurs twice.
   pub distinct : AreDistinct (entries_of inside.keys inside.values.items)
   pub weight : inside.weight ≡ entries_weight (entries_of inside.keys inside.values.items)
   pub depth : inside.depth ≡ entries_depth (entries_of inside.keys inside.values.items)
+  -- A dictionary has at most 65536 entries.
   pub few : length inside.values.items ≤ 65536
+  -- A dictionary weighs at most 33554432.
   pub light : inside.weight + 1 ≤ 33554432
+  -- A dictionary has at most 64 levels.
   pub shallow : inside.depth + 1 ≤ 64

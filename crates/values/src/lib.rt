@@ -9,26 +9,28 @@
 //! builder has 128 bits, so that no number of entries that fit in memory overflows it.
 #![tactic(auto)]
 
+mod copies;
+mod dictionary_keys;
 mod equal;
 mod flat_texts;
-mod keys;
+mod flatten;
 pub mod language_names;
 mod laws;
 mod object;
-mod opening;
 pub mod printing;
 mod refusal;
-mod short;
+mod short_text;
 mod text;
 pub mod texts;
 mod value;
 
+pub use copies::{push_string, push_strings, short_texts, strings, within_texts};
 pub use equal::{equal_objects, is_equal};
 pub use flat_texts::{are_texts, flat, flat_all, is_texts};
+pub use flatten::{flatten_value, flatten_values, flattened_count};
 pub use laws::values_have_few_items;
 pub use object::{Dependency, Feature, Numbers, Object, Program, Source, Sources};
-pub use opening::{open_all, open_up, opened_count};
-pub use refusal::Refusal;
-pub use short::Short;
+pub use refusal::OperationRefusal;
+pub use short_text::Short;
 pub use text::{Text, Texts};
 pub use value::{Content, Dictionary, DictionaryBuilder, List, Value, have_disabler};

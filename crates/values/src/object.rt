@@ -6,7 +6,7 @@ use crate::text::{Text, Texts};
 use std::alloc::{AllocError, Global};
 use std::marker::Model;
 
-/// An object of the page "Reference manual".
+/// Holds an object of the page "Reference manual".
 pub enum Object {
     /// The value of a feature option.
     Feature(Feature),
@@ -62,7 +62,7 @@ impl Drop for Object {
     }
 }
 
-/// The value of a feature option.
+/// Names the value of a feature option.
 #[derive(Clone, Copy, PartialEq, Eq)]
 pub enum Feature {
     Enabled,
@@ -70,7 +70,7 @@ pub enum Feature {
     Auto,
 }
 
-/// The result of `dependency` and `declare_dependency`.
+/// Holds the result of `dependency` and `declare_dependency`.
 pub struct Dependency {
     pub is_found: bool,
     pub name: Text,
@@ -98,7 +98,7 @@ impl Drop for Dependency {
     }
 }
 
-/// The result of `find_program`.
+/// Holds the result of `find_program`.
 pub enum Program {
     NotFound,
     /// A command of the machine file, word by word.
@@ -117,7 +117,7 @@ impl Drop for Program {
     }
 }
 
-/// A source that a dependency adds to a target.
+/// Holds a source that a dependency adds to a target.
 pub enum Source {
     File { path: Text, is_built: bool },
     CustomTarget { number: usize, outputs: usize },
@@ -166,7 +166,7 @@ impl Clone for Source {
     }
 }
 
-/// A list of target numbers.
+/// Holds a list of target numbers.
 #[derive(Drop)]
 pub struct Numbers {
     items: Vec<usize>,
@@ -214,7 +214,7 @@ impl Numbers {
     }
 }
 
-/// A list of sources.
+/// Holds a list of sources.
 #[derive(Drop)]
 pub struct Sources {
     items: Vec<Source>,

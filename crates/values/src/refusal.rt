@@ -2,9 +2,9 @@
 
 use thiserror::Error;
 
-/// The reason why an operation on values is refused.
+/// Says why an operation on values is refused.
 #[derive(Clone, Copy, Debug, Error)]
-pub enum Refusal {
+pub enum OperationRefusal {
     /// E6: there is no such operator for values of these types.
     #[error("E6 type in operator or condition")]
     Type,

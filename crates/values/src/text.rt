@@ -4,8 +4,8 @@ ghost use Rattle.std.specs.Prelude.{◌≡◌, ◌++◌, ◌∷◌, [], ◌≤�
 ghost use Rattle.values.specs.Limits.{within_bytes, Appends};
 ghost use Rattle.support.specs.Limits.{text_bytes};
 
-use crate::refusal::Refusal;
-use crate::short::{SHORT_BYTES, Short};
+use crate::refusal::OperationRefusal;
+use crate::short_text::{SHORT_BYTES, Short};
 use std::alloc::{AllocError, Global};
 use std::cmp::Ordering;
 use std::fmt::{self, Debug, Formatter, Write};
@@ -14,7 +14,7 @@ use std::marker::Model;
 use std::rc::Rc;
 use support::limits::TEXT_BYTES;
 
-/// A text: a string of the language (`str` of the manual), of at most 16,777,216 bytes, ordered by its bytes. A short text is stored
+/// Holds a text: a string of the language (`str` of the manual), of at most 16,777,216 bytes, ordered by its bytes. A short text is stored
 /// inline; clones of a long one share its bytes.
 pub struct Text {
     kept: Kept,
@@ -52,23 +52,23 @@ impl Model for Text {
 }
 
 impl Text {
-    /// Returns the text of a string, or `Refusal::Limit` if it is longer than 16,777,216 bytes.
-    pub fn new(alloc: Global, string: String) -> Result<Result<Text, Refusal>, AllocError>
+    /// Returns the text of a string, or `OperationRefusal::Limit` if it is longer than 16,777,216 bytes.
+    pub fn new(alloc: Global, string: String) -> Result<Result<Text, OperationRefusal>, AllocError>
         ensures { IfOk result (λ r. r ≡ within_bytes (string_bytes string)) }
     {
         if string.len() <= SHORT_BYTES {
             return Ok(Ok(Text::short(string.as_str())));
         }
         if string.len() > TEXT_BYTES {
-            return Ok(Err(Refusal::Limit));
+            return Ok(Err(OperationRefusal::Limit));
         }
         let kept = Kept::Long(Rc::new(alloc, string)?);
         Ok(Ok(Text { kept }))
     }
 
-    /// Returns the text with a copy of a string, or `Refusal::Limit` if it is longer than 16,777,216 bytes.
+    /// Returns the text with a copy of a string, or `OperationRefusal::Limit` if it is longer than 16,777,216 bytes.
     #[inline(always)]
-    pub fn of_str(alloc: Global, bytes: &str) -> Result<Result<Text, Refusal>, AllocError>
+    pub fn of_str(alloc: Global, bytes: &str) -> Result<Result<Text, OperationRefusal>, AllocError>
         ensures { IfOk result (λ r. r ≡ within_bytes bytes.now) }
     {
         if bytes.len() <= SHORT_BYTES {
@@ -126,11 +126,15 @@ impl Text {
         Text::short("")
     }
 
-    /// Appends a piece, or returns `Refusal::Limit` if the text would be longer than 16,777,216 bytes; then the text is unchanged.
+    /// Appends a piece, or returns `OperationRefusal::Limit` if the text would be longer than 16,777,216 bytes; then the text is unchanged.
     ///
     /// If nobody else shares the text it grows in place, and the work is that of the piece.
     #[inline(always)]
-    pub fn push(&mut self, alloc: Global, piece: &str) -> Result<Result<(), Refusal>, AllocError>
+    pub fn push(
+        &mut self,
+        alloc: Global,
+        piece: &str,
+    ) -> Result<Result<(), OperationRefusal>, AllocError>
         ensures pushed { IfOk result (λ r. Appends self.old piece.now self.new r) }
         ensures same { IfOk result (λ r. OnErr r (self.new ≡ self.old)) }
     {
@@ -145,13 +149,17 @@ impl Text {
 
     // Appends a piece to a text that may have to be allocated.
     #[inline(never)]
-    fn push_far(&mut self, alloc: Global, piece: &str) -> Result<Result<(), Refusal>, AllocError>
+    fn push_far(
+        &mut self,
+        alloc: Global,
+        piece: &str,
+    ) -> Result<Result<(), OperationRefusal>, AllocError>
         ensures pushed { IfOk result (λ r. Appends self.old piece.now self.new r) }
         ensures same { IfOk result (λ r. OnErr r (self.new ≡ self.old)) }
     {
         let count = self.as_str().len() + piece.len();
         if count > TEXT_BYTES {
-            return Ok(Err(Refusal::Limit));
+            return Ok(Err(OperationRefusal::Limit));
         }
         if let Kept::Long(string) = &mut self.kept {
             if let Some(own) = Rc::get_mut(string) {
@@ -261,7 +269,7 @@ impl Hash for Text {
     }
 }
 
-/// A list of texts, whose bytes are shared.
+/// Holds a list of texts, whose bytes are shared.
 #[derive(Drop)]
 pub struct Texts {
     items: Vec<Text>,

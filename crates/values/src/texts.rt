@@ -17,23 +17,23 @@
 //!
 //! **Versions.** [`version_compare`] compares versions by runs of digits, as integers of any length, and runs of letters.
 
-mod cut;
 mod ends;
-mod joining;
+mod first_piece;
+mod join_texts;
 mod letters;
 mod number;
 mod part;
-mod placed;
+mod placeholders;
 mod search;
 mod split;
 mod versions;
 
 pub use ends::{strip, strip_of};
-pub use joining::{join, replace};
+pub use join_texts::{join, replace};
 pub use letters::{to_lower, to_upper, underscorify};
 pub use number::to_int;
 pub use part::substring;
-pub use placed::{Places, Segment, digit_count, number_of, segments};
+pub use placeholders::{Places, Segment, digit_count, place_number, segments};
 pub use search::{contains, ends_with, starts_with};
 pub use split::{split_at, split_blank, split_lines};
 pub use versions::version_compare;

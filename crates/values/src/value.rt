@@ -3,11 +3,11 @@
 ghost use Rattle.std.specs.Prelude.{◌≡◌, ◌<◌, ◌≤◌, ◌+◌, ◌*◌, ◌||◌, length, OnOk, OnErr, IfOk, IsTrue, ◌==◌};
 ghost use Rattle.std.specs.Prelude.{option_map, string_bytes, slice_get, Some, Ok, Err, MatchResult, if◌then◌else◌};
 ghost use Rattle.values.specs.Data.{no_items, item, items_append, count, no_entries, entry_count, entry_values, AreDistinct, keys_in, find};
-ghost use Rattle.values.specs.Data.{merged};
+ghost use Rattle.values.specs.Data.{merged_entries};
 ghost use Rattle.values.specs.Data.{boolean_in, integer_in, text_in, items_in, entries_in, object_in, is_disabler, has_disabler};
 ghost use Rattle.values.specs.Data.{have_disabler};
 ghost use Rattle.values.specs.Data.{text, list as list_data, dictionary as dictionary_data, object as object_data};
-ghost use Rattle.values.specs.declared.refusal.Refusal.TheVariants as refusal;
+ghost use Rattle.values.specs.declared.refusal.OperationRefusal.TheVariants as refusal;
 ghost use Rattle.values.specs.Tables.{Answers};
 ghost use Rattle.values.specs.Weight.{weight, depth, items_weight, items_depth, entries_weight, entries_depth};
 ghost use Rattle.values.specs.Limits.{is_within as is_within_limits, items_fit, within as within_limits};
@@ -16,9 +16,9 @@ ghost use Rattle.values.specs.View.{data_of, items_of};
 mod builder;
 mod content;
 
-use crate::keys::Keys;
+use crate::dictionary_keys::Keys;
 use crate::object::Object;
-use crate::refusal::Refusal;
+use crate::refusal::OperationRefusal;
 use crate::text::Text;
 pub use builder::DictionaryBuilder;
 pub use content::Content;
@@ -28,7 +28,7 @@ use std::mem;
 use std::rc::Rc;
 use support::limits::{ITEMS, LEVELS, WEIGHT};
 
-/// A value of the language: an elementary type of the manual, or an object.
+/// Holds a value of the language: an elementary type of the manual, or an object.
 #[cycle(value)]
 pub enum Value {
     Boolean(bool),
@@ -55,7 +55,7 @@ impl Drop for Value {
     }
 }
 
-/// A list of at most 65,536 items, 64 levels and weight 33,554,432.
+/// Holds a list of at most 65,536 items, 64 levels and weight 33,554,432.
 #[cycle(value)]
 pub struct List {
     items: Vec<Value>,
@@ -66,7 +66,7 @@ pub struct List {
     has_disabler: bool,
 }
 
-/// A dictionary, in order of insertion, of at most 65,536 entries, 64 levels and weight 33,554,432.
+/// Holds a dictionary, in order of insertion, of at most 65,536 entries, 64 levels and weight 33,554,432.
 #[cycle(value)]
 pub struct Dictionary {
     keys: Keys,
@@ -246,8 +246,11 @@ impl Value {
         }
     }
 
-    /// Returns the value of a string, or `Refusal::Limit` if it is longer than 16,777,216 bytes.
-    pub fn of_string(alloc: Global, string: String) -> Result<Result<Value, Refusal>, AllocError>
+    /// Returns the value of a string, or `OperationRefusal::Limit` if it is longer than 16,777,216 bytes.
+    pub fn of_string(
+        alloc: Global,
+        string: String,
+    ) -> Result<Result<Value, OperationRefusal>, AllocError>
         ensures { IfOk result (λ r. Answers (within_limits (text (string_bytes string))) r) }
     {
         match Text::new(alloc, string)? {
@@ -256,9 +259,9 @@ impl Value {
         }
     }
 
-    /// Returns the value of a copy of a string, or `Refusal::Limit` if it is longer than 16,777,216 bytes.
+    /// Returns the value of a copy of a string, or `OperationRefusal::Limit` if it is longer than 16,777,216 bytes.
     #[inline(always)]
-    pub fn of_str(alloc: Global, bytes: &str) -> Result<Result<Value, Refusal>, AllocError>
+    pub fn of_str(alloc: Global, bytes: &str) -> Result<Result<Value, OperationRefusal>, AllocError>
         ensures { IfOk result (λ r. Answers (within_limits (text bytes.now)) r) }
     {
         match Text::of_str(alloc, bytes)? {
@@ -335,17 +338,17 @@ impl List {
         }
     }
 
-    /// Returns the list of some items, or `Refusal::Limit` if it is too large.
-    pub fn from_items(items: Vec<Value>) -> Result<List, Refusal>
+    /// Returns the list of some items, or `OperationRefusal::Limit` if it is too large.
+    pub fn from_items(items: Vec<Value>) -> Result<List, OperationRefusal>
         ensures { result ≡ (if items_fit (items_of items.items) then Ok (items_of items.items) else Err refusal.Limit) }
     {
         if items.len() > ITEMS {
-            return Err(Refusal::Limit);
+            return Err(OperationRefusal::Limit);
         }
         let weight = weight_of(&items);
         let depth = deepest(&items);
         if !is_within(items.len(), (weight + 1) as u128, depth + 1) {
-            return Err(Refusal::Limit);
+            return Err(OperationRefusal::Limit);
         }
         let has_disabler = have_disabler(&items);
         Ok(List {
@@ -476,15 +479,15 @@ impl Dictionary {
         }
     }
 
-    /// Adds the entries of another dictionary, or returns `Refusal::Limit` if it becomes too large; then the entries are lost.
+    /// Adds the entries of another dictionary, or returns `OperationRefusal::Limit` if it becomes too large; then the entries are lost.
     pub fn merge(
         &mut self,
         alloc: Global,
         others: &Dictionary,
-    ) -> Result<Result<(), Refusal>, AllocError>
+    ) -> Result<Result<(), OperationRefusal>, AllocError>
         ensures { IfOk result (λ r. MatchResult r
-            (λ _. within_limits (dictionary_data (merged self.old others.now)) ≡ Ok (dictionary_data self.new))
-            (λ e. within_limits (dictionary_data (merged self.old others.now)) ≡ Err e)) }
+            (λ _. within_limits (dictionary_data (merged_entries self.old others.now)) ≡ Ok (dictionary_data self.new))
+            (λ e. within_limits (dictionary_data (merged_entries self.old others.now)) ≡ Err e)) }
     {
         let old = mem::replace(self, Dictionary::new(alloc));
         let mut builder = DictionaryBuilder::of_dictionary(old);

@@ -6,15 +6,15 @@ use Rattle.ports.specs.Outputs.{OutputState}
 use Rattle.ports.specs.Tree.{TreeState}
 use Rattle.build.specs.project.Adding.{output_answer}
 use Rattle.build.specs.project.Refused.{answer_data}
-use Rattle.build.specs.declared.project.refusal.Refused.{Refused}
+use Rattle.build.specs.declared.project.refusal.ProjectError.{ProjectError}
 use Rattle.world.specs.Answering.{Acts, Carries, HasRoom, State, IsAllowed, seen_at}
 use Rattle.world.specs.Deed.{Deed, Files, perform}
 use Rattle.world.specs.Gives.{Gives}
-use Rattle.world.specs.Making.{after_output, taken, taken_by}
+use Rattle.world.specs.Making.{after_output, reserved_output, taken_by}
 use Rattle.world.specs.Run.{Act, follow}
-use Rattle.world.specs.Store.{changing}
-use Rattle.world.specs.Trace.{seen}
-use Rattle.world.specs.World.{World, declaring}
+use Rattle.world.specs.Store.{world_after_change}
+use Rattle.world.specs.Trace.{seen_from_parts}
+use Rattle.world.specs.World.{World, facts_after_declaration}
 use Rattle.world.specs.declared.stop.Stop.{Stop}
 use Rattle.world.specs.declared.stop.Stop.TheVariants as stops
 use Rattle.world.proofs.Answering.{carries_give, carries_refuse, carries_same, fails_stop, fails_then, memory_quietly}
@@ -58,7 +58,7 @@ pub acts_wanted : {A B : Type 0} {view : B → A} {act : Files → Act A} {w w1 
     → IsErrAnd result (λ e. e ≡ stops.Memory) → IsFront names names1
     → Acts view act (record { world = w; names = names; tree = tree; out = out; lent = lent }) result (record { world = w1; names = names1; tree = tree; out = out; lent = lent })
 acts_wanted {view = view} {act = act} {w = w} {w1 = w1} {names = names} {names1 = names1} {tree = tree} {out = out} {result = result} is front = record {
-  gives = λ files n h. wanted_grown view (act files w) w1 (seen out n names) (seen out n names1) result is refl refl front;
+  gives = λ files n h. wanted_grown view (act files w) w1 (seen_from_parts out n names) (seen_from_parts out n names1) result is refl refl front;
   stays = stays_here tree;
   device = record { tree = omega arith; out = omega arith; sum = sym (memory_quietly result is (tree.failures + out.failures)) };
   same = refl;
@@ -77,22 +77,22 @@ room_after r p = record {
 
 -- ---- a path is taken
 
-acts_answered : (answer : Result (Unit {0}) Refused) {s : State} {result : Result (Unit {0}) Stop} → IsAllowed s.world answer result → Acts (λ (u : Unit {0}). u) (λ files. taken_by (answer_data answer)) s result s
+acts_answered : (answer : Result (Unit {0}) ProjectError) {s : State} {result : Result (Unit {0}) Stop} → IsAllowed s.world answer result → Acts (λ (u : Unit {0}). u) (λ files. taken_by (answer_data answer)) s result s
 acts_answered (Ok u) is = acts_of (carries_same is (carries_give {view = λ (v : Unit {0}). v} {a = u} refl))
 acts_answered (Err refused) is = acts_of (carries_refuse is)
 
 -- the project answered, and took the path where it did not refuse it
-pub acts_taken : (folder : Path) (name : Text) {w w1 : World} {names names1 : List (List ℕ)} {tree : TreeState} {out : OutputState} {lent : ℕ × ℕ × ℕ} (answer : Result (Unit {0}) Refused) {result : Result (Unit {0}) Stop}
-    → answer_data answer ≡ output_answer w.facts.project folder name → w1 ≡ changing (declaring (after_output folder name)) w → names1 ≡ names → IsAllowed w1 answer result
-    → Acts (λ (u : Unit {0}). u) (λ files. taken folder name) (record { world = w; names = names; tree = tree; out = out; lent = lent }) result (record { world = w1; names = names1; tree = tree; out = out; lent = lent })
+pub acts_taken : (folder : Path) (name : Text) {w w1 : World} {names names1 : List (List ℕ)} {tree : TreeState} {out : OutputState} {lent : ℕ × ℕ × ℕ} (answer : Result (Unit {0}) ProjectError) {result : Result (Unit {0}) Stop}
+    → answer_data answer ≡ output_answer w.facts.project folder name → w1 ≡ world_after_change (facts_after_declaration (after_output folder name)) w → names1 ≡ names → IsAllowed w1 answer result
+    → Acts (λ (u : Unit {0}). u) (λ files. reserved_output folder name) (record { world = w; names = names; tree = tree; out = out; lent = lent }) result (record { world = w1; names = names1; tree = tree; out = out; lent = lent })
 acts_taken folder name {w = w} {w1 = w1} {names = names} {names1 = names1} {tree = tree} {out = out} {lent = lent} answer {result = result} is changed named allows =
     let s : State = record { world = w1; names = names; tree = tree; out = out; lent = lent } in
     let p : Acts (λ (u : Unit {0}). u) (λ files. taken_by (answer_data answer)) s result s = acts_answered answer allows in
     record {
       gives = λ files n h.
-          subst (λ a. Gives (λ (u : Unit {0}). u) (taken_by a (changing (declaring (after_output folder name)) w)) result w1 (seen out n names) (seen out n names1)) is
-          (subst (λ v. Gives (λ (u : Unit {0}). u) (taken_by (answer_data answer) v) result w1 (seen out n names) (seen out n names1)) changed
-          (subst (λ ns. Gives (λ (u : Unit {0}). u) (taken_by (answer_data answer) w1) result w1 (seen out n names) (seen out n ns)) (sym named) (p.gives files n h)));
+          subst (λ a. Gives (λ (u : Unit {0}). u) (taken_by a (world_after_change (facts_after_declaration (after_output folder name)) w)) result w1 (seen_from_parts out n names) (seen_from_parts out n names1)) is
+          (subst (λ v. Gives (λ (u : Unit {0}). u) (taken_by (answer_data answer) v) result w1 (seen_from_parts out n names) (seen_from_parts out n names1)) changed
+          (subst (λ ns. Gives (λ (u : Unit {0}). u) (taken_by (answer_data answer) w1) result w1 (seen_from_parts out n names) (seen_from_parts out n ns)) (sym named) (p.gives files n h)));
       stays = stays_here tree;
       device = record { tree = p.device.tree; out = p.device.out; sum = p.device.sum };
       same = refl;

@@ -7,17 +7,17 @@ use Rattle.ports.specs.Tree.{TreeState, Stays, file_at}
 use Rattle.values.specs.Data.{Data}
 use Rattle.values.specs.Tables.{Answers}
 use Rattle.values.specs.View.{data_of}
-use Rattle.values.specs.declared.refusal.Refusal.{Refusal as OperationRefusal}
+use Rattle.values.specs.declared.refusal.OperationRefusal.{OperationRefusal as OperationRefusal}
 use Rattle.values.specs.declared.value.Value.{Value}
 use Rattle.build.specs.Data.{FactsData}
 use Rattle.support.specs.Faults.{FaultData}
-use Rattle.world.specs.Trace.{Seen, seen}
-use Rattle.machine.specs.machine_file.Questions.{Answer, Question, answer_to}
-use Rattle.world.specs.World.{World, Facts, LeavesPaths, asking, begun as begun_facts, looking, fault_here}
-use Rattle.world.specs.Store.{changing}
+use Rattle.world.specs.Trace.{Seen, seen_from_parts}
+use Rattle.machine_file.specs.Questions.{Answer, Question, answer_to}
+use Rattle.world.specs.World.{World, Facts, LeavesPaths, world_after_question, facts_after_project as begun_facts, world_after_look, fault_here}
+use Rattle.world.specs.Store.{world_after_change}
 use Rattle.world.specs.Run.{ran, Done}
 use Rattle.world.specs.Gives.{Gives, Ends, failures_after}
-use Rattle.world.specs.Deed.{Files, Deed, give, refuse, tell, say, begin_project, consult, read, change, then, perform, answered, fitting}
+use Rattle.world.specs.Deed.{Files, Deed, give, refuse, tell, say, begin_project, consult, read, change, then, perform, answer_or_refusal, fitting_value}
 use Rattle.world.specs.Deed.{need, there}
 use Rattle.world.specs.Answering.{State, seen_at, HasRoom, Fails, Carries, Refuses, IsAnswered, IsAnsweredBy, IsFitting, Views}
 use Rattle.world.specs.Ruled.{answered_by}
@@ -93,7 +93,7 @@ pub carries_lost : {A B : Type 0} {view : B → A} {d : Deed A} {w w1 : World} {
     → IsErrAnd result (λ e. e ≡ stops.Memory) → IsFront names names1 → Stays tree tree1 → tree1.failures ≡ tree.failures
     → Carries view d (record { world = w; names = names; tree = tree; out = out; lent = lent }) result (record { world = w1; names = names1; tree = tree1; out = out; lent = lent })
 carries_lost {view = view} {d = d} {w = w} {w1 = w1} {names = names} {names1 = names1} {tree = tree} {tree1 = tree1} {out = out} {result = result} is front stays none = record {
-  gives = λ files n h. wanted_grown view (perform files d w) w1 (seen out n names) (seen out n names1) result is refl refl front;
+  gives = λ files n h. wanted_grown view (perform files d w) w1 (seen_from_parts out n names) (seen_from_parts out n names1) result is refl refl front;
   stays = stays;
   device = record { tree = omega (arith, none); out = omega arith; sum = let m : ℕ = tree.failures + out.failures in let e : tree1.failures + out.failures ≡ m = omega (arith, none) in e ∙ sym (memory_quietly result is m) };
   same = refl;
@@ -143,46 +143,46 @@ carries_as {view = view} {s = s} {s1 = s1} {result = result} is p = subst (λ x.
 
 -- a deed that changes the facts, and does nothing else
 carries_moved : {B : Type 0} {view : B → Unit {0}} {d : Deed (Unit {0})} (f : Facts → Facts) {w w1 : World} {names names1 : List (List ℕ)} {tree : TreeState} {out : OutputState} {lent : ℕ × ℕ × ℕ} {x : B}
-    → ((files : Files) → perform files d w ≡ ran (Done tt) (changing f w) []) → w1 ≡ changing f w → names1 ≡ names
+    → ((files : Files) → perform files d w ≡ ran (Done tt) (world_after_change f w) []) → w1 ≡ world_after_change f w → names1 ≡ names
     → Carries view d (record { world = w; names = names; tree = tree; out = out; lent = lent }) (Ok x) (record { world = w1; names = names1; tree = tree; out = out; lent = lent })
 carries_moved {view = view} {d = d} f {w = w} {names = names} {names1 = names1} {tree = tree} {out = out} {x = x} runs is same = record {
-  gives = λ files n h. subst (λ v. Gives view (perform files d w) (Ok x) v (seen out n names) (seen out n names1)) (sym is)
-      (subst (λ ns. Gives view (perform files d w) (Ok x) (changing f w) (seen out n names) (seen out n ns)) (sym same)
-      (subst (λ r. Gives view r (Ok x) (changing f w) (seen out n names) (seen out n names)) (sym (runs files)) (record { is = refl; written = none_added (seen out n names) })));
+  gives = λ files n h. subst (λ v. Gives view (perform files d w) (Ok x) v (seen_from_parts out n names) (seen_from_parts out n names1)) (sym is)
+      (subst (λ ns. Gives view (perform files d w) (Ok x) (world_after_change f w) (seen_from_parts out n names) (seen_from_parts out n ns)) (sym same)
+      (subst (λ r. Gives view r (Ok x) (world_after_change f w) (seen_from_parts out n names) (seen_from_parts out n names)) (sym (runs files)) (record { is = refl; written = none_added (seen_from_parts out n names) })));
   stays = stays_here tree;
   device = record { tree = omega arith; out = omega arith; sum = refl };
   same = refl;
 }
 
 -- the facts change
-pub carries_change : {B : Type 0} {view : B → Unit {0}} {f : Facts → Facts} {leaves : LeavesPaths f} {w w1 : World} {names names1 : List (List ℕ)} {tree : TreeState} {out : OutputState} {lent : ℕ × ℕ × ℕ} {x : B} → w1 ≡ changing f w → names1 ≡ names
+pub carries_change : {B : Type 0} {view : B → Unit {0}} {f : Facts → Facts} {leaves : LeavesPaths f} {w w1 : World} {names names1 : List (List ℕ)} {tree : TreeState} {out : OutputState} {lent : ℕ × ℕ × ℕ} {x : B} → w1 ≡ world_after_change f w → names1 ≡ names
     → Carries view (change f leaves) (record { world = w; names = names; tree = tree; out = out; lent = lent }) (Ok x) (record { world = w1; names = names1; tree = tree; out = out; lent = lent })
 carries_change {f = f} {leaves = leaves} is same = carries_moved {d = change f leaves} f (λ files. refl) is same
 
 -- the project begins
-pub carries_begun : {B : Type 0} {view : B → Unit {0}} {facts : FactsData} {w w1 : World} {names names1 : List (List ℕ)} {tree : TreeState} {out : OutputState} {lent : ℕ × ℕ × ℕ} {x : B} → w1 ≡ changing (begun_facts facts) w → names1 ≡ names
+pub carries_begun : {B : Type 0} {view : B → Unit {0}} {facts : FactsData} {w w1 : World} {names names1 : List (List ℕ)} {tree : TreeState} {out : OutputState} {lent : ℕ × ℕ × ℕ} {x : B} → w1 ≡ world_after_change (begun_facts facts) w → names1 ≡ names
     → Carries view (begin_project facts) (record { world = w; names = names; tree = tree; out = out; lent = lent }) (Ok x) (record { world = w1; names = names1; tree = tree; out = out; lent = lent })
 carries_begun {facts = facts} is same = carries_moved {d = begin_project facts} (begun_facts facts) (λ files. refl) is same
 
 -- the same, where names may be new
-pub carries_grown : {B : Type 0} {view : B → Unit {0}} {f : Facts → Facts} {leaves : LeavesPaths f} {w w1 : World} {names names1 : List (List ℕ)} {tree : TreeState} {out : OutputState} {lent : ℕ × ℕ × ℕ} {x : B} → w1 ≡ changing f w
+pub carries_grown : {B : Type 0} {view : B → Unit {0}} {f : Facts → Facts} {leaves : LeavesPaths f} {w w1 : World} {names names1 : List (List ℕ)} {tree : TreeState} {out : OutputState} {lent : ℕ × ℕ × ℕ} {x : B} → w1 ≡ world_after_change f w
     → IsFront names names1 → Carries view (change f leaves) (record { world = w; names = names; tree = tree; out = out; lent = lent }) (Ok x) (record { world = w1; names = names1; tree = tree; out = out; lent = lent })
 carries_grown {view = view} {f = f} {leaves = leaves} {w = w} {w1 = w1} {names = names} {names1 = names1} {tree = tree} {out = out} {x = x} is front = record {
-  gives = λ files n h. subst (λ v. Gives view (perform files (change f leaves) w) (Ok x) v (seen out n names) (seen out n names1)) (sym is)
-      (record { is = refl; written = grown_added (seen out n names) (seen out n names1) refl refl front });
+  gives = λ files n h. subst (λ v. Gives view (perform files (change f leaves) w) (Ok x) v (seen_from_parts out n names) (seen_from_parts out n names1)) (sym is)
+      (record { is = refl; written = grown_added (seen_from_parts out n names) (seen_from_parts out n names1) refl refl front });
   stays = stays_here tree;
   device = record { tree = omega arith; out = omega arith; sum = refl };
   same = refl;
 }
 
 -- a question was asked
-pub carries_asked : {B : Type 0} (question : Question) {w w1 : World} {names names1 : List (List ℕ)} {tree : TreeState} {out : OutputState} {lent : ℕ × ℕ × ℕ} {x : B} → w1 ≡ asking w question → names1 ≡ names
+pub carries_asked : {B : Type 0} (question : Question) {w w1 : World} {names names1 : List (List ℕ)} {tree : TreeState} {out : OutputState} {lent : ℕ × ℕ × ℕ} {x : B} → w1 ≡ world_after_question w question → names1 ≡ names
     → Carries (λ (u : B). answer_to w.machine question.topic) (consult question) (record { world = w; names = names; tree = tree; out = out; lent = lent }) (Ok x)
     (record { world = w1; names = names1; tree = tree; out = out; lent = lent })
 carries_asked {B = B} question {w = w} {w1 = w1} {names = names} {names1 = names1} {tree = tree} {out = out} {x = x} is same = record {
   gives = λ files n h. let view : B → Answer = λ u. answer_to w.machine question.topic in
-      subst (λ v. Gives view (perform files (consult question) w) (Ok x) v (seen out n names) (seen out n names1)) (sym is)
-      (subst (λ ns. Gives view (perform files (consult question) w) (Ok x) (asking w question) (seen out n names) (seen out n ns)) (sym same) (record { is = refl; written = none_added (seen out n names) }));
+      subst (λ v. Gives view (perform files (consult question) w) (Ok x) v (seen_from_parts out n names) (seen_from_parts out n names1)) (sym is)
+      (subst (λ ns. Gives view (perform files (consult question) w) (Ok x) (world_after_question w question) (seen_from_parts out n names) (seen_from_parts out n ns)) (sym same) (record { is = refl; written = none_added (seen_from_parts out n names) }));
   stays = stays_here tree;
   device = record { tree = omega arith; out = omega arith; sum = refl };
   same = refl;
@@ -206,8 +206,8 @@ pub carries_fail : {A B : Type 0} {view : B → A} {d : Deed A} {w w1 : World} {
     → Stays tree tree1 → tree1.failures ≡ tree.failures + 1 → names1 ≡ names → IsErrAnd result (λ e. e ≡ stops.Device)
     → Carries view d (record { world = w; names = names; tree = tree; out = out; lent = lent }) result (record { world = w1; names = names1; tree = tree1; out = out; lent = lent })
 carries_fail {B = B} {view = view} {d = d} {w = w} {w1 = w1} {names = names} {names1 = names1} {tree = tree} {tree1 = tree1} {out = out} {result = result} stays once named is = record {
-  gives = λ files n h. subst (λ ns. Gives view (perform files d w) result w1 (seen out n names) (seen out n ns)) (sym named)
-      (failed_later view w1 (seen out n names) result (begun (perform files d w) (seen out n names)) is);
+  gives = λ files n h. subst (λ ns. Gives view (perform files d w) result w1 (seen_from_parts out n names) (seen_from_parts out n ns)) (sym named)
+      (failed_later view w1 (seen_from_parts out n names) result (begun (perform files d w) (seen_from_parts out n names)) is);
   stays = stays;
   device = record { tree = omega (arith, once); out = omega arith; sum = let m : ℕ = tree.failures + out.failures in let e : tree1.failures + out.failures ≡ m + 1 = omega (arith, once) in e ∙ sym (failures_after-as B m result stops.Device is) };
   same = refl;
@@ -219,7 +219,7 @@ pub carries_said : {B : Type 0} {view : B → Unit {0}} {bytes sent_bytes : List
     → Carries view (say bytes) (record { world = w; names = names; tree = tree; out = out; lent = lent }) (Ok x) (record { world = w; names = names; tree = tree; out = out1; lent = lent })
 unfolding say
 carries_said {bytes = bytes} {w = w} {names = names} {tree = tree} {out = out} {out1 = out1} same sent none = record {
-  gives = λ files n h. ends_told (seen out n names) (seen out1 n names) (logs bytes) w (subst (λ bs. Sends out out1 (logs bs) true) same sent) refl refl;
+  gives = λ files n h. ends_told (seen_from_parts out n names) (seen_from_parts out1 n names) (logs bytes) w (subst (λ bs. Sends out out1 (logs bs) true) same sent) refl refl;
   stays = stays_here tree;
   device = record { tree = omega arith; out = omega (arith, none); sum = omega (arith, none) };
   same = refl;
@@ -231,7 +231,7 @@ pub carries_unsaid : {B : Type 0} {view : B → Unit {0}} {bytes sent_bytes : Li
     → Carries view (say bytes) (record { world = w; names = names; tree = tree; out = out; lent = lent }) result (record { world = w; names = names; tree = tree; out = out1; lent = lent })
 unfolding say
 carries_unsaid {B = B} {view = view} {bytes = bytes} {w = w} {names = names} {tree = tree} {out = out} {out1 = out1} {result = result} same sent once is = record {
-  gives = λ files n h. device_stops view (perform files (tell (logs bytes)) w) w (seen out n names) (seen out1 n names) result is (begins_logs (seen out n names) (seen out1 n names) bytes w (subst (λ bs. Sends out out1 (logs bs) false) same sent) refl refl);
+  gives = λ files n h. device_stops view (perform files (tell (logs bytes)) w) w (seen_from_parts out n names) (seen_from_parts out1 n names) result is (begins_logs (seen_from_parts out n names) (seen_from_parts out1 n names) bytes w (subst (λ bs. Sends out out1 (logs bs) false) same sent) refl refl);
   stays = stays_here tree;
   device = record { tree = omega arith; out = omega (arith, once); sum = let m : ℕ = tree.failures + out.failures in let e : tree.failures + out1.failures ≡ m + 1 = omega (arith, once) in e ∙ sym (failures_after-as B m result stops.Device is) };
   same = refl;
@@ -243,17 +243,17 @@ is_some-option_map f (Some x) = refl
 
 -- the tree said how large a file is
 pub carries_found : (path : List ℕ) {w w1 : World} {names names1 : List (List ℕ)} {tree tree1 : TreeState} {out : OutputState} {lent : ℕ × ℕ × ℕ} {size : Option ℕ} {found : Bool}
-    → w1 ≡ looking w path found → names1 ≡ names → (IsTrue tree.steady → size ≡ option_map length (file_at tree.files path)) → found ≡ is_some size → Stays tree tree1 → tree1.failures ≡ tree.failures
+    → w1 ≡ world_after_look w path found → names1 ≡ names → (IsTrue tree.steady → size ≡ option_map length (file_at tree.files path)) → found ≡ is_some size → Stays tree tree1 → tree1.failures ≡ tree.failures
     → Carries (λ b. b) (there path) (record { world = w; names = names; tree = tree; out = out; lent = lent }) (Ok found) (record { world = w1; names = names1; tree = tree1; out = out; lent = lent })
 unfolding there
 carries_found path {w = w} {w1 = w1} {names = names} {names1 = names1} {tree = tree} {tree1 = tree1} {out = out} {size = size} {found = found} looked named is same stays none = record {
   gives = λ files n h.
       let e : found ≡ is_some (file_at files path) =
       same ∙ ap is_some (is h.steady) ∙ is_some-option_map length (file_at tree.files path) ∙ ap (λ fs. is_some (file_at fs path)) h.files in
-      subst (λ v. Gives (λ (b : Bool). b) (perform files (there path) w) (Ok found) v (seen out n names) (seen out n names1)) (sym looked)
-      (subst (λ ns. Gives (λ (b : Bool). b) (perform files (there path) w) (Ok found) (looking w path found) (seen out n names) (seen out n ns)) (sym named)
-      (subst (λ b. Ends (ran (Done (is_some (file_at files path))) (looking w path (is_some (file_at files path))) []) (Done b) (looking w path b) (seen out n names) (seen out n names)) (sym e)
-      (record { is = refl; written = none_added (seen out n names) })));
+      subst (λ v. Gives (λ (b : Bool). b) (perform files (there path) w) (Ok found) v (seen_from_parts out n names) (seen_from_parts out n names1)) (sym looked)
+      (subst (λ ns. Gives (λ (b : Bool). b) (perform files (there path) w) (Ok found) (world_after_look w path found) (seen_from_parts out n names) (seen_from_parts out n ns)) (sym named)
+      (subst (λ b. Ends (ran (Done (is_some (file_at files path))) (world_after_look w path (is_some (file_at files path))) []) (Done b) (world_after_look w path b) (seen_from_parts out n names) (seen_from_parts out n names)) (sym e)
+      (record { is = refl; written = none_added (seen_from_parts out n names) })));
   stays = stays;
   device = record { tree = omega (arith, none); out = omega arith; sum = omega (arith, none) };
   same = refl;
@@ -262,14 +262,14 @@ carries_found path {w = w} {w1 = w1} {names = names} {names1 = names1} {tree = t
 -- ---- answers of operations, and the facts
 
 pub carries_answered : {A B : Type 0} {view : B → A} (given : Result A OperationRefusal) (answer : Result B OperationRefusal) {s : State} {result : Result B Stop}
-    → Views view given answer → IsAnswered s.world answer result → Carries view (answered given) s result s
-unfolding answered
-carries_answered {view = view} given (Ok x) {s = s} v is = carries_same is (subst (λ g. Carries view (answered g) s (Ok x) s) (sym v) (carries_give refl))
-carries_answered {view = view} given (Err e) {s = s} {result = result} v is = subst (λ g. Carries view (answered g) s result s) (sym v) (carries_refuse is)
+    → Views view given answer → IsAnswered s.world answer result → Carries view (answer_or_refusal given) s result s
+unfolding answer_or_refusal
+carries_answered {view = view} given (Ok x) {s = s} v is = carries_same is (subst (λ g. Carries view (answer_or_refusal g) s (Ok x) s) (sym v) (carries_give refl))
+carries_answered {view = view} given (Err e) {s = s} {result = result} v is = subst (λ g. Carries view (answer_or_refusal g) s result s) (sym v) (carries_refuse is)
 
 -- a value
 pub carries_value : (given : Result Data OperationRefusal) (answer : Result Value OperationRefusal) {s : State} {result : Result Value Stop}
-    → Answers given answer → IsAnswered s.world answer result → Carries data_of (answered given) s result s
+    → Answers given answer → IsAnswered s.world answer result → Carries data_of (answer_or_refusal given) s result s
 carries_value given (Ok x) v is = carries_answered given (Ok x) v is
 carries_value given (Err e) v is = carries_answered given (Err e) v is
 
@@ -282,10 +282,10 @@ carries_value_by rule text given (Err e) {s = s} {result = result} v is = subst 
 
 -- what a test of arguments answers
 pub carries_fitting : {A B : Type 0} {view : B → A} (given : Result A Refusal) (answer : Result B Refusal) {s : State} {result : Result B Stop}
-    → Views view given answer → IsFitting s.world answer result → Carries view (fitting given) s result s
-unfolding fitting
-carries_fitting {view = view} given (Ok x) {s = s} v is = carries_same is (subst (λ g. Carries view (fitting g) s (Ok x) s) (sym v) (carries_give refl))
-carries_fitting {view = view} given (Err e) {s = s} {result = result} v is = subst (λ g. Carries view (fitting g) s result s) (sym v) (carries_refuse is)
+    → Views view given answer → IsFitting s.world answer result → Carries view (fitting_value given) s result s
+unfolding fitting_value
+carries_fitting {view = view} given (Ok x) {s = s} v is = carries_same is (subst (λ g. Carries view (fitting_value g) s (Ok x) s) (sym v) (carries_give refl))
+carries_fitting {view = view} given (Err e) {s = s} {result = result} v is = subst (λ g. Carries view (fitting_value g) s result s) (sym v) (carries_refuse is)
 
 -- the facts are read
 pub carries_read : {B D : Type 0} {view' : D → B} {next : Facts → Deed B} {s0 s1 : State} {result : Result D Stop} → Carries view' (next s0.world.facts) s0 result s1 → Carries view' (then read next) s0 result s1

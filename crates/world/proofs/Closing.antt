@@ -7,7 +7,7 @@ use Rattle.std.proofs.lemmas.Slice.Eq.{bytes_eq-Decides}
 use Rattle.support.specs.Faults.{FaultData}
 use Rattle.build.specs.edge.Texts.{Path, holds}
 use Rattle.support.specs.paths.Paths.{path_in}
-use Rattle.ports.specs.Outputs.{Step, Opens, Puts, Closes, Logs, Faults, closing, name_after, name_or_empty, opening, told}
+use Rattle.ports.specs.Outputs.{Step, Opens, Puts, Closes, Logs, Faults, closing_steps, name_after, name_or_empty, opening_steps, events_of_steps}
 use Rattle.build.specs.project.Adding.{after_answer, output_answer, with_output}
 use Rattle.build.specs.project.Laws.{all_held}
 use Rattle.build.specs.project.World.{WorldData}
@@ -15,12 +15,12 @@ use Rattle.build.specs.project.Refused.{RefusedData}
 use Rattle.build.proofs.EdgeOrder.{holds_append, holds_left, holds_right, or_cases, or_left, or_right}
 use Rattle.world.specs.Deed.{Files, Deed, give, refuse, tell, ask, consult, read, change, begin_project, make, then as follows, perform}
 use Rattle.world.specs.Made.{ClosesOutputs, closed_by}
-use Rattle.world.specs.Making.{given_up, taken_by, telling, written}
+use Rattle.world.specs.Making.{given_up, taken_by, sent_steps, written_output}
 use Rattle.world.specs.Noted.{is_file}
 use Rattle.world.specs.Plan.{Plan, deed, ruled, enter, entered, next as next_plan, carry}
 use Rattle.world.specs.Run.{Run, ran, Act, Done, Faulted, after, follow, pure, with_end}
 use Rattle.world.specs.Trace.{Mark, Ended, Told, steps_of}
-use Rattle.world.specs.World.{World, noted, with_facts, with_project}
+use Rattle.world.specs.World.{World, project_with_path, with_facts, with_project}
 use Rattle.world.proofs.Marks.{steps_of-append}
 use Rattle.world.proofs.Tells.{steps_of-told}
 use Rattle.world.proofs.Values.{two}
@@ -49,7 +49,7 @@ among_all known (q ∷ ps) h =
 -- ---- what steps close
 
 closed_by-append : (name : Option Path) (a b : List Step) → closed_by name (a ++ b) ≡ closed_by name a ++ closed_by (name_after name a) b
-unfolding told name_after
+unfolding events_of_steps name_after
 closed_by-append name [] b = refl
 closed_by-append name (Opens next ∷ a) b = closed_by-append (Some next) a b
 closed_by-append name (Puts byte ∷ a) b = closed_by-append name a b
@@ -57,24 +57,24 @@ closed_by-append name (Closes ∷ a) b = ap (λ ps. name_or_empty name ∷ ps) (
 closed_by-append name (Logs byte ∷ a) b = closed_by-append name a b
 closed_by-append name (Faults byte ∷ a) b = closed_by-append name a b
 
-opened : (name : Option Path) (path : Path) → name_after name (opening path) ≡ Some path
-unfolding name_after opening
+opened : (name : Option Path) (path : Path) → name_after name (opening_steps path) ≡ Some path
+unfolding name_after opening_steps
 opened name path = refl
 
-closed : (path : Path) → closed_by (Some path) closing ≡ path ∷ []
-unfolding told closing
+closed : (path : Path) → closed_by (Some path) closing_steps ≡ path ∷ []
+unfolding events_of_steps closing_steps
 closed path = refl
 
 -- an output that is opened, filled and closed
-closes_made : (name : Option Path) (path : Path) (steps : List Step) → ((before : Option Path) → name_after before steps ≡ before) → holds path (closed_by name (opening path ++ (steps ++ closing))) ≡ true
+closes_made : (name : Option Path) (path : Path) (steps : List Step) → ((before : Option Path) → name_after before steps ≡ before) → holds path (closed_by name (opening_steps path ++ (steps ++ closing_steps))) ≡ true
 closes_made name path steps stays =
-    let open_name : name_after name (opening path) ≡ Some path = opened name path in
-    let last : closed_by (name_after (name_after name (opening path)) steps) closing ≡ path ∷ [] = ap (λ n. closed_by n closing) (stays (name_after name (opening path)) ∙ open_name) ∙ closed path in
+    let open_name : name_after name (opening_steps path) ≡ Some path = opened name path in
+    let last : closed_by (name_after (name_after name (opening_steps path)) steps) closing_steps ≡ path ∷ [] = ap (λ n. closed_by n closing_steps) (stays (name_after name (opening_steps path)) ∙ open_name) ∙ closed path in
     let self : holds path (path ∷ []) ≡ true = or_left (bytes_eq path path) false ((bytes_eq-Decides path path).1 refl) in
-    ap (holds path) (closed_by-append name (opening path) (steps ++ closing))
-    ∙ holds_right path (closed_by name (opening path)) (closed_by (name_after name (opening path)) (steps ++ closing))
-    (ap (holds path) (closed_by-append (name_after name (opening path)) steps closing)
-    ∙ holds_right path (closed_by (name_after name (opening path)) steps) (closed_by (name_after (name_after name (opening path)) steps) closing) (ap (holds path) last ∙ self))
+    ap (holds path) (closed_by-append name (opening_steps path) (steps ++ closing_steps))
+    ∙ holds_right path (closed_by name (opening_steps path)) (closed_by (name_after name (opening_steps path)) (steps ++ closing_steps))
+    (ap (holds path) (closed_by-append (name_after name (opening_steps path)) steps closing_steps)
+    ∙ holds_right path (closed_by (name_after name (opening_steps path)) steps) (closed_by (name_after (name_after name (opening_steps path)) steps) closing_steps) (ap (holds path) last ∙ self))
 
 -- ---- runs
 
@@ -127,15 +127,15 @@ made_steps a b c =
 
 -- it is opened, filled with these steps and closed
 abbrev making : {A : Type 0} → A → Path → List Step → Option FaultData → Act A
-making a path steps fault w = follow (follow (telling (opening path) w) (λ _ v. follow (follow (telling steps v) (λ _. given_up fault)) (λ _. telling closing))) (λ _. pure a)
+making a path steps fault w = follow (follow (sent_steps (opening_steps path) w) (λ _ v. follow (follow (sent_steps steps v) (λ _. given_up fault)) (λ _. sent_steps closing_steps))) (λ _. pure a)
 
 making-closes : {A : Type 0} (a : A) (path : Path) (steps : List Step) (fault : Option FaultData) (w : World) → ((before : Option Path) → name_after before steps ≡ before) → ClosesPath path (making a path steps fault w)
-making-closes a path steps None w stays = λ name. ap (λ l. holds path (closed_by name l)) (made_steps (opening path) steps closing) ∙ closes_made name path steps stays
+making-closes a path steps None w stays = λ name. ap (λ l. holds path (closed_by name l)) (made_steps (opening_steps path) steps closing_steps) ∙ closes_made name path steps stays
 making-closes a path steps (Some fault) w stays = tt
 
 making-keeps : {A : Type 0} (a : A) (path : Path) (steps : List Step) (fault : Option FaultData) (w : World) → Keeps (outputs w) (making a path steps fault w)
 making-keeps a path steps None w =
-    same_keeps (outputs w) ((map Told (opening path) ++ ((map Told steps ++ []) ++ map Told closing)) ++ []) w refl
+    same_keeps (outputs w) ((map Told (opening_steps path) ++ ((map Told steps ++ []) ++ map Told closing_steps)) ++ []) w refl
 making-keeps a path steps (Some fault) w = tt
 
 -- a path is taken, and closed by what is done then
@@ -156,7 +156,7 @@ answered-keeps (Err refusal) path w next keeps closes = tt
 
 -- ---- deeds and plans
 
-noted-outputs : (b : Bool) (path : Path) (p : WorldData) → (noted path b p).outputs ≡ p.outputs
+noted-outputs : (b : Bool) (path : Path) (p : WorldData) → (project_with_path path b p).outputs ≡ p.outputs
 noted-outputs true path p = refl
 noted-outputs false path p = refl
 
@@ -175,10 +175,10 @@ deed-keeps files (change f leaves) w =
 deed-keeps files (begin_project facts) w = λ name. none_held (outputs w ++ closed_by name [])
 deed-keeps files (make folder name ready filling) w =
     let path = path_in folder name in
-    let rest = λ (v : World). follow (perform files ready v) (λ a u. follow (written path filling u) (λ _. pure a)) in
+    let rest = λ (v : World). follow (perform files ready v) (λ a u. follow (written_output path filling u) (λ _. pure a)) in
     answered-keeps (output_answer w.facts.project folder name) path w rest
-    (λ v. follow-keeps (outputs v) (perform files ready v) (λ a u. follow (written path filling u) (λ _. pure a)) (deed-keeps files ready v) (λ a u. making-keeps a path filling.steps filling.fault u))
-    (λ v. follow-closes path (perform files ready v) (λ a u. follow (written path filling u) (λ _. pure a)) (λ a u. making-closes a path filling.steps filling.fault u filling.stays))
+    (λ v. follow-keeps (outputs v) (perform files ready v) (λ a u. follow (written_output path filling u) (λ _. pure a)) (deed-keeps files ready v) (λ a u. making-keeps a path filling.steps filling.fault u))
+    (λ v. follow-closes path (perform files ready v) (λ a u. follow (written_output path filling u) (λ _. pure a)) (λ a u. making-closes a path filling.steps filling.fault u filling.stays))
 deed-keeps files (follows first next) w =
     follow-keeps (outputs w) (perform files first w) (λ a. perform files (next a)) (deed-keeps files first w) (λ a v. deed-keeps files (next a) v)
 

@@ -11,7 +11,7 @@ use Rattle.template.specs.declared.config.SetStop.{SetStop}
 use Rattle.template.specs.declared.config.SetStop.TheVariants as set_stops
 use Rattle.world.specs.Answering.{State, Carries, IsConfigured, Refuses}
 use Rattle.world.specs.Configuring.{configuration_at, configure, is_frozen_at, no_values, with_configured}
-use Rattle.world.specs.Store.{changing}
+use Rattle.world.specs.Store.{world_after_change}
 use Rattle.world.specs.World.{World, fault_here}
 use Rattle.world.specs.declared.stop.Stop.{Stop}
 use Rattle.world.specs.declared.stop.Stop.TheVariants as stops
@@ -41,13 +41,13 @@ refused number f (Err e) test is = carries_read (carries_stop {view = λ (u : Un
 
 -- a change that is made
 changed_so : (number : ℕ) (f : Configuration → Configuration) {w w1 : World} {names names1 : List (List ℕ)} {tree : TreeState} {out : OutputState} {lent : ℕ × ℕ × ℕ}
-    → not (is_frozen_at number w.facts.configurations) ≡ true → w1 ≡ changing (with_configured f number) w → names1 ≡ names
+    → not (is_frozen_at number w.facts.configurations) ≡ true → w1 ≡ world_after_change (with_configured f number) w → names1 ≡ names
     → Carries (λ u. u) (configure number f) (record { world = w; names = names; tree = tree; out = out; lent = lent }) (Ok tt) (record { world = w1; names = names1; tree = tree; out = out; lent = lent })
 unfolding configure
 changed_so number f test changed named = carries_read (carries_then {view = λ (u : Unit {0}). u} {x = tt} (need_yes _ refusals.Frozen [] test) (carries_change changed named))
 
 pub carries_configured : (number : ℕ) (f : Configuration → Configuration) {w w1 : World} {names names1 : List (List ℕ)} {tree : TreeState} {out : OutputState} {lent : ℕ × ℕ × ℕ} (given : Result (Unit {0}) SetStop)
-    {result : Result (Unit {0}) Stop} → OnOk given (w1 ≡ changing (with_configured f number) w) → (IsErrOf given set_stops.Frozen ↔ IsTrue (is_frozen_at number w.facts.configurations)) → OnErr given (w1 ≡ w) → names1 ≡ names
+    {result : Result (Unit {0}) Stop} → OnOk given (w1 ≡ world_after_change (with_configured f number) w) → (IsErrOf given set_stops.Frozen ↔ IsTrue (is_frozen_at number w.facts.configurations)) → OnErr given (w1 ≡ w) → names1 ≡ names
     → IsConfigured w1 given result
     → Carries (λ u. u) (configure number f) (record { world = w; names = names; tree = tree; out = out; lent = lent }) result (record { world = w1; names = names1; tree = tree; out = out; lent = lent })
 carries_configured number f {w = w} {w1 = w1} {names = names} {names1 = names1} {tree = tree} {out = out} {lent = lent} (Ok u) {result = result} changed frozen same named is =

@@ -6,32 +6,32 @@ use Rattle.std.proofs.lemmas.List.Folds.{list_any-append}
 use Rattle.std.proofs.lemmas.Slice.Eq.{bytes_eq-Decides}
 use Rattle.support.specs.Faults.{FaultData}
 use Rattle.support.specs.paths.Paths.{path_in}
-use Rattle.ports.specs.Outputs.{Step, closing, opening}
+use Rattle.ports.specs.Outputs.{Step, closing_steps, opening_steps}
 use Rattle.ports.specs.Tree.{file_at}
 use Rattle.build.specs.project.Adding.{output_answer}
 use Rattle.build.specs.project.Refused.{RefusedData}
-use Rattle.world.specs.Making.{Filling, after_output, given_up, taken, taken_by, telling, written}
-use Rattle.world.specs.Store.{changing}
+use Rattle.world.specs.Making.{Filling, after_output, given_up, reserved_output, taken_by, sent_steps, written_output}
+use Rattle.world.specs.Store.{world_after_change}
 use Rattle.world.specs.Trace.{Mark, Told, Ended, ends_of}
-use Rattle.world.specs.World.{World, declaring}
+use Rattle.world.specs.World.{World, facts_after_declaration}
 use Rattle.world.specs.Run.{Run, ran, Act, Done, Faulted, after, follow, pure, with_end, marks_of, world_after}
 use Rattle.world.specs.Deed.{Files, Deed, give, refuse, tell, ask, consult, read, change, begin_project, make, then as andthen, perform}
 use Rattle.world.specs.Plan.{Plan, deed, ruled, next as next_plan, carry}
-use Rattle.world.specs.Costs.{definition_file, is_opened, unless, unopened, spent, Costs}
+use Rattle.world.specs.Costs.{definition_file, is_opened, unless, unopened_cost, cost_of_run, Costs}
 use Rattle.world.proofs.Look.{world_taken}
 use Rattle.world.proofs.Marks.{ends_of-append}
 
 abbrev pub Price : Type 0
 Price = List ℕ × List ℕ → ℕ
 
-pub spent-after : {A : Type 0} (price : Price) (files : Files) (ms : List Mark) (r : Run A) → spent price files (after ms r) ≡ ends_of ms + spent price files r
+pub spent-after : {A : Type 0} (price : Price) (files : Files) (ms : List Mark) (r : Run A) → cost_of_run price files (after ms r) ≡ ends_of ms + cost_of_run price files r
 spent-after price files ms (ran o w ns) = omega (arith, ends_of-append ms ns)
 
-spent-with_end : {A : Type 0} (price : Price) (files : Files) (r : Run A) → spent price files (with_end r) ≡ 1 + spent price files r
+spent-with_end : {A : Type 0} (price : Price) (files : Files) (r : Run A) → cost_of_run price files (with_end r) ≡ 1 + cost_of_run price files r
 spent-with_end price files (ran o w ms) = omega (arith, ends_of-append ms (Ended ∷ []))
 
 spent-follow : {A B : Type 0} (price : Price) (files : Files) (d : ℕ) (r : Run A) (next : A → Act B) → ((a : A) → Costs price files d (next a))
-    → spent price files (follow r next) ≤ spent price files r + d
+    → cost_of_run price files (follow r next) ≤ cost_of_run price files r + d
 spent-follow price files d (ran (Done a) w ms) next p = omega (arith, spent-after price files ms (next a w), (p a).within w)
 spent-follow price files d (ran (Faulted f) w ms) next p = omega arith
 
@@ -45,26 +45,26 @@ taken_by-ends (Err refusal) w = refl
 
 module _ (price : Price) (files : Files) where
   still : {A : Type 0} (act : Act A) → ((w : World) → ends_of (marks_of (act w)) ≡ 0) → ((w : World) → (world_after (act w)).entered ≡ w.entered) → Costs price files 0 act
-  still act none same = record { within = λ w. omega (arith, none w, ap (unopened price files) (same w)) }
+  still act none same = record { within = λ w. omega (arith, none w, ap (unopened_cost price files) (same w)) }
 
   chain_acts : {A B : Type 0} {act : Act A} {next : A → Act B} {c d : ℕ} → Costs price files c act → ((a : A) → Costs price files d (next a)) → Costs price files (c + d) (λ w. follow (act w) next)
   chain_acts {act = act} {next = next} {d = d} p q = record { within = λ w. omega (arith, p.within w, spent-follow price files d (act w) next q) }
 
-  telling-costs : (steps : List Step) → Costs price files 0 (telling steps)
-  telling-costs steps = still (telling steps) (λ w. ends_of-told steps) (λ w. refl)
+  telling-costs : (steps : List Step) → Costs price files 0 (sent_steps steps)
+  telling-costs steps = still (sent_steps steps) (λ w. ends_of-told steps) (λ w. refl)
 
   given_up-costs : (fault : Option FaultData) → Costs price files 0 (given_up fault)
   given_up-costs None = still (given_up None) (λ w. refl) (λ w. refl)
   given_up-costs (Some fault) = still (given_up (Some fault)) (λ w. refl) (λ w. refl)
 
-  written-costs : (path : List ℕ) (filling : Filling) → Costs price files 0 (written path filling)
+  written-costs : (path : List ℕ) (filling : Filling) → Costs price files 0 (written_output path filling)
   written-costs path filling =
-      chain_acts (telling-costs (opening path)) (λ _. chain_acts (chain_acts (telling-costs filling.steps) (λ _. given_up-costs filling.fault)) (λ _. telling-costs closing))
+      chain_acts (telling-costs (opening_steps path)) (λ _. chain_acts (chain_acts (telling-costs filling.steps) (λ _. given_up-costs filling.fault)) (λ _. telling-costs closing_steps))
 
-  taken-costs : (folder name : List ℕ) → Costs price files 0 (taken folder name)
+  taken-costs : (folder name : List ℕ) → Costs price files 0 (reserved_output folder name)
   taken-costs folder name =
-      let later = λ (w : World). changing (declaring (after_output folder name)) w in
-      still (taken folder name) (λ w. taken_by-ends (output_answer w.facts.project folder name) (later w))
+      let later = λ (w : World). world_after_change (facts_after_declaration (after_output folder name)) w in
+      still (reserved_output folder name) (λ w. taken_by-ends (output_answer w.facts.project folder name) (later w))
       (λ w. ap (λ (v : World). v.entered) (world_taken (output_answer w.facts.project folder name) (later w)))
 
   -- a deed ends no rule
@@ -113,7 +113,7 @@ unless-append path folder folders n =
     rw (list_any-append (λ f. bytes_eq (definition_file f) path) folders (folder ∷ []))
     (unless-or (is_opened folders path) (is_opened (folder ∷ []) path) n)
 
-pub unopened-append : (price : Price) (files : Files) (folders : List (List ℕ)) (folder : List ℕ) → unopened price files (folders ++ folder ∷ []) ≤ unopened price files folders
+pub unopened-append : (price : Price) (files : Files) (folders : List (List ℕ)) (folder : List ℕ) → unopened_cost price files (folders ++ folder ∷ []) ≤ unopened_cost price files folders
 unopened-append price [] folders folder = omega arith
 unopened-append price (f ∷ fs) folders folder = omega (arith, unless-append f.0 folder folders (price f), unopened-append price fs folders folder)
 
@@ -122,13 +122,13 @@ some_same x y e = cc
 
 -- a file that was not opened is paid by opening it
 pub opens : (price : Price) (files : Files) (folders : List (List ℕ)) (folder bytes : List ℕ) → is_opened folders (definition_file folder) ≡ false → file_at files (definition_file folder) ≡ Some bytes
-    → price (definition_file folder, bytes) + unopened price files (folders ++ folder ∷ []) ≤ unopened price files folders
+    → price (definition_file folder, bytes) + unopened_cost price files (folders ++ folder ∷ []) ≤ unopened_cost price files folders
 opens price [] folders folder bytes new is = absurd cc
 opens price (f ∷ fs) folders folder bytes new is = at (opens price fs folders folder bytes new) (bytes_eq f.0 (definition_file folder)) refl is
   where
-    at : (file_at fs (definition_file folder) ≡ Some bytes → price (definition_file folder, bytes) + unopened price fs (folders ++ folder ∷ []) ≤ unopened price fs folders) → (b : Bool)
+    at : (file_at fs (definition_file folder) ≡ Some bytes → price (definition_file folder, bytes) + unopened_cost price fs (folders ++ folder ∷ []) ≤ unopened_cost price fs folders) → (b : Bool)
         → bytes_eq f.0 (definition_file folder) ≡ b → (if b then Some f.1 else file_at fs (definition_file folder)) ≡ Some bytes
-        → price (definition_file folder, bytes) + unopened price (f ∷ fs) (folders ++ folder ∷ []) ≤ unopened price (f ∷ fs) folders
+        → price (definition_file folder, bytes) + unopened_cost price (f ∷ fs) (folders ++ folder ∷ []) ≤ unopened_cost price (f ∷ fs) folders
     at others true same is' =
         let it : f.0 ≡ definition_file folder = (bytes_eq-Decides f.0 (definition_file folder)).0 same in
         let before : is_opened folders f.0 ≡ false = ap (is_opened folders) it ∙ new in
@@ -150,6 +150,6 @@ paid-after worth ms (ran (Done a) w ns) = refl
 paid-after worth ms (ran (Faulted f) w ns) = refl
 
 pub spent-paid : {A B : Type 0} (price : Price) (files : Files) (worth : A → ℕ) (r : Run A) (next : A → Act B) → ((a : A) → Costs price files (worth a) (next a))
-    → spent price files (follow r next) ≤ spent price files r + paid worth r
+    → cost_of_run price files (follow r next) ≤ cost_of_run price files r + paid worth r
 spent-paid price files worth (ran (Done a) w ms) next p = omega (arith, spent-after price files ms (next a w), (p a).within w)
 spent-paid price files worth (ran (Faulted f) w ms) next p = omega arith

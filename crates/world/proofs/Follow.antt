@@ -2,7 +2,7 @@
 use Rattle.std.proofs.Common.{◌≡◌, ℕ, ◌+◌, List, [], ◌∷◌, ◌++◌, Result, Ok, Err, IsErrAnd, refl, sym, subst, ap, ◌∙◌, append_assoc, arith}
 use Rattle.code.specs.Draft.{IsFront}
 use Rattle.support.specs.Faults.{FaultData}
-use Rattle.world.specs.Trace.{Mark, Ended, Seen, seen, Adds, Begins}
+use Rattle.world.specs.Trace.{Mark, Ended, Seen, seen_from_parts, Adds, Begins}
 use Rattle.world.specs.World.{Asked, World}
 use Rattle.world.specs.Run.{Outcome, Run, ran, Act, Done, Faulted, with_end, after, follow, pure, fails, marks_of, outcome_of, world_after}
 use Rattle.world.specs.Gives.{Gives, is_ended, failures_after, Continues, Ends, Faults, IsRefusal}
@@ -146,10 +146,10 @@ outcome_of-with_end (ran o w ms) = refl
 asked-with_end : {A : Type 0} (r : Run A) → (world_after (with_end r)).asked ≡ (world_after r).asked
 asked-with_end (ran o w ms) = refl
 
-one_more : {A : Type 0} (r : Run A) (old mid : Seen) → Adds old (marks_of r) mid → Adds old (marks_of (with_end r)) (seen mid.out (mid.ticks + 1) mid.names)
+one_more : {A : Type 0} (r : Run A) (old mid : Seen) → Adds old (marks_of r) mid → Adds old (marks_of (with_end r)) (seen_from_parts mid.out (mid.ticks + 1) mid.names)
 one_more r old mid e = same_added (sym (marks_of-with_end r)) (more_added (marks_of r) (Ended ∷ []) e (end_added mid))
 
-begins_before : {A : Type 0} (r : Run A) (old mid : Seen) → Begins (marks_of r) old mid → Begins (marks_of (with_end r)) old (seen mid.out (mid.ticks + 0) mid.names)
+begins_before : {A : Type 0} (r : Run A) (old mid : Seen) → Begins (marks_of r) old mid → Begins (marks_of (with_end r)) old (seen_from_parts mid.out (mid.ticks + 0) mid.names)
 begins_before r old mid b = record {
   made = b.made;
   left = b.left ++ Ended ∷ [];
@@ -158,7 +158,7 @@ begins_before r old mid b = record {
 }
 
 -- a rule gives what stands inside, and a tick where that has ended
-pub gives_rule : {A B : Type 0} (view : B → A) (r : Run A) (result : Result B Stop) (w : World) (old mid : Seen) → Gives view r result w old mid → Gives view (with_end r) result w old (seen mid.out (mid.ticks + is_ended result) mid.names)
+pub gives_rule : {A B : Type 0} (view : B → A) (r : Run A) (result : Result B Stop) (w : World) (old mid : Seen) → Gives view r result w old mid → Gives view (with_end r) result w old (seen_from_parts mid.out (mid.ticks + is_ended result) mid.names)
 gives_rule view r (Ok x) w old mid e = record { is = ap with_end e.is ∙ ap (ran (Done (view x)) w) (sym (marks_of-with_end r)); written = one_more r old mid e.written }
 gives_rule view r (Err (stops.Refused fault)) w old mid e = record { is = outcome_of-with_end r ∙ e.is; asks = e.asks ∙ sym (asked-with_end r); written = one_more r old mid e.written }
 gives_rule view r (Err stops.Device) w old mid e = begins_before r old mid e

@@ -2,17 +2,17 @@
 use Rattle.std.proofs.Common.{◌≡◌, ℕ, List, [], ◌∷◌, ◌++◌, Option, Some, None, Result, Ok, Err, is_some, refl, sym, ap, subst, ◌∙◌}
 use Rattle.std.proofs.Common.{append_assoc, append-nil}
 use Rattle.support.specs.Faults.{FaultData}
-use Rattle.ports.specs.Outputs.{Step, closing, opening}
+use Rattle.ports.specs.Outputs.{Step, closing_steps, opening_steps}
 use Rattle.ports.specs.Tree.{file_at}
-use Rattle.machine.specs.machine_file.Files.{Section}
-use Rattle.machine.specs.machine_file.Questions.{Question, answer_to}
+use Rattle.machine_file.specs.Files.{Section}
+use Rattle.machine_file.specs.Questions.{Question, answer_to}
 use Rattle.build.specs.project.Adding.{output_answer}
 use Rattle.build.specs.project.Refused.{RefusedData}
 use Rattle.support.specs.paths.Paths.{path_in}
-use Rattle.world.specs.Making.{Filling, after_output, filled, given_up, taken, taken_by, telling, written}
-use Rattle.world.specs.Store.{changing}
+use Rattle.world.specs.Making.{Filling, after_output, filled_output, given_up, reserved_output, taken_by, sent_steps, written_output}
+use Rattle.world.specs.Store.{world_after_change}
 use Rattle.world.specs.Trace.{Mark}
-use Rattle.world.specs.World.{Asked, World, asked_here, asking, declaring, looking, fault_here}
+use Rattle.world.specs.World.{Asked, World, asked_here, world_after_question, facts_after_declaration, world_after_look, fault_here}
 use Rattle.world.specs.Run.{Run, ran, Act, Done, Faulted, after, follow, pure, with_end, world_after}
 use Rattle.world.specs.Deed.{Files, Deed, give, refuse, tell, ask, consult, read, change, begin_project, make, then, perform}
 use Rattle.world.specs.Plan.{Plan, deed, ruled, enter, entered, next as next_plan, carry}
@@ -135,7 +135,7 @@ looks path = record {
   grows = λ f w. record { more = path ∷ []; is = refl };
   asks = λ f w. kept w.asked;
   keeps = λ f w. refl;
-  same = λ f g n w h i. ap (λ o. ran (Done o) (looking (over n w) path (is_some o)) []) (sym (agree-last f g w.looked path h));
+  same = λ f g n w h i. ap (λ o. ran (Done o) (world_after_look (over n w) path (is_some o)) []) (sym (agree-last f g w.looked path h));
 }
 
 asks : (question : Question) → Depends (λ f. perform f (consult question))
@@ -143,7 +143,7 @@ asks question = record {
   grows = λ f w. kept w.looked;
   asks = λ f w. record { more = asked_here w question ∷ []; is = refl };
   keeps = λ f w. refl;
-  same = λ f g n w h i. ap (λ o. ran (Done o) (asking (over n w) question) []) (sym (answers-last w.machine n w.asked (asked_here w question) i));
+  same = λ f g n w h i. ap (λ o. ran (Done o) (world_after_question (over n w) question) []) (sym (answers-last w.machine n w.asked (asked_here w question) i));
 }
 
 -- ---- an output
@@ -157,27 +157,27 @@ pub world_taken : (answer : Result (Unit {0}) RefusedData) (w : World) → world
 world_taken (Ok _) w = refl
 world_taken (Err refusal) w = refl
 
-takes : (folder name : List ℕ) → Depends (λ f. taken folder name)
+takes : (folder name : List ℕ) → Depends (λ f. reserved_output folder name)
 takes folder name =
     let answer = λ (w : World). output_answer w.facts.project folder name in
-    let later = λ (w : World). changing (declaring (after_output folder name)) w in
-    still (taken folder name) (λ w. ap (λ (v : World). v.looked) (world_taken (answer w) (later w))) (λ w. ap (λ (v : World). v.asked) (world_taken (answer w) (later w)))
+    let later = λ (w : World). world_after_change (facts_after_declaration (after_output folder name)) w in
+    still (reserved_output folder name) (λ w. ap (λ (v : World). v.looked) (world_taken (answer w) (later w))) (λ w. ap (λ (v : World). v.asked) (world_taken (answer w) (later w)))
     (λ w. ap (λ (v : World). v.machine) (world_taken (answer w) (later w))) (λ n w. taken_by-over (answer w) n (later w))
 
 given_up-over : (fault : Option FaultData) → Depends (λ f. given_up fault)
 given_up-over None = still (given_up None) (λ w. refl) (λ w. refl) (λ w. refl) (λ n w. refl)
 given_up-over (Some fault) = still (given_up (Some fault)) (λ w. refl) (λ w. refl) (λ w. refl) (λ n w. refl)
 
-tells : (steps : List Step) → Depends (λ f. telling steps)
-tells steps = still (telling steps) (λ w. refl) (λ w. refl) (λ w. refl) (λ n w. refl)
+tells : (steps : List Step) → Depends (λ f. sent_steps steps)
+tells steps = still (sent_steps steps) (λ w. refl) (λ w. refl) (λ w. refl) (λ n w. refl)
 
-fills : (filling : Filling) → Depends (λ f. filled filling)
-fills filling = chain (λ f. telling filling.steps) (λ f _. given_up filling.fault) (tells filling.steps) (λ _. given_up-over filling.fault)
+fills : (filling : Filling) → Depends (λ f. filled_output filling)
+fills filling = chain (λ f. sent_steps filling.steps) (λ f _. given_up filling.fault) (tells filling.steps) (λ _. given_up-over filling.fault)
 
-writes : (path : List ℕ) (filling : Filling) → Depends (λ f. written path filling)
+writes : (path : List ℕ) (filling : Filling) → Depends (λ f. written_output path filling)
 writes path filling =
-    chain (λ f. telling (opening path)) (λ f _ v. follow (filled filling v) (λ _. telling closing)) (tells (opening path))
-    (λ _. chain (λ f. filled filling) (λ f _. telling closing) (fills filling) (λ _. tells closing))
+    chain (λ f. sent_steps (opening_steps path)) (λ f _ v. follow (filled_output filling v) (λ _. sent_steps closing_steps)) (tells (opening_steps path))
+    (λ _. chain (λ f. filled_output filling) (λ f _. sent_steps closing_steps) (fills filling) (λ _. tells closing_steps))
 
 -- each deed, by its steps
 pub deed-depends : {A : Type 0} (d : Deed A) → Depends (λ f. perform f d)
@@ -190,9 +190,9 @@ deed-depends read = still (perform [] read) (λ w. refl) (λ w. refl) (λ w. ref
 deed-depends (change g leaves) = still (perform [] (change g leaves)) (λ w. refl) (λ w. refl) (λ w. refl) (λ n w. refl)
 deed-depends (begin_project facts) = still (perform [] (begin_project facts)) (λ w. refl) (λ w. refl) (λ w. refl) (λ n w. refl)
 deed-depends (make folder name ready filling) =
-    chain (λ f. taken folder name) (λ f _ v. follow (perform f ready v) (λ a u. follow (written (path_in folder name) filling u) (λ _. pure a))) (takes folder name)
-    (λ _. chain (λ f. perform f ready) (λ f a u. follow (written (path_in folder name) filling u) (λ _. pure a)) (deed-depends ready)
-    (λ a. chain (λ f. written (path_in folder name) filling) (λ f _. pure a) (writes (path_in folder name) filling) (λ _. still (pure a) (λ w. refl) (λ w. refl) (λ w. refl) (λ n w. refl))))
+    chain (λ f. reserved_output folder name) (λ f _ v. follow (perform f ready v) (λ a u. follow (written_output (path_in folder name) filling u) (λ _. pure a))) (takes folder name)
+    (λ _. chain (λ f. perform f ready) (λ f a u. follow (written_output (path_in folder name) filling u) (λ _. pure a)) (deed-depends ready)
+    (λ a. chain (λ f. written_output (path_in folder name) filling) (λ f _. pure a) (writes (path_in folder name) filling) (λ _. still (pure a) (λ w. refl) (λ w. refl) (λ w. refl) (λ n w. refl))))
 deed-depends (then first next) = chain (λ f. perform f first) (λ f a. perform f (next a)) (deed-depends first) (λ a. deed-depends (next a))
 
 -- each plan, by its steps

@@ -3,7 +3,7 @@ use Rattle.std.proofs.Common.{◌≡◌, ◌+◌, List, [], ◌∷◌, ◌++◌,
 use Rattle.code.specs.Draft.{IsFront}
 use Rattle.ports.specs.Outputs.{Sends}
 use Rattle.ports.proofs.Sending.{sends_nothing, sends_then}
-use Rattle.world.specs.Trace.{Mark, Told, Ended, steps_of, ends_of, Seen, seen, Adds}
+use Rattle.world.specs.Trace.{Mark, Told, Ended, steps_of, ends_of, Seen, seen_from_parts, Adds}
 
 pub same_front : {A : Type 0} (xs : List A) → IsFront xs xs
 same_front xs = record { more = []; is = sym (append-nil xs) }
@@ -35,7 +35,7 @@ pub same_added : {a b : Seen} {t u : List Mark} → t ≡ u → Adds a t b → A
 same_added {a = a} {b = b} e p = subst (λ l. Adds a l b) e p
 
 -- the end of one rule
-pub end_added : (s : Seen) → Adds s (Ended ∷ []) (seen s.out (s.ticks + 1) s.names)
+pub end_added : (s : Seen) → Adds s (Ended ∷ []) (seen_from_parts s.out (s.ticks + 1) s.names)
 end_added s = record { sent = sends_nothing s.out; ticks = omega arith; names = same_front s.names }
 
 -- only the table of names has grown

@@ -4,20 +4,20 @@ use Rattle.std.proofs.Common.{subst, ◌∙◌}
 use Rattle.std.specs.Prelude.{cond, filter, if◌then◌else◌, ◌&&◌}
 use Rattle.std.specs.List.{list_all}
 use Rattle.support.specs.Faults.{FaultData}
-use Rattle.ports.specs.Outputs.{Step, closing, opening}
+use Rattle.ports.specs.Outputs.{Step, closing_steps, opening_steps}
 use Rattle.build.specs.project.Adding.{after_answer, output_answer, with_output}
 use Rattle.build.specs.project.World.{WorldData}
 use Rattle.build.specs.project.Refused.{RefusedData}
 use Rattle.support.specs.paths.Paths.{path_in}
 use Rattle.build.specs.edge.Texts.{Path, first_kept, holds, put_all_new, put_new}
 use Rattle.world.specs.Deed.{Files, Deed, give, refuse, tell, ask, consult, read, change, begin_project, make, then as follows, perform}
-use Rattle.world.specs.Making.{after_output, given_up, taken, telling, written}
+use Rattle.world.specs.Making.{after_output, given_up, reserved_output, sent_steps, written_output}
 use Rattle.world.specs.Noted.{NotesLooks, PresentAreFiles, is_file, is_no_file}
 use Rattle.world.specs.Plan.{Plan, deed, ruled, enter, entered, next as next_plan, carry}
 use Rattle.world.specs.Run.{Run, ran, Act, Done, Faulted, after, follow, pure, with_end, world_after}
-use Rattle.world.specs.Store.{changing}
+use Rattle.world.specs.Store.{world_after_change}
 use Rattle.world.specs.Trace.{Mark}
-use Rattle.world.specs.World.{World, declaring, looking, noted_in}
+use Rattle.world.specs.World.{World, facts_after_declaration, world_after_look, noted_in}
 use Rattle.world.proofs.Look.{world_taken}
 
 both : {A B : Type 0} {a c : A} {b d : B} → a ≡ c → b ≡ d → ◌≡◌ {A = A × B} (a, b) (c, d)
@@ -63,7 +63,7 @@ falls test (q ∷ paths) path e = ap (λ l. cond (test q) (q ∷ l) l) (falls te
 
 -- ---- one look
 
-look_by : (files : Files) (path : Path) (b : Bool) (w : World) → is_file files path ≡ b → NotesLooks files w → NotesLooks files (looking w path b)
+look_by : (files : Files) (path : Path) (b : Bool) (w : World) → is_file files path ≡ b → NotesLooks files w → NotesLooks files (world_after_look w path b)
 look_by files path true w e notes =
     let there = filter (is_file files) w.looked in
     let others = filter (is_no_file files) w.looked in
@@ -103,14 +103,14 @@ noted_kept : (answer : Result (Unit {0}) RefusedData) (p : WorldData) (path : Pa
 noted_kept (Ok _) p path = refl
 noted_kept (Err refusal) p path = refl
 
-taken-notes : (files : Files) (folder name : List ℕ) (w : World) → NotesLooks files w → NotesLooks files (world_after (taken folder name w))
+taken-notes : (files : Files) (folder name : List ℕ) (w : World) → NotesLooks files w → NotesLooks files (world_after (reserved_output folder name w))
 taken-notes files folder name w notes =
     let answer = output_answer w.facts.project folder name in
-    subst (λ v. NotesLooks files v) (sym (world_taken answer (changing (declaring (after_output folder name)) w))) (noted_kept answer w.facts.project (path_in folder name) ∙ notes)
+    subst (λ v. NotesLooks files v) (sym (world_taken answer (world_after_change (facts_after_declaration (after_output folder name)) w))) (noted_kept answer w.facts.project (path_in folder name) ∙ notes)
 
 -- it is written in the same world
 world_made : {A : Type 0} (a : A) (path : Path) (steps : List Step) (fault : Option FaultData) (w : World)
-    → world_after (follow (follow (telling (opening path) w) (λ _ v. follow (follow (telling steps v) (λ _. given_up fault)) (λ _. telling closing))) (λ _. pure a)) ≡ w
+    → world_after (follow (follow (sent_steps (opening_steps path) w) (λ _ v. follow (follow (sent_steps steps v) (λ _. given_up fault)) (λ _. sent_steps closing_steps))) (λ _. pure a)) ≡ w
 world_made a path steps None w = refl
 world_made a path steps (Some fault) w = refl
 
@@ -126,8 +126,8 @@ deed-notes files (change f leaves) w notes = ap (λ (q : (List Path × List Path
 deed-notes files (begin_project facts) w notes = noted_once files w notes ∙ notes
 deed-notes files (make folder name ready filling) w notes =
     let path = path_in folder name in
-    follow-notes files (taken folder name w) (λ _ v. follow (perform files ready v) (λ a u. follow (written path filling u) (λ _. pure a))) (taken-notes files folder name w notes)
-    (λ _ v h. follow-notes files (perform files ready v) (λ a u. follow (written path filling u) (λ _. pure a)) (deed-notes files ready v h)
+    follow-notes files (reserved_output folder name w) (λ _ v. follow (perform files ready v) (λ a u. follow (written_output path filling u) (λ _. pure a))) (taken-notes files folder name w notes)
+    (λ _ v h. follow-notes files (perform files ready v) (λ a u. follow (written_output path filling u) (λ _. pure a)) (deed-notes files ready v h)
     (λ a u k. subst (λ x. NotesLooks files x) (sym (world_made a path filling.steps filling.fault u)) k))
 deed-notes files (follows first next) w notes =
     follow-notes files (perform files first w) (λ a. perform files (next a)) (deed-notes files first w notes) (λ a v h. deed-notes files (next a) v h)

@@ -13,7 +13,7 @@ use Rattle.values.specs.Data.{Data}
 use Rattle.values.specs.View.{data_of}
 use Rattle.values.specs.declared.value.Value.{Value}
 use Rattle.world.specs.World.{World, variables_with, with_variable, with_variables}
-use Rattle.world.specs.Store.{Kept, slot_value, kept_variables, world_of, changing}
+use Rattle.world.specs.Store.{Kept, slot_value, kept_variables, world_of, world_after_change}
 use Rattle.code.specs.Draft.{IsFront}
 use Rattle.std.specs.List.{IsDistinct}
 use Rattle.std.proofs.lemmas.List.{get_or_past}
@@ -21,11 +21,11 @@ use Rattle.std.proofs.Common.{append_assoc, append-nil, length-set, subst, max}
 use Rattle.std.proofs.lemmas.Grind.{common_steps}
 use Rattle.world.proofs.Numbers.{number_at}
 use Rattle.std.specs.Prelude.{codes, Result, Ok, Err, OnOk}
-use Rattle.machine.specs.machine_file.Files.{Section}
+use Rattle.machine_file.specs.Files.{Section}
 use Rattle.build.specs.project.World.{WorldData, new_world}
-use Rattle.world.specs.World.{declaring}
+use Rattle.world.specs.World.{facts_after_declaration}
 use Rattle.world.specs.Settings.{SettingsData}
-use Rattle.world.specs.Start.{first_world, unnamed}
+use Rattle.world.specs.Start.{first_world, facts_before_project}
 
 by_test : (b d e : Bool) (n k : ℕ) → nat_eq n k ≡ b → nat_lt (cond b (k + 1) n) (k + 1) ≡ d → nat_lt n k ≡ e → n ≤ k → d ≡ e
 by_test true true true n k h i j l = refl
@@ -204,21 +204,21 @@ with_slots k names slots = record k { names = names; slots = slots }
 
 -- the same world with other variables
 abbrev pub with_all : World → (List ℕ → Option Data) → World
-with_all w variables = changing (with_variables variables) w
+with_all w variables = world_after_change (with_variables variables) w
 
 all_same : (w : World) (f g : List ℕ → Option Data) → ((q : List ℕ) → f q ≡ g q) → with_all w f ≡ with_all w g
 all_same w f g e = λ i. with_all w (λ q. e q i)
 
 -- a variable takes a value or loses it
 pub world_with : (k : Kept) (names : List (List ℕ)) (slots : List (Option Value)) (name : List ℕ) (v : Option Data)
-    → ((q : List ℕ) → kept_variables names slots q ≡ variables_with (kept_variables k.names k.slots) name v q) → world_of (with_slots k names slots) ≡ changing (with_variable name v) (world_of k)
+    → ((q : List ℕ) → kept_variables names slots q ≡ variables_with (kept_variables k.names k.slots) name v q) → world_of (with_slots k names slots) ≡ world_after_change (with_variable name v) (world_of k)
 world_with k names slots name v e = all_same (world_of k) (kept_variables names slots) (variables_with (kept_variables k.names k.slots) name v) e
 
 -- the variables stay
 pub world_as : (k : Kept) (names : List (List ℕ)) (slots : List (Option Value)) → ((q : List ℕ) → kept_variables names slots q ≡ kept_variables k.names k.slots q) → world_of (with_slots k names slots) ≡ world_of k
 world_as k names slots e = all_same (world_of k) (kept_variables names slots) (kept_variables k.names k.slots) e
 
-pub world_lost : (w : World) (name : List ℕ) → w.facts.variables name ≡ None → w ≡ changing (with_variable name None) w
+pub world_lost : (w : World) (name : List ℕ) → w.facts.variables name ≡ None → w ≡ world_after_change (with_variable name None) w
 world_lost w name h = all_same w w.facts.variables (variables_with w.facts.variables name None) (λ q. none_lost w.facts.variables name q h)
 
 -- a slot that is emptied
@@ -243,7 +243,7 @@ variables_taken names slots new n distinct l same none q = slot_taken names slot
 
 -- where a call ends well, the project is this of what it was
 pub project_made : {A E : Type 0} (result : Result A E) (k : Kept) (p : WorldData) (f : WorldData → WorldData) → OnOk result (p ≡ f k.project)
-    → OnOk result (world_of (record k { project = p }) ≡ changing (declaring f) (world_of k))
+    → OnOk result (world_of (record k { project = p }) ≡ world_after_change (facts_after_declaration f) (world_of k))
 project_made (Ok x) k p f is = ap (λ q. world_of (record k { project = q })) is
 project_made (Err e) k p f is = tt
 
@@ -253,7 +253,7 @@ then_same v (Err e) is same = tt
 
 -- before anything was done
 pub world_first : (k : Kept) (settings : SettingsData) (machine : List Section) → k.file ≡ codes "meson.build" → k.folder ≡ [] → k.line ≡ 1 → k.settings ≡ settings → k.names ≡ [] → k.slots ≡ [] → k.machine ≡ machine
-    → k.options ≡ [] → k.configurations ≡ [] → k.is_begun ≡ false → k.project ≡ new_world (unnamed settings) → k.entered ≡ [] → k.looked ≡ [] → k.asked ≡ [] → world_of k ≡ first_world settings machine
+    → k.options ≡ [] → k.configurations ≡ [] → k.is_begun ≡ false → k.project ≡ new_world (facts_before_project settings) → k.entered ≡ [] → k.looked ≡ [] → k.asked ≡ [] → world_of k ≡ first_world settings machine
 world_first k settings file_said file folder line set names slots machine options configurations begun project entered looked asked = λ i. world_of (record {
   file = file i;
   folder = folder i;

@@ -5,7 +5,7 @@ use Rattle.std.proofs.lemmas.Bool.{le-leb, leb-true, and_parts, and_from}
 use Rattle.std.proofs.lemmas.List.{drop_at, drop-append-le, map-append, take_all, take-append-le}
 use Rattle.std.proofs.lemmas.List.Folds.{list_all-append}
 use Rattle.world.specs.Trail.{are_within, is_within, piece, pieces}
-use Rattle.world.specs.declared.trail.Span.{Span}
+use Rattle.world.specs.declared.text_buffer.Span.{Span}
 
 within : (whole : List ℕ) (s : Span) → is_within whole s ≡ true → s.from + s.length ≤ length whole
 within whole s h = leb-true (s.from + s.length) (length whole) h

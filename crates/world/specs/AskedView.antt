@@ -1,8 +1,8 @@
 -- Defines the view of a question that was asked of the machine file.
 use Rattle.std.specs.Prelude.{List, map, string_bytes}
-use Rattle.machine.specs.machine_file.QuestionsView.{question_in}
+use Rattle.machine_file.specs.QuestionsView.{question_in}
 use Rattle.world.specs.World as plain
-use Rattle.world.specs.declared.asked.Asked.{Asked}
+use Rattle.world.specs.declared.asked_question.Asked.{Asked}
 
 -- Returns the plain data of a question that was asked.
 abbrev pub asked_in : Asked → plain.Asked

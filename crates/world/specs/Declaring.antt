@@ -7,13 +7,13 @@ use Rattle.build.specs.project.World.{WorldData, AnswerData, InstallData, TestDa
 use Rattle.build.specs.project.Refused.{RefusedData}
 use Rattle.build.specs.Data.{TargetData}
 use Rattle.world.specs.Operation.{of_project}
-use Rattle.world.specs.World.{KeepsPaths, declaring, paths_in}
+use Rattle.world.specs.World.{KeepsPaths, facts_after_declaration, paths_in}
 use Rattle.world.specs.Deed.{Deed, give, refuse, read, change, ◌>>=◌}
 
--- Returns what the project returned, or its refusal with its detail.
-unfoldable pub allowed : {A : Type 0} → Result A RefusedData → Deed A
-allowed (Ok a) = give a
-allowed (Err refused) = refuse (of_project refused.why) refused.detail
+-- Returns the result of the project, or its refusal with its detail.
+unfoldable pub project_answer : {A : Type 0} → Result A RefusedData → Deed A
+project_answer (Ok a) = give a
+project_answer (Err refused) = refuse (of_project refused.why) refused.detail
 
 -- Proves that a declaration keeps the noted paths, if its change does so whenever the project does not refuse it.
 abbrev pub after_answer-keeps : {A : Type 0} (answer : Result A RefusedData) (after before : WorldData)
@@ -21,18 +21,19 @@ abbrev pub after_answer-keeps : {A : Type 0} (answer : Result A RefusedData) (af
 after_answer-keeps (Ok a) after before same = same
 after_answer-keeps (Err refused) after before same = refl
 
--- Changes the project by `after`, and returns what the project answers.
-unfoldable pub declared : {A : Type 0} → (answer : WorldData → Result A RefusedData) → (after : WorldData → WorldData)
+-- Changes the project by `after`, and returns the result of `answer`, or its refusal, for the project before the change.
+unfoldable pub project_declaration : {A : Type 0} → (answer : WorldData → Result A RefusedData) → (after : WorldData → WorldData)
     → KeepsPaths after → Deed A
-declared answer after keeps = do
+project_declaration answer after keeps = do
   facts ← read
-  _ ← change (declaring after) (λ facts. keeps facts.project)
-  allowed (answer facts.project)
+  _ ← change (facts_after_declaration after) (λ facts. keeps facts.project)
+  project_answer (answer facts.project)
 
 -- Adds a target, and returns its number.
 unfoldable pub add_target : TargetData → Deed ℕ
 add_target t =
-    declared (λ p. target_answer p t) (λ p. after_target p t) (λ p. after_answer-keeps (target_answer p t) (with_target p t) p refl)
+    project_declaration (λ p. target_answer p t) (λ p. after_target p t)
+    (λ p. after_answer-keeps (target_answer p t) (with_target p t) p refl)
 
 -- Returns the project after arguments for all compile commands are added, or unchanged if it refuses them.
 abbrev pub after_arguments : List Text → WorldData → WorldData
@@ -41,7 +42,7 @@ after_arguments words p = after_answer (arguments_answer p words) (with_argument
 -- Adds arguments to all compile commands.
 unfoldable pub add_arguments : List Text → Deed (Unit {0})
 add_arguments words =
-    declared (λ p. arguments_answer p words) (after_arguments words)
+    project_declaration (λ p. arguments_answer p words) (after_arguments words)
     (λ p. after_answer-keeps (arguments_answer p words) (with_arguments p words) p refl)
 
 -- Returns the project after arguments for all link commands are added, or unchanged if it refuses them.
@@ -51,19 +52,19 @@ after_link_arguments words p = after_answer (arguments_answer p words) (with_lin
 -- Adds arguments to all link commands.
 unfoldable pub add_link_arguments : List Text → Deed (Unit {0})
 add_link_arguments words =
-    declared (λ p. arguments_answer p words) (after_link_arguments words)
+    project_declaration (λ p. arguments_answer p words) (after_link_arguments words)
     (λ p. after_answer-keeps (arguments_answer p words) (with_link_arguments p words) p refl)
 
 -- ---- what the project only records
 
 -- Records the result of a call of `dependency`.
 unfoldable pub add_dependency : AnswerData → Deed (Unit {0})
-add_dependency answer = change (declaring (λ p. with_dependency p answer)) (λ facts. refl)
+add_dependency answer = change (facts_after_declaration (λ p. with_dependency p answer)) (λ facts. refl)
 
 -- Records a file to be installed.
 unfoldable pub add_install : InstallData → Deed (Unit {0})
-add_install install = change (declaring (λ p. with_install p install)) (λ facts. refl)
+add_install install = change (facts_after_declaration (λ p. with_install p install)) (λ facts. refl)
 
 -- Records a test.
 unfoldable pub add_test : TestData → Deed (Unit {0})
-add_test test = change (declaring (λ p. with_test p test)) (λ facts. refl)
+add_test test = change (facts_after_declaration (λ p. with_test p test)) (λ facts. refl)

@@ -1,7 +1,7 @@
 -- Describes the place of a call: the roots, the folder, and the targets declared before it.
 use Rattle.std.specs.Prelude.{ℕ, List}
 use Rattle.build.specs.edge.Texts.{Path}
-use Rattle.build.specs.Libraries.{LinkedData, linked_of}
+use Rattle.build.specs.Libraries.{DeclaredTargetData, linked_of}
 use Rattle.world.specs.World.{Facts}
 
 -- The place of a call.
@@ -11,11 +11,12 @@ pub record HereData : Type 0 where
   pub build_root : Path
   -- How many levels the build directory is below the source root.
   pub depth : ℕ
-  -- The folder of the build file, empty for the root.
+  -- The folder of the definition file, empty for the root.
   pub folder : Path
-  pub earlier : List LinkedData
+  -- The targets declared before the call, in order, with their libraries and paths.
+  pub earlier : List DeclaredTargetData
 
--- Returns the place of a call in the present build file.
+-- Returns the place of a call in the present definition file.
 abbrev pub here_of : Facts → HereData
 here_of facts = record {
   source_root = facts.settings.source_root;

@@ -1,7 +1,7 @@
 -- Defines the view of the place of a call.
-use Rattle.build.specs.LinkedViews.{linked_views}
+use Rattle.build.specs.DeclaredTargetViews.{declared_target_views}
 use Rattle.world.specs.Here.{HereData}
-use Rattle.world.specs.declared.caller.here.Here.{Here}
+use Rattle.world.specs.declared.caller.call_place.Here.{Here}
 
 -- Returns the plain data of the place of a call.
 abbrev pub here_view : Here → HereData
@@ -10,5 +10,5 @@ here_view h = record {
   build_root = h.build_root.now;
   depth = h.depth;
   folder = h.folder.now;
-  earlier = linked_views h.earlier.now;
+  earlier = declared_target_views h.earlier.now;
 }

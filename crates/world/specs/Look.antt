@@ -1,8 +1,8 @@
 -- States what a run depends on.
 use Rattle.std.specs.Prelude.{◌≡◌, ℕ, List, [], ◌∷◌, ◌++◌}
 use Rattle.ports.specs.Tree.{file_at}
-use Rattle.machine.specs.machine_file.Files.{Section}
-use Rattle.machine.specs.machine_file.Questions.{answer_to}
+use Rattle.machine_file.specs.Files.{Section}
+use Rattle.machine_file.specs.Questions.{answer_to}
 use Rattle.world.specs.World.{Asked, World}
 use Rattle.world.specs.Run.{Run, ran, Act, world_after}
 use Rattle.world.specs.Deed.{Files}
@@ -33,8 +33,12 @@ ran_over machine (ran o w ms) = ran o (over machine w) ms
 -- Holds if an act depends only on the paths that it looks at and on the questions that it asks. If two file trees and two machine files
 -- agree on these, both runs have the same outcome, world and marks.
 pub record Depends {A : Type 0} (act : Files → Act A) : Type 0 where
+  -- The list of paths that were looked at only grows.
   pub grows : (f : Files) (w : World) → Grows w.looked (world_after (act f w)).looked
+  -- The list of questions that were asked only grows.
   pub asks : (f : Files) (w : World) → Grows w.asked (world_after (act f w)).asked
+  -- The machine file stays the same.
   pub keeps : (f : Files) (w : World) → (world_after (act f w)).machine ≡ w.machine
+  -- If files and machine files agree on these paths and questions, the runs are the same, except for the machine file in the world.
   pub same : (f g : Files) (n : List Section) (w : World) → Agree f g (world_after (act f w)).looked
       → AgreeOn w.machine n (world_after (act f w)).asked → act g (over n w) ≡ ran_over n (act f w)

@@ -2,7 +2,7 @@
 use Rattle.std.specs.Prelude.{◌≡◌, List, map, Option, Some, None, Result, Ok, Err}
 use Rattle.build.specs.edge.Texts.{Path, Text}
 use Rattle.support.specs.Faults.{FaultData}
-use Rattle.ports.specs.Outputs.{Step, closing, name_after, opening}
+use Rattle.ports.specs.Outputs.{Step, closing_steps, name_after, opening_steps}
 use Rattle.build.specs.project.Adding.{after_answer, output_answer, with_output}
 use Rattle.build.specs.project.World.{WorldData}
 use Rattle.build.specs.project.Refused.{RefusedData}
@@ -10,17 +10,17 @@ use Rattle.support.specs.paths.Paths.{path_in}
 use Rattle.world.specs.Operation.{of_project}
 use Rattle.world.specs.Run.{Act, ran, Done, fails, follow, pure}
 use Rattle.world.specs.Trace.{Told}
-use Rattle.world.specs.World.{declaring, fault_here, with_facts}
+use Rattle.world.specs.World.{facts_after_declaration, fault_here, with_facts}
 
--- What fills an output: steps for the outputs that neither open nor close one, and the fault, if there is one, at which it is given up.
+-- A filling of an output: steps that neither open nor close an output, and the fault, if there is one, at which the output is given up.
 pub record Filling : Type 0 where
   pub steps : List Step
   pub stays : (name : Option Path) → name_after name steps ≡ name
   pub fault : Option FaultData
 
 -- Sends steps to the outputs.
-abbrev pub telling : List Step → Act (Unit {0})
-telling steps w = ran (Done tt) w (map Told steps)
+abbrev pub sent_steps : List Step → Act (Unit {0})
+sent_steps steps w = ran (Done tt) w (map Told steps)
 
 -- Ends the run if there is a fault.
 abbrev pub given_up : Option FaultData → Act (Unit {0})
@@ -28,12 +28,13 @@ given_up None w = pure tt w
 given_up (Some fault) w = fails fault w
 
 -- Fills the output that is open.
-abbrev pub filled : Filling → Act (Unit {0})
-filled filling w = follow (telling filling.steps w) (λ _. given_up filling.fault)
+abbrev pub filled_output : Filling → Act (Unit {0})
+filled_output filling w = follow (sent_steps filling.steps w) (λ _. given_up filling.fault)
 
 -- Opens an output, fills it, and closes it unless it was given up.
-abbrev pub written : Path → Filling → Act (Unit {0})
-written path filling w = follow (telling (opening path) w) (λ _ v. follow (filled filling v) (λ _. telling closing))
+abbrev pub written_output : Path → Filling → Act (Unit {0})
+written_output path filling w =
+    follow (sent_steps (opening_steps path) w) (λ _ v. follow (filled_output filling v) (λ _. sent_steps closing_steps))
 
 -- ---- its path
 
@@ -47,6 +48,6 @@ taken_by (Ok _) w = pure tt w
 taken_by (Err refused) w = fails (fault_here w (of_project refused.why) refused.detail) w
 
 -- Reserves the path of a file of the folder, or fails with the refusal of the project.
-abbrev pub taken : Path → Text → Act (Unit {0})
-taken folder name w =
-    taken_by (output_answer w.facts.project folder name) (with_facts w (declaring (after_output folder name) w.facts))
+abbrev pub reserved_output : Path → Text → Act (Unit {0})
+reserved_output folder name w =
+    taken_by (output_answer w.facts.project folder name) (with_facts w (facts_after_declaration (after_output folder name) w.facts))

@@ -1,8 +1,8 @@
 -- Translates refusals of values and of the project into refusals of a run.
-use Rattle.values.specs.declared.refusal.Refusal.{Refusal as OperationRefusal}
-use Rattle.values.specs.declared.refusal.Refusal.TheVariants as operation
-use Rattle.build.specs.declared.project.refusal.Refusal.{Refusal as ProjectRefusal}
-use Rattle.build.specs.declared.project.refusal.Refusal.TheVariants as project
+use Rattle.values.specs.declared.refusal.OperationRefusal.{OperationRefusal as OperationRefusal}
+use Rattle.values.specs.declared.refusal.OperationRefusal.TheVariants as operation
+use Rattle.build.specs.declared.project.refusal.ProjectRefusal.{ProjectRefusal as ProjectRefusal}
+use Rattle.build.specs.declared.project.refusal.ProjectRefusal.TheVariants as project
 use Rattle.support.specs.declared.faults.refusal.Refusal.{Refusal}
 use Rattle.support.specs.declared.faults.refusal.Refusal.TheVariants as refusals
 

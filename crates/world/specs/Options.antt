@@ -1,7 +1,7 @@
 -- Reads the values of options.
 use Rattle.std.specs.Prelude.{ℕ, List, [], Option, Some}
-use Rattle.machine.specs.option_values.Values as option
-use Rattle.machine.specs.option_values.Settings.{value_named, Setting}
+use Rattle.option_values.specs.Values as option
+use Rattle.option_values.specs.Settings.{value_named, Setting}
 
 -- Returns the text of an option's value, which is empty for any other type.
 abbrev pub text_of : Option option.Value → List ℕ

@@ -13,7 +13,7 @@ pub data Outcome (A : Type 0) : Type 0 where
 pub data Run (A : Type 0) : Type 0 where
   ran : Outcome A → World → List Mark → Run A
 
--- An act: what is run in a world.
+-- An act returns a run for each world in which it begins.
 abbrev pub Act : Type 0 → Type 0
 Act A = World → Run A
 

@@ -1,12 +1,12 @@
 -- Defines the world in which a run begins.
 use Rattle.std.specs.Prelude.{List, [], None, false, codes}
-use Rattle.machine.specs.machine_file.Files.{Section}
+use Rattle.machine_file.specs.Files.{Section}
 use Rattle.build.specs.project.World.{new_world}
 use Rattle.build.specs.Data.{FactsData, FlagsData}
 use Rattle.world.specs.Settings.{SettingsData}
 use Rattle.world.specs.World.{World}
 
--- The flags of a project before `project` is called.
+-- Returns the flags of a project before `project` is called: all are off, empty or 0.
 abbrev pub no_flags : FlagsData
 no_flags = record {
   warning_level = 0;
@@ -18,9 +18,9 @@ no_flags = record {
   c_link_args = [];
 }
 
--- Returns what is known of a project before `project` is called: the directories.
-abbrev pub unnamed : SettingsData → FactsData
-unnamed s = record {
+-- Returns the facts of a project before `project` is called: its directories. All else is empty or off.
+abbrev pub facts_before_project : SettingsData → FactsData
+facts_before_project s = record {
   name = [];
   version = [];
   license = [];
@@ -46,7 +46,7 @@ first_world s machine = record {
     options = [];
     configurations = [];
     is_begun = false;
-    project = new_world (unnamed s);
+    project = new_world (facts_before_project s);
   };
   machine = machine;
   entered = [];

@@ -4,10 +4,10 @@ use Rattle.code.specs.Names.{number_in}
 use Rattle.values.specs.Data.{Data}
 use Rattle.values.specs.View.{data_of}
 use Rattle.values.specs.declared.value.Value.{Value}
-use Rattle.machine.specs.machine_file.Files.{Section}
-use Rattle.machine.specs.option_values.Settings.{Setting}
-use Rattle.machine.specs.option_values.SettingsView.{options_in}
-use Rattle.machine.specs.declared.option_values.settings.Options.{Options}
+use Rattle.machine_file.specs.Files.{Section}
+use Rattle.option_values.specs.Settings.{Setting}
+use Rattle.option_values.specs.SettingsView.{options_in}
+use Rattle.option_values.specs.declared.settings.Options.{Options}
 use Rattle.build.specs.project.World.{WorldData}
 use Rattle.template.specs.Config.{Configuration}
 use Rattle.world.specs.Settings.{SettingsData}
@@ -20,14 +20,20 @@ pub record Kept : Type 0 where
   pub line : ℕ
   pub settings : SettingsData
   pub names : List (List ℕ)
+  -- The values of the variables, each in the slot with the number of its name. A variable without a value has none.
   pub slots : List (Option Value)
   pub machine : List Section
   pub options : List Setting
+  -- The configuration data, by number.
   pub configurations : List Configuration
+  -- Whether `project` was called.
   pub is_begun : Bool
   pub project : WorldData
+  -- The folders that were entered, in order.
   pub entered : List (List ℕ)
+  -- The paths that were looked at, in order.
   pub looked : List (List ℕ)
+  -- The questions that were asked of the machine file, in order.
   pub asked : List Asked
 
 -- Returns the options, if they are already set.
@@ -64,5 +70,5 @@ world_of k = record {
 }
 
 -- Changes the facts of a world.
-abbrev pub changing : (Facts → Facts) → World → World
-changing f w = with_facts w (f w.facts)
+abbrev pub world_after_change : (Facts → Facts) → World → World
+world_after_change f w = with_facts w (f w.facts)

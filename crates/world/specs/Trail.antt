@@ -1,7 +1,7 @@
 -- Defines texts as slices of one text.
 use Rattle.std.specs.Prelude.{ℕ, ◌+◌, leb, Bool, List, map, take, drop, length}
 use Rattle.std.specs.List.{list_all}
-use Rattle.world.specs.declared.trail.Span.{Span}
+use Rattle.world.specs.declared.text_buffer.Span.{Span}
 
 -- Returns the slice of a text.
 abbrev pub piece : List ℕ → Span → List ℕ

@@ -1,22 +1,22 @@
--- Defines the world in which build files are evaluated.
+-- Defines the world in which definition files are evaluated.
 use Rattle.std.specs.Prelude.{◌≡◌, ℕ, Bool, true, false, List, [], ◌∷◌, ◌++◌, Option, if◌then◌else◌}
 use Rattle.std.specs.Str.{bytes_eq}
 use Rattle.values.specs.Data.{Data}
 use Rattle.build.specs.edge.Texts.{first_kept}
 use Rattle.support.specs.Faults.{FaultData}
 use Rattle.support.specs.declared.faults.refusal.Refusal.{Refusal}
-use Rattle.machine.specs.machine_file.Files.{Section}
-use Rattle.machine.specs.machine_file.Questions.{Question}
-use Rattle.machine.specs.option_values.Settings.{Setting}
+use Rattle.machine_file.specs.Files.{Section}
+use Rattle.machine_file.specs.Questions.{Question}
+use Rattle.option_values.specs.Settings.{Setting}
 use Rattle.build.specs.project.Adding.{with_absent, with_present}
 use Rattle.build.specs.project.World.{WorldData, new_world}
 use Rattle.build.specs.Data.{FactsData}
 use Rattle.template.specs.Config.{Configuration}
 use Rattle.world.specs.Settings.{SettingsData}
 
--- What a call may read and change.
+-- The facts that a call may read and change.
 pub record Facts : Type 0 where
-  -- The present build file, its folder, and the line in it.
+  -- The present definition file, its folder, and the line in it.
   pub file : List ℕ
   pub folder : List ℕ
   pub line : ℕ
@@ -52,8 +52,8 @@ abbrev pub with_facts : World → Facts → World
 with_facts w facts = record w { facts = facts }
 
 -- Returns the world after a folder was entered.
-abbrev pub entering : World → List ℕ → World
-entering w folder = record w { entered = w.entered ++ folder ∷ [] }
+abbrev pub world_in_folder : World → List ℕ → World
+world_in_folder w folder = record w { entered = w.entered ++ folder ∷ [] }
 
 -- Returns a fault at the present place.
 abbrev pub fault_here : World → Refusal → List ℕ → FaultData
@@ -101,13 +101,13 @@ begun_project facts before =
     record (new_world facts) { present = first_kept before.present; absent = first_kept before.absent }
 
 -- Returns the facts after `project` was called with these facts of the project.
-abbrev pub begun : FactsData → Facts → Facts
-begun facts f = record f { is_begun = true; project = begun_project facts f.project }
+abbrev pub facts_after_project : FactsData → Facts → Facts
+facts_after_project facts f = record f { is_begun = true; project = begun_project facts f.project }
 
 -- Returns the project after it notes a path as present or absent.
-abbrev pub noted : List ℕ → Bool → WorldData → WorldData
-noted path true project = with_present project path
-noted path false project = with_absent project path
+abbrev pub project_with_path : List ℕ → Bool → WorldData → WorldData
+project_with_path path true project = with_present project path
+project_with_path path false project = with_absent project path
 
 -- Returns the paths that the project has noted as present, and those noted as absent.
 abbrev pub noted_in : WorldData → List (List ℕ) × List (List ℕ)
@@ -126,13 +126,13 @@ abbrev pub LeavesPaths : (Facts → Facts) → Type 0
 LeavesPaths f = (facts : Facts) → paths_in (f facts).project ≡ paths_in facts.project
 
 -- Changes the project by `f`.
-abbrev pub declaring : (WorldData → WorldData) → Facts → Facts
-declaring f facts = with_project (f facts.project) facts
+abbrev pub facts_after_declaration : (WorldData → WorldData) → Facts → Facts
+facts_after_declaration f facts = with_project (f facts.project) facts
 
 -- Returns the world after a path was looked at.
-abbrev pub looking : World → List ℕ → Bool → World
-looking w path is_there = record {
-  facts = with_project (noted path is_there w.facts.project) w.facts;
+abbrev pub world_after_look : World → List ℕ → Bool → World
+world_after_look w path is_there = record {
+  facts = with_project (project_with_path path is_there w.facts.project) w.facts;
   machine = w.machine;
   entered = w.entered;
   looked = w.looked ++ path ∷ [];
@@ -146,5 +146,5 @@ abbrev pub asked_here : World → Question → Asked
 asked_here w question = record { question = question; file = w.facts.file; line = w.facts.line }
 
 -- Returns the world after a question was asked.
-abbrev pub asking : World → Question → World
-asking w question = record w { asked = w.asked ++ asked_here w question ∷ [] }
+abbrev pub world_after_question : World → Question → World
+world_after_question w question = record w { asked = w.asked ++ asked_here w question ∷ [] }

@@ -1,28 +1,28 @@
 //! Defines what the code of a function works on: the world of a run and its devices.
 ghost use Rattle.std.specs.Prelude.{◌≡◌, string_bytes};
 ghost use Rattle.world.specs.Answering.{IsAnswered, IsFitting, Refuses};
-ghost use Rattle.machine.specs.machine_file.Questions.{Key, answer_to, plain};
-ghost use Rattle.machine.specs.machine_file.QuestionsView.{question_in};
-ghost use Rattle.world.specs.Deed.{consult, need, required, say, there};
+ghost use Rattle.machine_file.specs.Questions.{Key, answer_to, plain};
+ghost use Rattle.machine_file.specs.QuestionsView.{question_in};
+ghost use Rattle.world.specs.Deed.{consult, need, required_file, say, there};
 ghost use Rattle.world.specs.Store.{world_of};
 ghost use Rattle.world.specs.World.{fault_here};
 
-mod configuring;
-mod declaring;
-mod fitting;
-mod here;
-mod ruling;
+mod argument_check;
+mod call_place;
+mod configuration;
+mod declarations;
+mod rule_checks;
 
 use crate::operation::of_operation;
 use crate::stop::Stop;
 use crate::store::Store;
-pub use here::Here;
-use machine::machine_file::{Question, Topic};
+pub use call_place::Here;
+use machine_file::{Question, Topic};
 use ports::{Outputs, Tree, log_all};
 use std::alloc::Global;
 use support::faults::Refusal;
 
-/// The context of a call: the world of the run and the devices.
+/// Holds the context of a call: the world of the run and the devices.
 #[derive(Drop)]
 pub struct Caller<'a, T, O> {
     pub alloc: Global,
@@ -43,7 +43,7 @@ impl<'a, T: Tree, O: Outputs> Caller<'a, T, O> {
     }
 
     /// Returns the value of an operation on values, or stops with its refusal.
-    pub fn answer<A>(&self, answer: Result<A, values::Refusal>) -> Result<A, Stop>
+    pub fn answer<A>(&self, answer: Result<A, values::OperationRefusal>) -> Result<A, Stop>
         ensures { IsAnswered (world_of self.now.store.now) answer result }
     {
         match answer {
@@ -87,7 +87,7 @@ impl<'a, T: Tree, O: Outputs> Caller<'a, T, O> {
     /// Refuses the call unless a file is at this path (E14).
     pub fn require_file(&mut self, path: &str) -> Result<(), Stop>
         requires { MayFail T.seen O.seen self.old }
-        ensures { Does T.seen O.seen (λ u. u) (required path.now) self.old result self.new }
+        ensures { Does T.seen O.seen (λ u. u) (required_file path.now) self.old result self.new }
     {
         let path = String::from_str(self.alloc, path)?;
         self.require_own_file(path)
@@ -96,7 +96,7 @@ impl<'a, T: Tree, O: Outputs> Caller<'a, T, O> {
     /// Refuses the call unless a file is at this path, which is passed by value.
     pub fn require_own_file(&mut self, path: String) -> Result<(), Stop>
         requires { MayFail T.seen O.seen self.old }
-        ensures { Does T.seen O.seen (λ u. u) (required (string_bytes path)) self.old result self.new }
+        ensures { Does T.seen O.seen (λ u. u) (required_file (string_bytes path)) self.old result self.new }
     {
         let size = self.tree.size(&path)?;
         let found = size.is_some();

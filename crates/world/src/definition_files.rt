@@ -1,6 +1,6 @@
-//! Finds build files, reads their bytes, and refuses bad ones.
-mod finding;
-mod reading;
+//! Finds definition files, reads their bytes, and refuses bad ones.
+mod contents;
+mod lookup;
 
-pub use finding::{Found, MOST_BYTES, find};
-pub use reading::{line_at, read_file, refusal_of};
+pub use contents::{line_at, read_file, refusal_of};
+pub use lookup::{Found, MOST_BYTES, find};

@@ -1,7 +1,7 @@
-//! Defines the world in which build files are evaluated, and the terms in which evaluation is described.
+//! Defines the world in which definition files are evaluated, and the terms in which evaluation is described.
 //!
-//! A *world* has the present place, the variables, the project so far, the folders entered and the paths looked at. What a function does
-//! with its evaluated arguments is a *deed*, and what evaluation does is a *plan*. Both are descriptions made from a few steps, which
+//! A *world* has the present place, the variables, the project so far, the folders entered and the paths looked at. A *deed* is what a
+//! function does with its evaluated arguments, and a *plan* is what evaluation does. Both are descriptions made from a few steps, which
 //! compute to a *run*. A run is a value or a fault, the world after it, and the *marks* that it leaves: the steps sent to the outputs, and
 //! the ends of rules.
 //!
@@ -19,7 +19,7 @@
 //! total only `tick` raises. A machine integer would need a bound on the steps of a run.
 #![tactic(auto)]
 
-mod asked;
+mod asked_question;
 mod caller;
 pub mod definition_files;
 mod operation;
@@ -27,9 +27,9 @@ mod settings;
 mod steps;
 mod stop;
 mod store;
-mod trail;
+mod text_buffer;
 
-pub use asked::Asked;
+pub use asked_question::Asked;
 pub use caller::{Caller, Here};
 pub use operation::of_operation;
 pub use settings::{Settings, SettingsFault};

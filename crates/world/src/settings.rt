@@ -7,7 +7,7 @@ use std::alloc::{AllocError, Global};
 use support::paths::{depth_of, is_absolute, path_below, tidy_folder};
 use thiserror::Error;
 
-/// The reason why there are no [`Settings`] for some arguments.
+/// Says why there are no [`Settings`] for some arguments.
 #[derive(Clone, Copy, Debug, PartialEq, Eq, Drop, Error)]
 pub enum SettingsFault {
     /// The source root does not begin with `/`.
@@ -31,7 +31,7 @@ impl From<AllocError> for SettingsFault {
     }
 }
 
-/// The settings of a run: the option arguments, the source root and the build directory.
+/// Holds the settings of a run: the option arguments, the source root and the build directory.
 ///
 /// They are always valid: both roots are absolute, and the build directory is 1 to 64 levels below the source root.
 #[derive(Drop)]

@@ -6,10 +6,10 @@ use std::alloc::{AllocError, AllocFailed};
 use support::faults::Fault;
 use thiserror::Error;
 
-/// The reason why an evaluation returned no value.
+/// Says why an evaluation returned no value.
 #[derive(Debug, Drop, Error)]
 pub enum Stop {
-    /// The build files are refused.
+    /// The definition files are refused.
     #[error(transparent)]
     Refused(Fault),
     /// A device failed.

@@ -6,32 +6,32 @@ ghost use Rattle.code.specs.Code.{code_tree};
 ghost use Rattle.code.specs.Draft.{IsFront};
 ghost use Rattle.values.specs.View.{data_of};
 ghost use Rattle.syntax.specs.Tree.{file_of};
-ghost use Rattle.machine.specs.machine_file.QuestionsView.{question_in};
-ghost use Rattle.machine.specs.machine_file.View.{machine_in};
-ghost use Rattle.machine.specs.option_values.View.{value_in};
-ghost use Rattle.machine.specs.option_values.Settings.{value_named};
-ghost use Rattle.machine.specs.option_values.SettingsView.{options_in};
+ghost use Rattle.machine_file.specs.QuestionsView.{question_in};
+ghost use Rattle.machine_file.specs.View.{machine_in};
+ghost use Rattle.option_values.specs.View.{value_in};
+ghost use Rattle.option_values.specs.Settings.{value_named};
+ghost use Rattle.option_values.specs.SettingsView.{options_in};
 ghost use Rattle.build.specs.View.{facts_view, flags_view};
 ghost use Rattle.world.specs.Answering.{Refuses};
 ghost use Rattle.world.specs.AskedView.{all_asked_in};
 ghost use Rattle.world.specs.SettingsView.{settings_view};
 ghost use Rattle.world.specs.Options.{option_text};
-ghost use Rattle.world.specs.Start.{first_world, no_flags, unnamed};
-ghost use Rattle.world.specs.Store.{changing, slot_value, world_of};
-ghost use Rattle.world.specs.World.{asking, entering, with_line, with_options, with_place, with_variable};
+ghost use Rattle.world.specs.Start.{first_world, no_flags, facts_before_project};
+ghost use Rattle.world.specs.Store.{world_after_change, slot_value, world_of};
+ghost use Rattle.world.specs.World.{world_after_question, world_in_folder, with_line, with_options, with_place, with_variable};
 
-mod configuring;
-mod declaring;
+mod configuration;
+mod declarations;
 
-use crate::asked::Asked;
+use crate::asked_question::Asked;
 use crate::settings::Settings;
 use crate::stop::Stop;
-use crate::trail::Trail;
+use crate::text_buffer::Trail;
 use build::project::Project;
 use build::{Facts, Flags};
 use code::{Code, Names, flatten};
-use machine::machine_file::{Machine, Question};
-use machine::option_values::{OptionValue, Options};
+use machine_file::{Machine, Question};
+use option_values::{OptionValue, Options};
 use std::alloc::{AllocError, Global};
 use std::marker::Model;
 use std::mem;
@@ -41,10 +41,10 @@ use syntax::tree::File;
 use template::ConfigData;
 use values::Value;
 
-/// A place in the build files.
+/// Holds a place in the definition files.
 #[derive(Drop)]
 pub struct Place {
-    /// The build file.
+    /// The definition file.
     pub file: String,
     /// The folder of the file, empty for the root.
     pub folder: String,
@@ -52,7 +52,7 @@ pub struct Place {
     pub line: usize,
 }
 
-/// The world of a run. The value of each variable is in the slot with the number of its name.
+/// Holds the world of a run. The value of each variable is in the slot with the number of its name.
 pub struct Store {
     place: Place,
     settings: Settings,
@@ -90,7 +90,7 @@ impl Drop for Store {
 impl Model for Store {
     ghost use Rattle.std.specs.Prelude.{◌≤◌, length, string_bytes};
     ghost use Rattle.world.specs.SettingsView.{settings_view};
-    ghost use Rattle.machine.specs.machine_file.View.{machine_in};
+    ghost use Rattle.machine_file.specs.View.{machine_in};
     ghost use Rattle.world.specs.AskedView.{all_asked_in};
     ghost use Rattle.world.specs.Store.{Kept, options_of};
 
@@ -160,7 +160,7 @@ fn take_value(slots: &mut Vec<Option<Value>>, number: usize) -> Option<Value>
 
 // Returns what is known of a project before `project` is called.
 fn unnamed_facts(alloc: Global, settings: &Settings) -> Result<Facts, AllocError>
-    ensures { IfOk result (λ f. facts_view f ≡ unnamed (settings_view settings.now)) }
+    ensures { IfOk result (λ f. facts_view f ≡ facts_before_project (settings_view settings.now)) }
 {
     Ok(Facts {
         name: String::new(alloc),
@@ -219,14 +219,14 @@ impl Store {
 
     // ---- the place
 
-    /// Returns the present build file.
+    /// Returns the present definition file.
     pub fn file(&self) -> &str
         ensures { result.now ≡ self.now.file }
     {
         self.place.file.as_str()
     }
 
-    /// Returns the folder of the present build file, empty for the root.
+    /// Returns the folder of the present definition file, empty for the root.
     pub fn folder(&self) -> &str
         ensures { result.now ≡ self.now.folder }
     {
@@ -259,7 +259,7 @@ impl Store {
 
     /// Makes a line the present one.
     pub fn at(&mut self, line: usize)
-        ensures world { world_of self.new ≡ changing (with_line line) (world_of self.old) }
+        ensures world { world_of self.new ≡ world_after_change (with_line line) (world_of self.old) }
         ensures names { self.new.names ≡ self.old.names }
     {
         self.place.line = line;
@@ -268,7 +268,7 @@ impl Store {
     /// Makes a place the present one, and returns the place before.
     pub fn go(&mut self, place: Place) -> Place
         ensures moved { world_of self.new
-            ≡ changing (with_place (string_bytes place.file) (string_bytes place.folder) place.line) (world_of self.old) }
+            ≡ world_after_change (with_place (string_bytes place.file) (string_bytes place.folder) place.line) (world_of self.old) }
         ensures names { self.new.names ≡ self.old.names }
         ensures file { string_bytes result.file ≡ self.old.file }
         ensures folder { string_bytes result.folder ≡ self.old.folder }
@@ -347,7 +347,8 @@ impl Store {
     /// Sets the variable with a name, which may be new, to a value.
     pub fn set(&mut self, name: &str, value: Value) -> Result<(), AllocError>
         ensures names { IsFront self.old.names self.new.names }
-        ensures world { OnOk result (world_of self.new ≡ changing (with_variable name.now (Some (data_of value))) (world_of self.old)) }
+        ensures world { OnOk result
+            (world_of self.new ≡ world_after_change (with_variable name.now (Some (data_of value))) (world_of self.old)) }
     {
         let number = self.names.put(name)?;
         reach(&mut self.slots, number)?;
@@ -360,7 +361,7 @@ impl Store {
     pub fn put(&mut self, number: usize, value: Value) -> Result<(), AllocError>
         ensures names { self.new.names ≡ self.old.names }
         ensures world { number < length self.old.names → OnOk result (world_of self.new
-            ≡ changing (with_variable (slice_index_or self.old.names number []) (Some (data_of value))) (world_of self.old)) }
+            ≡ world_after_change (with_variable (slice_index_or self.old.names number []) (Some (data_of value))) (world_of self.old)) }
     {
         let count = self.names.len();
         if number >= count {
@@ -376,7 +377,7 @@ impl Store {
         ensures value { number < length self.old.names
             → option_map data_of result ≡ (world_of self.old).facts.variables (slice_index_or self.old.names number []) }
         ensures world { number < length self.old.names
-            → world_of self.new ≡ changing (with_variable (slice_index_or self.old.names number []) None) (world_of self.old) }
+            → world_of self.new ≡ world_after_change (with_variable (slice_index_or self.old.names number []) None) (world_of self.old) }
         ensures names { self.new.names ≡ self.old.names }
     {
         let _distinct = self.names.len();
@@ -385,7 +386,7 @@ impl Store {
 
     /// Unsets the variable with a name.
     pub fn unset(&mut self, name: &str)
-        ensures world { world_of self.new ≡ changing (with_variable name.now None) (world_of self.old) }
+        ensures world { world_of self.new ≡ world_after_change (with_variable name.now None) (world_of self.old) }
         ensures names { self.new.names ≡ self.old.names }
     {
         if let Some(number) = self.names.number_of(name) {
@@ -402,9 +403,9 @@ impl Store {
         &self.machine
     }
 
-    /// Records that a question is asked of the machine file, at the present place.
+    /// Records a question to the machine file, at the present place.
     pub fn ask(&mut self, alloc: Global, question: Question) -> Result<(), AllocError>
-        ensures world { OnOk result (world_of self.new ≡ asking (world_of self.old) (question_in question)) }
+        ensures world { OnOk result (world_of self.new ≡ world_after_question (world_of self.old) (question_in question)) }
         ensures machine { self.new.machine ≡ self.old.machine }
         ensures names { self.new.names ≡ self.old.names }
     {
@@ -447,7 +448,7 @@ impl Store {
 
     /// Sets the options.
     pub fn set_options(&mut self, options: Options)
-        ensures world { world_of self.new ≡ changing (with_options (options_in options)) (world_of self.old) }
+        ensures world { world_of self.new ≡ world_after_change (with_options (options_in options)) (world_of self.old) }
         ensures names { self.new.names ≡ self.old.names }
     {
         self.options = Some(options);
@@ -472,7 +473,7 @@ impl Store {
     /// Records that a folder is entered, which was not entered before.
     pub fn enter(&mut self, folder: &str) -> Result<(), AllocError>
         requires { list_any (bytes_eq folder.now) self.old.entered ≡ false }
-        ensures world { OnOk result (world_of self.new ≡ entering (world_of self.old) folder.now) }
+        ensures world { OnOk result (world_of self.new ≡ world_in_folder (world_of self.old) folder.now) }
         ensures names { self.new.names ≡ self.old.names }
     {
         self.entered.put(folder)?;

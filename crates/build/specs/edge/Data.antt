@@ -1,11 +1,11 @@
 -- Defines an edge as plain data, without its place in memory.
 use Rattle.std.specs.Prelude.{List, Option}
 use Rattle.build.specs.edge.Texts.{Path, Text}
-use Rattle.build.specs.declared.edge.rule.Rule.{Rule}
+use Rattle.build.specs.declared.edge.rule.EdgeRule.{EdgeRule}
 
 -- A build edge: what Ninja makes, from what, and by which command.
 pub record EdgeData : Type 0 where
-  pub rule : Rule
+  pub rule : EdgeRule
   pub outputs : List Path
   -- The inputs that the rule's command names.
   pub inputs : List Path
@@ -17,6 +17,7 @@ pub record EdgeData : Type 0 where
   pub words : List Text
   -- The path that receives the command's output.
   pub redirect : Option Path
+  -- The text that Ninja prints while the command runs.
   pub description : Text
   -- The file in which the compiler lists what it has read.
   pub depfile : Option Path

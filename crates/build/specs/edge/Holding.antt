@@ -8,6 +8,7 @@ use Rattle.build.specs.edge.Data.{EdgeData}
 abbrev pub path_byte_held : ℕ → Bool
 path_byte_held b = nat_le 32 b && not ((b == 127) || ((b == 35) || (b == 124)))
 
+-- Returns whether `build.ninja` can hold each byte of the path. This holds of an empty path too.
 abbrev pub path_held : Path → Bool
 path_held path = list_all path_byte_held path
 
@@ -15,6 +16,7 @@ path_held path = list_all path_byte_held path
 abbrev pub value_byte_held : ℕ → Bool
 value_byte_held b = not ((b == 0) || ((b == 10) || (b == 13)))
 
+-- Returns whether `build.ninja` can hold each byte of the text in the value of a variable. This holds of an empty text too.
 abbrev pub value_held : Text → Bool
 value_held text = list_all value_byte_held text
 
@@ -23,10 +25,12 @@ abbrev pub is_path : Path → Bool
 is_path [] = false
 is_path (b ∷ bs) = path_held (b ∷ bs)
 
+-- Returns whether the list has at least one text.
 abbrev pub is_some_list : List Text → Bool
 is_some_list [] = false
 is_some_list (t ∷ ts) = true
 
+-- Returns whether `build.ninja` can hold the value, if there is one.
 abbrev pub value_held_if : Option Text → Bool
 value_held_if None = true
 value_held_if (Some value) = value_held value
@@ -47,5 +51,6 @@ values_writable e =
 abbrev pub is_writable : EdgeData → Bool
 is_writable e = paths_writable e && values_writable e
 
+-- Returns whether `build.ninja` can hold each of the edges.
 abbrev pub are_writable : List EdgeData → Bool
 are_writable edges = list_all is_writable edges

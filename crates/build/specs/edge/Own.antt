@@ -7,6 +7,7 @@ use Rattle.build.specs.declared.edge.parts.LentEdge.{LentEdge}
 use Rattle.build.specs.declared.edge.parts.OwnParts.{OwnParts}
 use Rattle.build.specs.declared.edge.parts.SharedParts.{SharedParts}
 
+-- Returns the own parts of an edge as plain data, with each borrowed text as its bytes.
 abbrev pub own_view : OwnParts → OwnData
 own_view o = record {
   output = o.output.now;
@@ -30,5 +31,6 @@ lent_view e = record {
   depfile = option_map (λ t. t.now) e.depfile;
 }
 
+-- Returns the shared parts of edges as plain data, with each text as its bytes.
 abbrev pub shared_view : SharedParts → SharedData
 shared_view s = record { rule = s.rule; order_only = texts s.order_only.now; words = texts s.words.now }

@@ -2,26 +2,31 @@
 use Rattle.std.specs.Prelude.{List, [], ◌∷◌, ◌++◌, Some, None}
 use Rattle.build.specs.edge.Texts.{Path, Text}
 use Rattle.build.specs.edge.Data.{EdgeData}
-use Rattle.build.specs.declared.edge.rule.Rule.{Rule}
+use Rattle.build.specs.declared.edge.rule.EdgeRule.{EdgeRule}
 
--- What edges share.
+-- The parts that several edges share: their rule, their order-only paths and the first words of their commands.
 pub record SharedData : Type 0 where
-  pub rule : Rule
+  pub rule : EdgeRule
+  -- Paths that are only made earlier.
   pub order_only : List Path
   -- The first words of the command.
   pub words : List Text
 
--- What is an edge's own: one output and one input.
+-- The parts that belong to one edge, which has one output and one input.
 pub record OwnData : Type 0 where
   pub output : Path
   pub input : Path
   -- The last words of the command.
   pub words : List Text
+  -- The text that Ninja prints while the command runs.
   pub description : Text
+  -- The file in which the compiler lists what it has read.
   pub depfile : Path
 
-abbrev pub joined : SharedData → OwnData → EdgeData
-joined s o = record {
+-- Returns the edge with these parts. Its command is the shared words, followed by its own ones. It has no implicit inputs and no
+-- redirection.
+abbrev pub edge_of_parts : SharedData → OwnData → EdgeData
+edge_of_parts s o = record {
   rule = s.rule;
   outputs = o.output ∷ [];
   inputs = o.input ∷ [];

@@ -3,6 +3,7 @@ pub use Rattle.support.specs.Texts.{texts}
 use Rattle.std.specs.Prelude.{ℕ, Bool, List, [], ◌∷◌, ◌++◌, bytes_eq, if◌then◌else◌}
 use Rattle.std.specs.List.{list_any}
 
+-- A text is the list of its bytes.
 abbrev pub Text : Type 0
 Text = List ℕ
 

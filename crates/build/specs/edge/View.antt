@@ -4,6 +4,7 @@ use Rattle.build.specs.edge.Texts.{texts}
 use Rattle.build.specs.edge.Data.{EdgeData}
 use Rattle.build.specs.declared.edge.edge.Edge.{Edge}
 
+-- Returns an edge of the code as plain data, with each string as its bytes. Nothing is left out.
 abbrev pub edge_view : Edge → EdgeData
 edge_view e = record {
   rule = e.rule;

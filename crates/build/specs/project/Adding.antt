@@ -12,18 +12,19 @@ use Rattle.build.specs.Data.{SurroundingsData, SourceData, Tree, Built, Made, Li
 use Rattle.build.specs.Sources.{all_sources, is_c, has_foreign}
 use Rattle.support.specs.paths.Paths.{path_in}
 use Rattle.build.specs.Files.{file_name, link_names}
-use Rattle.build.specs.Libraries.{LinkedData, linked, linked_of, links_libraries}
+use Rattle.build.specs.Libraries.{DeclaredTargetData, declared_target, linked_of, links_libraries}
 use Rattle.build.specs.target_edges.Edges.{edges_of}
 use Rattle.build.specs.project.Laws.{first_taken, outputs_of}
-use Rattle.build.specs.project.Refused.{RefusedData, refused}
-use Rattle.build.specs.project.Unheld.{unheld, unheld_word}
+use Rattle.build.specs.project.Refused.{RefusedData, refusal_for_text}
+use Rattle.build.specs.project.Unheld.{unheld_text, unheld_word}
 use Rattle.build.specs.project.World.{WorldData, AnswerData, InstallData, TestData, made_in, taken_in}
-use Rattle.build.specs.declared.project.fitting.ListOf.{ListOf}
-use Rattle.build.specs.declared.project.fitting.ListOf.TheVariants.{OfSources, OfFolders, OfCompileArgs, OfLinkArgs, OfLibraries}
-use Rattle.build.specs.declared.project.refusal.Refusal.TheVariants.{Arguments, Missing, Unholdable, Duplicate, Limit, Late}
+use Rattle.build.specs.declared.project.acceptance.ListOf.{ListOf}
+use Rattle.build.specs.declared.project.acceptance.ListOf.TheVariants.{OfSources, OfFolders, OfCompileArgs, OfLinkArgs, OfLibraries}
+use Rattle.build.specs.declared.project.refusal.ProjectRefusal.TheVariants.{Arguments, Missing, Unholdable, Duplicate, Limit, Late}
 
 -- ---- names (E9)
 
+-- Returns whether the first byte of the text is `-`.
 abbrev pub begins_with_dash : Text → Bool
 begins_with_dash [] = false
 begins_with_dash (b ∷ bs) = b == 45
@@ -77,7 +78,7 @@ optional_file_name None = true
 optional_file_name (Some name) = is_file_name name
 
 -- Returns whether an executable or a library is allowed, by its folder, names, sources and libraries.
-abbrev pub build_fits : (earlier : List LinkedData) → BuildData → Bool
+abbrev pub build_fits : (earlier : List DeclaredTargetData) → BuildData → Bool
 build_fits earlier t = is_folder t.folder && (names_fit t && (not (has_foreign t) && (has_c t && links_libraries earlier t)))
 
 -- Returns whether a custom target is allowed, by its folder and names.
@@ -85,7 +86,7 @@ abbrev pub custom_fits : CustomData → Bool
 custom_fits t = is_folder t.folder && (list_all is_file_name t.outputs && optional_file_name t.depfile)
 
 -- Returns whether a target is allowed, given the earlier targets.
-abbrev pub target_fits : (earlier : List LinkedData) → TargetData → Bool
+abbrev pub target_fits : (earlier : List DeclaredTargetData) → TargetData → Bool
 target_fits earlier (Build t) = build_fits earlier t
 target_fits earlier (Custom t) = custom_fits t
 
@@ -118,7 +119,7 @@ paths_in (Built path) = 1
 paths_in (Made paths) = length paths
 
 -- Returns whether no list of the target is too long. For a custom target, the words of its command and the paths that it needs are lists
--- too, besides those of its declaration.
+-- too, in addition to those of its declaration.
 abbrev pub is_within : TargetData → Bool
 is_within (Build t) =
     is_short OfSources t && (is_short OfFolders t && (is_short OfCompileArgs t && (is_short OfLinkArgs t && is_short OfLibraries t)))
@@ -128,7 +129,7 @@ is_within (Custom t) = nat_le t.longest items && (nat_le (length t.words) items 
 
 -- Returns the edges that the target would have.
 abbrev pub edges_with : WorldData → TargetData → List EdgeData
-edges_with w t = edges_of w.surroundings (linked_of w.targets) (linked (linked_of w.targets) t)
+edges_with w t = edges_of w.surroundings (linked_of w.targets) (declared_target (linked_of w.targets) t)
 
 -- Returns the project with a target.
 abbrev pub with_target : WorldData → TargetData → WorldData
@@ -136,13 +137,13 @@ with_target w t = record w { targets = w.targets ++ t ∷ [] }
 
 -- Refuses a path that is taken, or else returns this answer.
 abbrev pub unless_taken : {X : Type 0} → (taken : Option Path) → Result X RefusedData → Result X RefusedData
-unless_taken (Some path) answer = Err (refused Duplicate path)
+unless_taken (Some path) answer = Err (refusal_for_text Duplicate path)
 unless_taken None answer = answer
 
 -- Returns the number of a target whose paths nothing else makes and whose lists are short enough.
 abbrev pub place_answer : WorldData → (paths : List Path) (within : Bool) → Result ℕ RefusedData
 place_answer w paths within =
-    unless_taken (first_taken (taken_in w) paths) (if within then Ok (length w.targets) else Err (refused Limit []))
+    unless_taken (first_taken (taken_in w) paths) (if within then Ok (length w.targets) else Err (refusal_for_text Limit []))
 
 -- Returns the number of the target, or the first reason to refuse it.
 abbrev pub target_answer : WorldData → TargetData → Result ℕ RefusedData
@@ -150,9 +151,9 @@ target_answer w t =
     if is_fit w t then
     (if list_all (is_present w.present) (sources_of t) then
     (if are_writable (edges_with w t) then place_answer w (outputs_of (edges_with w t)) (is_within t)
-    else Err (refused Unholdable (unheld t)))
-    else Err (refused Missing []))
-    else Err (refused Arguments [])
+    else Err (refusal_for_text Unholdable (unheld_text t)))
+    else Err (refusal_for_text Missing []))
+    else Err (refusal_for_text Arguments [])
 
 -- Returns the project after an answer: as it was, if that is a refusal.
 abbrev pub after_answer : {X : Type 0} → Result X RefusedData → (then_ before : WorldData) → WorldData
@@ -166,7 +167,7 @@ after_target w t = after_answer (target_answer w t) (with_target w t) w
 -- ---- the edges of one target
 
 -- Returns the edges of a target, if there is one.
-abbrev pub edges_if : SurroundingsData → (earlier : List LinkedData) → Option LinkedData → List EdgeData
+abbrev pub edges_if : SurroundingsData → (earlier : List DeclaredTargetData) → Option DeclaredTargetData → List EdgeData
 edges_if s earlier None = []
 edges_if s earlier (Some l) = edges_of s earlier l
 
@@ -175,7 +176,7 @@ abbrev pub edges_at : WorldData → ℕ → List EdgeData
 edges_at w n = edges_if w.surroundings (take n (linked_of w.targets)) (slice_get (linked_of w.targets) n)
 
 -- Returns the edges of `count` targets, from a number on.
-abbrev pub edges_between : SurroundingsData → List LinkedData → (count : ℕ) (number : ℕ) → List EdgeData
+abbrev pub edges_between : SurroundingsData → List DeclaredTargetData → (count : ℕ) (number : ℕ) → List EdgeData
 edges_between s ls zero n = []
 edges_between s ls (suc count) n = edges_if s (take n ls) (slice_get ls n) ++ edges_between s ls count (n + 1)
 
@@ -198,11 +199,12 @@ abbrev pub output_answer : WorldData → (folder : Path) (name : Text) → Resul
 output_answer w folder name =
     if is_folder folder && is_file_name name then
     (if path_held (path_in folder name) then place_output_answer w (path_in folder name)
-    else Err (refused Unholdable (path_in folder name)))
-    else Err (refused Arguments [])
+    else Err (refusal_for_text Unholdable (path_in folder name)))
+    else Err (refusal_for_text Arguments [])
 
 -- ---- arguments of the project
 
+-- Returns whether the target is an executable or a library.
 abbrev pub is_build : TargetData → Bool
 is_build (Build t) = true
 is_build (Custom t) = false
@@ -217,8 +219,8 @@ first_build (Custom t ∷ ts) = first_build ts
 abbrev pub arguments_answer : WorldData → List Text → Result (Unit {0}) RefusedData
 arguments_answer w words =
     if list_all value_held words then
-    (if list_any is_build w.targets then Err (refused Late (first_build w.targets)) else Ok tt)
-    else Err (refused Unholdable (unheld_word words))
+    (if list_any is_build w.targets then Err (refusal_for_text Late (first_build w.targets)) else Ok tt)
+    else Err (refusal_for_text Unholdable (unheld_word words))
 
 -- Returns the project with more arguments for all compile commands.
 abbrev pub with_arguments : WorldData → List Text → WorldData
@@ -234,6 +236,7 @@ with_link_arguments w words = record w { surroundings = record w.surroundings { 
 abbrev pub with_present : WorldData → Path → WorldData
 with_present w path = record w { present = put_new w.present path }
 
+-- Notes a path that was looked at and at which the tree has no file, once.
 abbrev pub with_absent : WorldData → Path → WorldData
 with_absent w path = record w { absent = put_new w.absent path }
 
@@ -242,11 +245,14 @@ abbrev pub with_file : WorldData → Path → Bool → WorldData
 with_file w path true = with_present w path
 with_file w path false = with_absent w path
 
+-- Returns the project with the result of one more call of `dependency`, which is last.
 abbrev pub with_dependency : WorldData → AnswerData → WorldData
 with_dependency w answer = record w { dependencies = w.dependencies ++ answer ∷ [] }
 
+-- Returns the project with one more installed file, which is last.
 abbrev pub with_install : WorldData → InstallData → WorldData
 with_install w install = record w { installs = w.installs ++ install ∷ [] }
 
+-- Returns the project with one more test, which is last.
 abbrev pub with_test : WorldData → TestData → WorldData
 with_test w test = record w { tests = w.tests ++ test ∷ [] }

@@ -8,10 +8,12 @@ use Rattle.build.specs.Libraries.{library_numbers}
 use Rattle.build.specs.project.World.{WorldData, made_of}
 use Rattle.build.specs.project.Adding.{sources_of, is_made_source}
 
+-- Returns whether the target is a static or a shared library.
 abbrev pub is_library_target : TargetData → Bool
 is_library_target (Build t) = is_library t.kind
 is_library_target (Custom t) = false
 
+-- Returns whether there is a target and it is a library.
 abbrev pub is_library_if : Option TargetData → Bool
 is_library_if None = false
 is_library_if (Some t) = is_library_target t

@@ -6,6 +6,7 @@ use Rattle.build.specs.edge.Texts.{Path, holds}
 use Rattle.build.specs.edge.Paths.{is_upward}
 use Rattle.build.specs.edge.Data.{EdgeData}
 
+-- Returns the outputs of the edges, in the order of the edges. A path may occur more than once.
 abbrev pub outputs_of : List EdgeData → List Path
 outputs_of edges = flat_map (λ e. e.outputs) edges
 
@@ -42,10 +43,12 @@ all_made known (e ∷ es) = all_held known (needs e) && all_made (known ++ e.out
 
 -- ---- no cycle
 
+-- Returns the outputs of an edge, or no paths if there is no edge.
 abbrev pub outputs_if : Option EdgeData → List Path
 outputs_if None = []
 outputs_if (Some e) = e.outputs
 
+-- Returns the paths that an edge needs, or no paths if there is no edge.
 abbrev pub needs_if : Option EdgeData → List Path
 needs_if None = []
 needs_if (Some e) = needs e

@@ -4,6 +4,7 @@ use Rattle.build.specs.edge.Texts.{texts}
 use Rattle.build.specs.project.View.{NotesData, answer_view, install_view, test_view}
 use Rattle.build.specs.declared.project.project.Notes.{Notes}
 
+-- Returns the notes of the code as plain data. Each set of paths becomes a list, in the order in which they were noted.
 abbrev pub notes_view : Notes → NotesData
 notes_view n = record {
   present = texts n.present.keys;

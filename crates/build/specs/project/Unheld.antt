@@ -6,8 +6,8 @@ use Rattle.build.specs.edge.Texts.{Path, Text}
 use Rattle.build.specs.edge.Holding.{path_held, value_held}
 use Rattle.build.specs.Data.{SourceData, Tree, Built, Made, ListsData, BuildData, CustomData, TargetData, Build, Custom}
 
--- The first, or the second if there is no first.
 infixl 10 ◌or◌
+-- Returns the first text, or the second if there is no first one.
 abbrev pub ◌or◌ : Option Text → Option Text → Option Text
 first or second = option_or first second
 
@@ -25,10 +25,12 @@ unheld_paths paths = find (λ p. not (path_held p)) paths
 abbrev pub unheld_words : List Text → Option Text
 unheld_words words = find (λ w. not (value_held w)) words
 
+-- Returns the path if there is one and `build.ninja` can't hold it.
 abbrev pub unheld_path_if : Option Path → Option Path
 unheld_path_if None = None
 unheld_path_if (Some path) = unheld_path path
 
+-- Returns the word if there is one and `build.ninja` can't hold it.
 abbrev pub unheld_word_if : Option Text → Option Text
 unheld_word_if None = None
 unheld_word_if (Some word) = if value_held word then None else Some word
@@ -39,6 +41,7 @@ unheld_source (Tree path) = unheld_path path
 unheld_source (Built path) = unheld_path path
 unheld_source (Made paths) = None
 
+-- Returns the path of the first source that `build.ninja` can't hold. Outputs of other targets are not checked.
 abbrev pub unheld_sources : List SourceData → Option Path
 unheld_sources [] = None
 unheld_sources (s ∷ ss) = unheld_source s or unheld_sources ss
@@ -67,9 +70,9 @@ unheld_of_custom t =
     or unheld_words t.words or unheld_word_if t.depfile
 
 -- Returns the first text that it can't hold. If there is none, a word of each command is at fault, and the target's name is returned.
-abbrev pub unheld : TargetData → Text
-unheld (Build t) = unwrap_or (unheld_of_build t) t.name
-unheld (Custom t) = unwrap_or (unheld_of_custom t) t.name
+abbrev pub unheld_text : TargetData → Text
+unheld_text (Build t) = unwrap_or (unheld_of_build t) t.name
+unheld_text (Custom t) = unwrap_or (unheld_of_custom t) t.name
 
 -- Returns the first of these words.
 abbrev pub unheld_word : List Text → Text

@@ -7,12 +7,12 @@ use Rattle.std.specs.Prelude.{ℕ, List, [], ◌∷◌, ◌++◌, map, flat_map,
 use Rattle.build.specs.edge.Texts.{Path, Text}
 use Rattle.build.specs.edge.Paths.{object_path}
 use Rattle.build.specs.edge.Data.{EdgeData}
-use Rattle.build.specs.declared.edge.rule.Rule.{Rule}
-use Rattle.build.specs.declared.edge.rule.Rule.TheVariants as rule
+use Rattle.build.specs.declared.edge.rule.EdgeRule.{EdgeRule}
+use Rattle.build.specs.declared.edge.rule.EdgeRule.TheVariants as rule
 use Rattle.build.specs.Data.{SurroundingsData, BuildData, CustomData, TargetData, Build, Custom}
-use Rattle.build.specs.Sources.{InputData, compiled, generated, source_paths}
+use Rattle.build.specs.Sources.{InputData, compiled_inputs, generated_paths, source_paths}
 use Rattle.build.specs.Files.{file_name, file_path, link_paths, object_paths, output_paths, depfile_path, is_static}
-use Rattle.build.specs.Libraries.{LinkedData, linked}
+use Rattle.build.specs.Libraries.{DeclaredTargetData, declared_target}
 use Rattle.build.specs.target_edges.Words.{compile_words, link_words, library_files}
 
 -- ---- compiling
@@ -23,8 +23,8 @@ source_words object depfile source =
     codes "-MD" ∷ codes "-MQ" ∷ object ∷ codes "-MF" ∷ depfile ∷ codes "-o" ∷ object ∷ codes "-c" ∷ source ∷ []
 
 -- Returns the edge that compiles a source. The compiler lists the headers that it has read in `OBJ.d`.
-abbrev pub compiling : (words : List Text) (generated : List Path) (object source : Path) → EdgeData
-compiling words generated object source = record {
+abbrev pub object_edge : (words : List Text) (generated : List Path) (object source : Path) → EdgeData
+object_edge words generated object source = record {
   rule = rule.CCompile;
   outputs = object ∷ [];
   inputs = source ∷ [];
@@ -38,17 +38,17 @@ compiling words generated object source = record {
 
 -- Returns the edge of an input, for the target whose file is `file`.
 abbrev pub compile_edge : (words : List Text) (generated : List Path) (file : Path) → InputData → EdgeData
-compile_edge words generated file i = compiling words generated (object_path file i.name) i.path
+compile_edge words generated file i = object_edge words generated (object_path file i.name) i.path
 
 -- Returns the edges that compile the target's sources.
 abbrev pub compile_edges : SurroundingsData → BuildData → List EdgeData
-compile_edges s t = map (compile_edge (compile_words s t) (generated t) (file_path t)) (compiled s.facts.depth t)
+compile_edges s t = map (compile_edge (compile_words s t) (generated_paths t) (file_path t)) (compiled_inputs s.facts.depth t)
 
 -- ---- the file
 
 -- Returns the edge that puts objects into an archive.
-abbrev pub archiving : (archiver : List Text) (file : Path) (objects : List Path) → EdgeData
-archiving archiver file objects = record {
+abbrev pub archive_edge : (archiver : List Text) (file : Path) (objects : List Path) → EdgeData
+archive_edge archiver file objects = record {
   rule = rule.Ar;
   outputs = file ∷ [];
   inputs = objects;
@@ -61,8 +61,8 @@ archiving archiver file objects = record {
 }
 
 -- Returns the edge that links objects and libraries.
-abbrev pub linking : (words : List Text) (file : Path) (objects libraries : List Path) → EdgeData
-linking words file objects libraries = record {
+abbrev pub link_edge : (words : List Text) (file : Path) (objects libraries : List Path) → EdgeData
+link_edge words file objects libraries = record {
   rule = rule.CLink;
   outputs = file ∷ [];
   inputs = objects;
@@ -75,16 +75,16 @@ linking words file objects libraries = record {
 }
 
 -- Returns the edge that makes the target's file from its objects.
-abbrev pub file_edge : SurroundingsData → List LinkedData → List ℕ → BuildData → (file : Path) (objects : List Path) → EdgeData
+abbrev pub file_edge : SurroundingsData → List DeclaredTargetData → List ℕ → BuildData → (file : Path) (objects : List Path) → EdgeData
 file_edge s earlier ns t file objects =
-    if is_static t.kind then archiving s.facts.archiver file objects
-    else linking (link_words s earlier ns t file objects) file objects (library_files earlier ns)
+    if is_static t.kind then archive_edge s.facts.archiver file objects
+    else link_edge (link_words s earlier ns t file objects) file objects (library_files earlier ns)
 
 -- ---- symbolic links
 
 -- Returns the edge that makes a symbolic link to a file.
-abbrev pub naming : (file : Path) (name : Text) (link : Path) → EdgeData
-naming file name link = record {
+abbrev pub symlink_edge : (file : Path) (name : Text) (link : Path) → EdgeData
+symlink_edge file name link = record {
   rule = rule.Symlink;
   outputs = link ∷ [];
   inputs = file ∷ [];
@@ -98,19 +98,21 @@ naming file name link = record {
 
 -- Returns the edges that make the target's symbolic links.
 abbrev pub link_edges : BuildData → List EdgeData
-link_edges t = map (naming (file_path t) (file_name t)) (link_paths t)
+link_edges t = map (symlink_edge (file_path t) (file_name t)) (link_paths t)
 
 -- ---- custom targets
 
+-- Returns the first path, and none if the list is empty.
 abbrev pub first_of : List Path → Option Path
 first_of [] = None
 first_of (p ∷ ps) = Some p
 
 -- Returns the rule of a custom target, which may have a depfile.
-abbrev pub custom_rule : Option Text → Rule
+abbrev pub custom_rule : Option Text → EdgeRule
 custom_rule None = rule.Custom
 custom_rule (Some depfile) = rule.CustomDep
 
+-- Returns a space and the path, to be appended to a description.
 abbrev pub and_path : Path → Text
 and_path path = codes " " ++ path
 
@@ -131,22 +133,23 @@ custom_edge depth t = record {
 -- ---- all edges
 
 -- Returns the edges of a build target that links these libraries, by their numbers.
-abbrev pub build_edges : SurroundingsData → List LinkedData → List ℕ → BuildData → List EdgeData
+abbrev pub build_edges : SurroundingsData → List DeclaredTargetData → List ℕ → BuildData → List EdgeData
 build_edges s earlier ns t = compile_edges s t ++ (file_edge s earlier ns t (file_path t) (object_paths s.facts.depth t) ∷ link_edges t)
 
 -- Returns the edges of a target that links these libraries.
-abbrev pub target_edges : SurroundingsData → List LinkedData → List ℕ → TargetData → List EdgeData
+abbrev pub target_edges : SurroundingsData → List DeclaredTargetData → List ℕ → TargetData → List EdgeData
 target_edges s earlier ns (Build t) = build_edges s earlier ns t
 target_edges s earlier ns (Custom t) = custom_edge s.facts.depth t ∷ []
 
 -- Returns the edges of a target, given the earlier targets.
-abbrev pub edges_of : SurroundingsData → List LinkedData → LinkedData → List EdgeData
+abbrev pub edges_of : SurroundingsData → List DeclaredTargetData → DeclaredTargetData → List EdgeData
 edges_of s earlier l = target_edges s earlier l.libraries l.target
 
 -- Returns the edges of targets, given the earlier ones.
-abbrev pub edges_after : SurroundingsData → List LinkedData → List TargetData → List EdgeData
+abbrev pub edges_after : SurroundingsData → List DeclaredTargetData → List TargetData → List EdgeData
 edges_after s earlier [] = []
-edges_after s earlier (t ∷ ts) = edges_of s earlier (linked earlier t) ++ edges_after s (earlier ++ linked earlier t ∷ []) ts
+edges_after s earlier (t ∷ ts) =
+    edges_of s earlier (declared_target earlier t) ++ edges_after s (earlier ++ declared_target earlier t ∷ []) ts
 
 -- Returns the edges of all targets, in the order of their declaration.
 abbrev pub all_edges : SurroundingsData → List TargetData → List EdgeData

@@ -5,10 +5,10 @@ use Rattle.build.specs.edge.Texts.{Path, Text}
 use Rattle.build.specs.edge.Paths.{object_path}
 use Rattle.build.specs.edge.Data.{EdgeData}
 use Rattle.build.specs.edge.Holding.{is_path, path_held, value_held, is_some_list}
-use Rattle.build.specs.edge.Parts.{SharedData, OwnData, joined}
-use Rattle.build.specs.declared.edge.rule.Rule.TheVariants as rule
+use Rattle.build.specs.edge.Parts.{SharedData, OwnData, edge_of_parts}
+use Rattle.build.specs.declared.edge.rule.EdgeRule.TheVariants as rule
 use Rattle.build.specs.Data.{FlagsData, SurroundingsData, SourceData, Tree, Built, Made, BuildData, CustomData}
-use Rattle.build.specs.Sources.{InputData, brought, generated}
+use Rattle.build.specs.Sources.{InputData, items_of_dependencies, generated_paths}
 
 -- Returns the words up to the first that names the object.
 abbrev pub front_words : (words : List Text) → List Text
@@ -18,9 +18,12 @@ front_words words = words ++ (codes "-MD" ∷ codes "-MQ" ∷ [])
 abbrev pub last_words : (object depfile source : Path) → List Text
 last_words object depfile source = object ∷ codes "-MF" ∷ depfile ∷ codes "-o" ∷ object ∷ codes "-c" ∷ source ∷ []
 
+-- Returns the parts that the compile edges of a target share: the words up to the first object, and the generated paths as order-only
+-- inputs.
 abbrev pub compile_shared : (front : List Text) (generated : List Path) → SharedData
 compile_shared front generated = record { rule = rule.CCompile; order_only = generated; words = front }
 
+-- Returns the own parts of the edge that compiles a source to an object. Its depfile is the object's path, followed by `.d`.
 abbrev pub compile_own : (object source : Path) → OwnData
 compile_own object source = record {
   output = object;
@@ -32,7 +35,7 @@ compile_own object source = record {
 
 -- Returns the edge of an input, for the target whose file is `file`.
 abbrev pub joined_edge : (front : List Text) (generated : List Path) (file : Path) → InputData → EdgeData
-joined_edge front generated file i = joined (compile_shared front generated) (compile_own (object_path file i.name) i.path)
+joined_edge front generated file i = edge_of_parts (compile_shared front generated) (compile_own (object_path file i.name) i.path)
 
 -- Returns whether there is a first word, if something is compiled.
 abbrev pub has_first : {W I : Type 0} → (words : List W) (inputs : List I) → Bool
@@ -40,6 +43,7 @@ has_first [] [] = true
 has_first [] (i ∷ is) = false
 has_first (w ∷ ws) is = true
 
+-- Returns whether the list is empty.
 abbrev pub is_none : {X : Type 0} → List X → Bool
 is_none [] = true
 is_none (x ∷ xs) = false
@@ -77,13 +81,13 @@ options_held f = value_held f.c_std && value_held f.optimization
 abbrev pub includes_held : BuildData → Bool
 includes_held t =
     value_held t.folder
-    && (list_all value_held t.own.include_folders && list_all value_held (brought (λ l. l.include_folders) t))
+    && (list_all value_held t.own.include_folders && list_all value_held (items_of_dependencies (λ l. l.include_folders) t))
 
 -- Returns whether it can hold the arguments of compile commands.
 abbrev pub arguments_held : SurroundingsData → BuildData → Bool
 arguments_held s t =
     list_all value_held s.arguments
-    && (list_all value_held (brought (λ l. l.compile_args) t)
+    && (list_all value_held (items_of_dependencies (λ l. l.compile_args) t)
     && (list_all value_held s.facts.flags.c_args && list_all value_held t.own.compile_args))
 
 -- Returns whether it can hold all words of compile commands.
@@ -93,7 +97,7 @@ words_held s t =
 
 -- Returns whether it can hold what the compile edges of a target share.
 abbrev pub compiles_held : SurroundingsData → BuildData → Bool
-compiles_held s t = list_all is_path (generated t) && words_held s t
+compiles_held s t = list_all is_path (generated_paths t) && words_held s t
 
 -- Returns whether it can hold the edge of an archive.
 abbrev pub archive_held : (archiver : List Text) (file : Path) (objects : List Path) → Bool

@@ -13,6 +13,7 @@ abbrev pub steps_up : ℕ → Path
 steps_up zero = []
 steps_up (suc n) = codes "/.." ++ steps_up n
 
+-- Returns a slash and the name of a folder.
 abbrev pub step_down : Text → Path
 step_down part = codes "/" ++ part
 

@@ -1,14 +1,15 @@
+//! Holds an edge of `build.ninja`: the Ninja manual's "build statement".
 ghost use Rattle.std.specs.Prelude.{◌≡◌};
 
 use crate::edge::parts::LentEdge;
-use crate::edge::rule::Rule;
+use crate::edge::rule::EdgeRule;
 use crate::edge::texts::lend_text;
 
 /// Holds a build edge (the Ninja manual's "build statement"): its outputs, and the command that makes them.
 ///
 /// All paths are relative to the build directory.
 pub struct Edge {
-    pub rule: Rule,
+    pub rule: EdgeRule,
     pub outputs: Vec<String>,
     /// The inputs that the command names.
     pub inputs: Vec<String>,

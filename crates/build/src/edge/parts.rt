@@ -1,9 +1,10 @@
-use crate::edge::rule::Rule;
+//! Lends the texts of an edge by parts: those that several edges share, and those of one edge.
+use crate::edge::rule::EdgeRule;
 
 /// Borrows all parts of an edge.
 #[derive(Clone, Copy)]
 pub struct LentEdge<'a> {
-    pub rule: Rule,
+    pub rule: EdgeRule,
     pub outputs: &'a [String],
     pub inputs: &'a [String],
     pub implicit: &'a [String],
@@ -32,7 +33,7 @@ pub struct OwnParts<'a> {
 /// Borrows what edges share: their rule, their order-only paths, and the first words of their commands.
 #[derive(Clone, Copy)]
 pub struct SharedParts<'a> {
-    pub rule: Rule,
+    pub rule: EdgeRule,
     pub order_only: &'a [String],
     /// The first words of the commands, not yet quoted.
     pub words: &'a [String],

@@ -1,6 +1,8 @@
+//! Lists the rules that edges name.
+
 /// Lists the rules of `build.ninja`. Each edge names one.
 #[derive(Clone, Copy)]
-pub enum Rule {
+pub enum EdgeRule {
     /// Compiles a C source, and learns from the compiler which headers it read.
     CCompile,
     /// Makes a static library from objects.

@@ -1,10 +1,11 @@
+//! Keeps what a project declares, and accepts or refuses each further declaration.
 ghost use Rattle.std.specs.Prelude.{◌≡◌, ℕ, ◌<◌, [], ◌++◌, ◌&&◌, not, true, map, IfOk, OnOk, OnErr, Result, Ok, string_bytes};
 ghost use Rattle.std.specs.Prelude.{if◌then◌else◌};
 ghost use Rattle.build.specs.edge.Texts.{texts};
 ghost use Rattle.build.specs.edge.View.{edge_view};
-ghost use Rattle.build.specs.LinkedViews.{linked_views};
+ghost use Rattle.build.specs.DeclaredTargetViews.{declared_target_views};
 ghost use Rattle.build.specs.View.{facts_view, surroundings_view, target_view};
-ghost use Rattle.build.specs.Libraries.{LinkBack, linked, linked_of};
+ghost use Rattle.build.specs.Libraries.{LinkBack, declared_target, linked_of};
 ghost use Rattle.build.specs.project.View.{answer_view, install_view, test_view};
 ghost use Rattle.build.specs.project.Whole.{IsNext};
 ghost use Rattle.build.specs.project.Earlier.{refer_back};
@@ -21,22 +22,22 @@ ghost use Rattle.build.specs.edge.Holding.{are_writable};
 ghost use Rattle.support.specs.paths.Paths.{path_in as path_of};
 ghost use Rattle.build.specs.Files.{default_paths};
 ghost use Rattle.build.specs.project.Laws.{AtMostOnce, all_made, Reaches};
-ghost use Rattle.build.specs.project.World.{new_world, edges_in, known_in, reserved, taken_in};
+ghost use Rattle.build.specs.project.World.{new_world, edges_in, known_in, reserved_paths, taken_in};
 ghost use Rattle.build.specs.project.Refused.{answer_data};
 ghost use Rattle.build.specs.target_edges.Claims.{AreClaims};
 ghost use Rattle.build.specs.target_edges.Edges.{target_edges as target_edges_of, edges_of};
 ghost use Rattle.build.specs.target_edges.PartsView.{parts_edges};
 
 use crate::edge::{Edge, can_hold_path, can_hold_values, copies, strings};
-use crate::project::claims::claim;
-use crate::project::fitting::{
+use crate::project::acceptance::{
     build_fits, custom_fits, has_made_sources, has_present_sources, is_build, is_folder, is_within,
 };
-use crate::project::notes::{Answer, Install, Test};
-use crate::project::refusal::{Refusal, Refused, refuse};
-use crate::project::unheld::{unheld, unheld_word};
-use crate::target_edges::{Claims, Context, TargetParts, claims_of, no_parts, target_parts};
-use crate::{Facts, Linked, Surroundings, Target, linked_libraries};
+use crate::project::claims::claim;
+use crate::project::records::{Answer, Install, Test};
+use crate::project::refusal::{ProjectError, ProjectRefusal, refuse};
+use crate::project::unholdable::{unheld, unheld_word};
+use crate::target_edges::{Claims, LinkContext, TargetParts, claims_of, no_parts, target_parts};
+use crate::{DeclaredTarget, Facts, Surroundings, Target, linked_libraries};
 use std::alloc::{AllocError, Global};
 use std::marker::Model;
 use support::paths::{is_file_name, path_in};
@@ -70,7 +71,7 @@ impl Drop for Notes {
 pub struct Project {
     alloc: Global,
     surroundings: Surroundings,
-    linked: Vec<Linked>,
+    linked: Vec<DeclaredTarget>,
     outputs: Vec<String>,
     // The paths that targets and `configure_file` make, and the reserved paths.
     taken: SipSet<String>,
@@ -97,16 +98,16 @@ impl Model for Project {
 
     ghost use Rattle.std.specs.Prelude.{map};
     ghost use Rattle.build.specs.edge.Texts.{texts};
-    ghost use Rattle.build.specs.LinkedViews.{linked_views};
+    ghost use Rattle.build.specs.DeclaredTargetViews.{declared_target_views};
     ghost use Rattle.build.specs.View.{surroundings_view};
     ghost use Rattle.build.specs.project.View.{world_of};
     ghost use Rattle.build.specs.project.NotesView.{notes_view};
     ghost use Rattle.build.specs.project.Whole.{IsWhole};
 
-    ghost view = { λ p. world_of (surroundings_view p.surroundings) (linked_views p.linked.items) (texts p.outputs.items)
+    ghost view = { λ p. world_of (surroundings_view p.surroundings) (declared_target_views p.linked.items) (texts p.outputs.items)
         (notes_view p.notes) };
 
-    ghost invariant = { λ p. IsWhole (surroundings_view p.surroundings) (linked_views p.linked.items) (texts p.outputs.items)
+    ghost invariant = { λ p. IsWhole (surroundings_view p.surroundings) (declared_target_views p.linked.items) (texts p.outputs.items)
         (texts p.notes.present.keys) (texts p.taken.keys) };
 }
 
@@ -156,15 +157,15 @@ impl Project {
     }
 
     // Adds a target that fits, unless one of its paths is taken or one of its lists is too long. `objects` are the paths that its edges
-    // make besides those by which `all` names it.
+    // make in addition to those by which `all` names it.
     fn place(
         &mut self,
-        one: Linked,
+        one: DeclaredTarget,
         objects: &[String],
         within: bool,
-    ) -> Result<Result<usize, Refused>, AllocError>
+    ) -> Result<Result<usize, ProjectError>, AllocError>
         requires { IsNext self.old.surroundings self.old.targets self.old.outputs self.old.present
-            (linked (linked_of self.old.targets) (target_view one.target)) (texts objects.now ++ texts one.paths.items) }
+            (declared_target (linked_of self.old.targets) (target_view one.target)) (texts objects.now ++ texts one.paths.items) }
         ensures answer { IfOk result (λ r. answer_data r ≡ place_answer self.old (texts objects.now ++ texts one.paths.items) within) }
         ensures ok { OnOk result (self.new
             ≡ after_answer (place_answer self.old (texts objects.now ++ texts one.paths.items) within)
@@ -179,11 +180,11 @@ impl Project {
                     Ok(Ok(number))
                 } else {
                     self.linked.truncate(number);
-                    refuse(self.alloc, Refusal::Limit, "")
+                    refuse(self.alloc, ProjectRefusal::Limit, "")
                 }
             }
             Ok(Some(path)) => {
-                let answer = refuse(self.alloc, Refusal::Duplicate, path);
+                let answer = refuse(self.alloc, ProjectRefusal::Duplicate, path);
                 self.linked.truncate(number);
                 answer
             }
@@ -199,27 +200,27 @@ impl Project {
     /// It is refused with E9 if it does not fit. Then it is E14 if a file of the tree that it names was not looked at or is absent, and E21
     /// if `build.ninja` can't hold one of its edges. Then it is E11 if something else makes one of its paths or one occurs twice, and E22
     /// if one of its lists has more than 65,536 items.
-    pub fn add_target(&mut self, target: Target) -> Result<Result<usize, Refused>, AllocError>
+    pub fn add_target(&mut self, target: Target) -> Result<Result<usize, ProjectError>, AllocError>
         ensures answer { IfOk result (λ r. answer_data r ≡ target_answer self.old (target_view target)) }
         ensures ok { OnOk result (self.new ≡ after_target self.old (target_view target)) }
         ensures err { OnErr result (self.new ≡ self.old) }
     {
         let fits = self.fits(&target)?;
         if !fits {
-            return refuse(self.alloc, Refusal::Arguments, "");
+            return refuse(self.alloc, ProjectRefusal::Arguments, "");
         }
         let present = has_present_sources(&self.notes.present, &target);
         if !present {
-            return refuse(self.alloc, Refusal::Missing, "");
+            return refuse(self.alloc, ProjectRefusal::Missing, "");
         }
         let libraries = linked_libraries(self.alloc, &self.linked, &target)?;
         let claims = self.claims_with(&target, &libraries)?;
         let writable = claims.writable;
         if !writable {
-            return refuse(self.alloc, Refusal::Unholdable, unheld(&target));
+            return refuse(self.alloc, ProjectRefusal::Unholdable, unheld(&target));
         }
         let within = is_within(&target);
-        let one = Linked {
+        let one = DeclaredTarget {
             target,
             paths: claims.asked,
         };
@@ -231,7 +232,7 @@ impl Project {
         ensures { let edges = target_edges_of self.now.surroundings (linked_of self.now.targets) libraries.now (target_view target.now) in
             IfOk result (λ c. AreClaims c edges (default_paths (target_view target.now))) }
     {
-        let context = Context {
+        let context = LinkContext {
             alloc: self.alloc,
             surroundings: &self.surroundings,
             earlier: &self.linked,
@@ -240,8 +241,8 @@ impl Project {
         claims_of(&context, target)
     }
 
-    // Takes the path of an output, unless it is taken.
-    fn place_output(&mut self, path: String) -> Result<Result<(), Refused>, AllocError>
+    // Reserves the path of an output, unless it is reserved already.
+    fn place_output(&mut self, path: String) -> Result<Result<(), ProjectError>, AllocError>
         requires { not (is_upward (string_bytes path)) ≡ true }
         ensures answer { IfOk result (λ r. answer_data r ≡ place_output_answer self.old (string_bytes path)) }
         ensures ok { OnOk result (self.new
@@ -255,7 +256,7 @@ impl Project {
             Ok(None) => Ok(Ok(())),
             Ok(Some(path)) => {
                 self.outputs.truncate(number);
-                refuse(self.alloc, Refusal::Duplicate, path)
+                refuse(self.alloc, ProjectRefusal::Duplicate, path)
             }
             Err(refused) => {
                 self.outputs.truncate(number);
@@ -272,7 +273,7 @@ impl Project {
         &mut self,
         folder: &str,
         name: &str,
-    ) -> Result<Result<(), Refused>, AllocError>
+    ) -> Result<Result<(), ProjectError>, AllocError>
         ensures answer { IfOk result (λ r. answer_data r ≡ output_answer self.old folder.now name.now) }
         ensures ok { OnOk result (self.new
             ≡ after_answer (output_answer self.old folder.now name.now) (with_output self.old (path_of folder.now name.now)) self.old) }
@@ -280,12 +281,12 @@ impl Project {
     {
         let fits = output_fits(folder, name);
         if !fits {
-            return refuse(self.alloc, Refusal::Arguments, "");
+            return refuse(self.alloc, ProjectRefusal::Arguments, "");
         }
         let path = path_in(self.alloc, folder, name)?;
         let held = can_hold_path(&path);
         if !held {
-            return refuse(self.alloc, Refusal::Unholdable, &path);
+            return refuse(self.alloc, ProjectRefusal::Unholdable, &path);
         }
         self.place_output(path)
     }
@@ -293,7 +294,10 @@ impl Project {
     /// Adds arguments of `add_project_arguments` to all compile commands.
     ///
     /// Refuses them with the first of these: E21 if `build.ninja` can't hold one of them, E24 if a build target was declared before.
-    pub fn add_arguments(&mut self, words: &[String]) -> Result<Result<(), Refused>, AllocError>
+    pub fn add_arguments(
+        &mut self,
+        words: &[String],
+    ) -> Result<Result<(), ProjectError>, AllocError>
         ensures answer { IfOk result (λ r. answer_data r ≡ arguments_answer self.old (texts words.now)) }
         ensures ok { OnOk result (self.new
             ≡ after_answer (arguments_answer self.old (texts words.now)) (with_arguments self.old (texts words.now)) self.old) }
@@ -301,11 +305,11 @@ impl Project {
     {
         let held = can_hold_values(words);
         if !held {
-            return refuse(self.alloc, Refusal::Unholdable, unheld_word(words));
+            return refuse(self.alloc, ProjectRefusal::Unholdable, unheld_word(words));
         }
         let late = some_build(&self.linked);
         if late {
-            return refuse(self.alloc, Refusal::Late, first_build(&self.linked));
+            return refuse(self.alloc, ProjectRefusal::Late, first_build(&self.linked));
         }
         append(&mut self.surroundings.arguments, self.alloc, words)?;
         Ok(Ok(()))
@@ -317,7 +321,7 @@ impl Project {
     pub fn add_link_arguments(
         &mut self,
         words: &[String],
-    ) -> Result<Result<(), Refused>, AllocError>
+    ) -> Result<Result<(), ProjectError>, AllocError>
         ensures answer { IfOk result (λ r. answer_data r ≡ arguments_answer self.old (texts words.now)) }
         ensures ok { OnOk result (self.new
             ≡ after_answer (arguments_answer self.old (texts words.now)) (with_link_arguments self.old (texts words.now)) self.old) }
@@ -325,11 +329,11 @@ impl Project {
     {
         let held = can_hold_values(words);
         if !held {
-            return refuse(self.alloc, Refusal::Unholdable, unheld_word(words));
+            return refuse(self.alloc, ProjectRefusal::Unholdable, unheld_word(words));
         }
         let late = some_build(&self.linked);
         if late {
-            return refuse(self.alloc, Refusal::Late, first_build(&self.linked));
+            return refuse(self.alloc, ProjectRefusal::Late, first_build(&self.linked));
         }
         append(&mut self.surroundings.link_arguments, self.alloc, words)?;
         Ok(Ok(()))
@@ -402,8 +406,8 @@ impl Project {
     }
 
     /// Returns the targets in the order of their declaration, each with the paths by which the edge `all` names it.
-    pub fn targets(&self) -> &[Linked]
-        ensures { linked_views result.now ≡ linked_of self.now.targets }
+    pub fn targets(&self) -> &[DeclaredTarget]
+        ensures { declared_target_views result.now ≡ linked_of self.now.targets }
     {
         &self.linked
     }
@@ -453,7 +457,7 @@ impl Project {
 
 // Returns the set of the reserved paths.
 fn reserved_paths(alloc: Global) -> Result<SipSet<String>, AllocError>
-    ensures { IfOk result (λ taken. texts taken.keys ≡ reserved) }
+    ensures { IfOk result (λ taken. texts taken.keys ≡ reserved_paths) }
 {
     let reserved = strings(alloc, &["all", "build.ninja", "meson-info/introspect.json"])?;
     let mut taken = new_set(alloc);
@@ -471,14 +475,14 @@ fn append(all: &mut Vec<String>, alloc: Global, more: &[String]) -> Result<(), A
 }
 
 // Returns whether one of the targets is a build target.
-fn some_build(targets: &[Linked]) -> bool
+fn some_build(targets: &[DeclaredTarget]) -> bool
     ensures { result ≡ list_any (λ l. is_build_target (target_view l.target)) targets.now }
 {
     targets.iter().any(|linked| is_build(&linked.target))
 }
 
 // Returns the name of the first build target.
-fn first_build(targets: &[Linked]) -> &str
+fn first_build(targets: &[DeclaredTarget]) -> &str
     ensures { result.now ≡ first_build (map (λ l. target_view l.target) targets.now) }
 {
     for linked in targets {
@@ -501,15 +505,15 @@ fn output_fits(folder: &str, name: &str) -> bool
 fn parts_behind<'a>(
     alloc: Global,
     surroundings: &Surroundings,
-    earlier: &[Linked],
-    one: &'a Linked,
+    earlier: &[DeclaredTarget],
+    one: &'a DeclaredTarget,
 ) -> Result<TargetParts<'a>, AllocError>
     requires { LinkBack (map (λ l. target_view l.target) earlier.now) }
-    ensures { IfOk result (λ p. parts_edges p ≡ edges_of (surroundings_view surroundings.now) (linked_views earlier.now)
-        (linked (linked_views earlier.now) (target_view one.now.target))) }
+    ensures { IfOk result (λ p. parts_edges p ≡ edges_of (surroundings_view surroundings.now) (declared_target_views earlier.now)
+        (declared_target (declared_target_views earlier.now) (target_view one.now.target))) }
 {
     let libraries = linked_libraries(alloc, earlier, &one.target)?;
-    let context = Context {
+    let context = LinkContext {
         alloc,
         surroundings,
         earlier,

@@ -7,17 +7,17 @@ ghost use Rattle.build.specs.View.{custom_view};
 ghost use Rattle.build.specs.target_edges.Edges.{first_of, custom_rule, and_path, custom_edge};
 ghost use Rattle.build.specs.target_edges.PartsView.{custom_parts_edge};
 
-use crate::edge::{LentEdge, Rule, lend_text};
+use crate::edge::{EdgeRule, LentEdge, lend_text};
 use crate::target_edges::parts::CustomParts;
 use crate::{CustomTarget, depfile_path, source_paths};
 use std::alloc::{AllocError, Global};
 
-fn custom_rule(depfile: &Option<String>) -> Rule
+fn custom_rule(depfile: &Option<String>) -> EdgeRule
     ensures { result ≡ custom_rule (option_map string_bytes depfile.now) }
 {
     match depfile {
-        None => Rule::Custom,
-        Some(_) => Rule::CustomDep,
+        None => EdgeRule::Custom,
+        Some(_) => EdgeRule::CustomDep,
     }
 }
 

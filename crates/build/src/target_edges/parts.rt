@@ -1,8 +1,9 @@
+//! Holds the edges of a target in parts.
 ghost use Rattle.std.specs.Prelude.{◌≡◌, true};
 ghost use Rattle.build.specs.target_edges.Parts.{has_first};
 
 use crate::Input;
-use crate::edge::{Edge, Rule};
+use crate::edge::{Edge, EdgeRule};
 
 /// Holds the edges of a build target in parts. Those that compile its sources come first. They share all but three texts of each, and are
 /// not made.
@@ -35,7 +36,7 @@ impl Drop for BuildParts {
 /// Holds the edge of a custom target: what it borrows from the target, and what is computed.
 #[derive(Drop)]
 pub struct CustomParts<'a> {
-    pub rule: Rule,
+    pub rule: EdgeRule,
     pub outputs: &'a [String],
     pub inputs: Vec<String>,
     pub needs: Vec<String>,

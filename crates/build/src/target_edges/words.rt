@@ -1,7 +1,7 @@
 //! Appends words of commands.
 ghost use Rattle.std.specs.Prelude.{◌≡◌, [], ◌∷◌, ◌++◌, IfOk, string_bytes};
 ghost use Rattle.build.specs.edge.Texts.{texts};
-ghost use Rattle.build.specs.Sources.{brought};
+ghost use Rattle.build.specs.Sources.{items_of_dependencies};
 ghost use Rattle.build.specs.View.{build_view, lists_view};
 ghost use Rattle.build.specs.target_edges.Words.{texts_of, word_if};
 
@@ -65,7 +65,8 @@ pub fn push_brought(
     target: &BuildTarget,
     what: Brought,
 ) -> Result<(), AllocError>
-    ensures { IfOk result (λ _. texts words.new.items ≡ texts words.old.items ++ brought (λ l. texts_of what l) (build_view target.now)) }
+    ensures { IfOk result
+        (λ _. texts words.new.items ≡ texts words.old.items ++ items_of_dependencies (λ l. texts_of what l) (build_view target.now)) }
 {
     for lists in &target.dependencies {
         push_copies(words, what.of(lists))?;

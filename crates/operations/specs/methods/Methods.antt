@@ -1,7 +1,7 @@
 -- Defines the methods of values other than objects, by the type of the receiver.
 use Rattle.std.specs.Prelude.{ℕ, Bool, false, List, is_some, Result, Err}
-use Rattle.values.specs.declared.refusal.Refusal.{Refusal}
-use Rattle.values.specs.declared.refusal.Refusal.TheVariants as refusal
+use Rattle.values.specs.declared.refusal.OperationRefusal.{OperationRefusal}
+use Rattle.values.specs.declared.refusal.OperationRefusal.TheVariants as refusal
 use Rattle.values.specs.Data.{Data, boolean, integer, text, list, dictionary, object}
 use Rattle.values.specs.language_names.ValueMethods.{boolean_method_named, dictionary_method_named, integer_method_named, list_method_named}
 use Rattle.values.specs.language_names.ValueMethods.{text_method_named}
@@ -12,7 +12,7 @@ use Rattle.operations.specs.methods.Lists as lists
 use Rattle.operations.specs.methods.Dictionaries as dictionaries
 
 -- Returns the result of a method of a receiver, or its refusal. The name is checked first, then the arguments.
-abbrev pub answer : Data → List ℕ → List Data → Result Data Refusal
+abbrev pub answer : Data → List ℕ → List Data → Result Data OperationRefusal
 answer (boolean b) name arguments = booleans.answer b name arguments
 answer (integer z) name arguments = integers.answer z name arguments
 answer (text t) name arguments = texts.answer t name arguments

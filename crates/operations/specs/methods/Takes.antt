@@ -14,38 +14,38 @@ use Rattle.values.specs.declared.language_names.value_methods.DictionaryMethod.T
 use Rattle.values.specs.declared.language_names.value_methods.TextMethod.{TextMethod}
 use Rattle.values.specs.declared.language_names.value_methods.TextMethod.TheVariants as of_text
 
--- The words that many methods share.
-abbrev pub nothing : List ℕ
-nothing = codes "no arguments"
+-- Returns the words for a method without arguments.
+abbrev pub no_arguments_words : List ℕ
+no_arguments_words = codes "no arguments"
 
--- The words for a method that takes one text.
+-- Returns the words for a method that takes one text.
 abbrev pub one_text : List ℕ
 one_text = codes "one text"
 
--- Describes what a method of a boolean takes.
+-- Describes the arguments of a method of a boolean.
 abbrev pub boolean_takes : BooleanMethod → List ℕ
-boolean_takes of_boolean.ToInt = nothing
+boolean_takes of_boolean.ToInt = no_arguments_words
 boolean_takes of_boolean.ToString = codes "no arguments, or two texts"
 
--- Describes what a method of an integer takes.
+-- Describes the arguments of a method of an integer.
 abbrev pub integer_takes : IntegerMethod → List ℕ
-integer_takes of_integer.IsEven = nothing
-integer_takes of_integer.IsOdd = nothing
-integer_takes of_integer.ToString = nothing
+integer_takes of_integer.IsEven = no_arguments_words
+integer_takes of_integer.IsOdd = no_arguments_words
+integer_takes of_integer.ToString = no_arguments_words
 
--- Describes what a method of a list takes.
+-- Describes the arguments of a method of a list.
 abbrev pub list_takes : ListMethod → List ℕ
 list_takes of_list.Contains = codes "one value"
 list_takes of_list.Get = codes "an integer, or an integer and a value in its place"
-list_takes of_list.Length = nothing
+list_takes of_list.Length = no_arguments_words
 
--- Describes what a method of a dictionary takes.
+-- Describes the arguments of a method of a dictionary.
 abbrev pub dictionary_takes : DictionaryMethod → List ℕ
 dictionary_takes of_dictionary.Get = codes "a text, or a text and a value in its place"
 dictionary_takes of_dictionary.HasKey = one_text
-dictionary_takes of_dictionary.Keys = nothing
+dictionary_takes of_dictionary.Keys = no_arguments_words
 
--- Describes what a method of a text takes.
+-- Describes the arguments of a method of a text.
 abbrev pub text_takes : TextMethod → List ℕ
 text_takes of_text.Contains = one_text
 text_takes of_text.StartsWith = one_text
@@ -54,13 +54,13 @@ text_takes of_text.Format = codes "values that are no objects and hold none"
 text_takes of_text.Join = codes "texts and lists of texts"
 text_takes of_text.Replace = codes "two texts, of which the first is not empty"
 text_takes of_text.Split = codes "no arguments, or one text that is not empty"
-text_takes of_text.SplitLines = nothing
+text_takes of_text.SplitLines = no_arguments_words
 text_takes of_text.Strip = codes "no arguments, or one text"
 text_takes of_text.Substring = codes "at most two integers"
 text_takes of_text.ToInt = codes "no arguments, of a text that is an integer"
-text_takes of_text.ToLower = nothing
-text_takes of_text.ToUpper = nothing
-text_takes of_text.Underscorify = nothing
+text_takes of_text.ToLower = no_arguments_words
+text_takes of_text.ToUpper = no_arguments_words
+text_takes of_text.Underscorify = no_arguments_words
 text_takes of_text.VersionCompare = one_text
 
 -- Returns the words for a method, and nothing if there is no method.

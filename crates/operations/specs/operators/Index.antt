@@ -5,8 +5,8 @@ use Rattle.std.specs.Str.{chars}
 use Rattle.std.specs.Char.{encode_utf8}
 use Rattle.values.specs.declared.object.Object.{Object}
 use Rattle.values.specs.declared.object.Object.TheVariants as TheObject
-use Rattle.values.specs.declared.refusal.Refusal.{Refusal}
-use Rattle.values.specs.declared.refusal.Refusal.TheVariants as refusal
+use Rattle.values.specs.declared.refusal.OperationRefusal.{OperationRefusal}
+use Rattle.values.specs.declared.refusal.OperationRefusal.TheVariants as refusal
 use Rattle.values.specs.Data.{Data, integer, text, list, dictionary, object, Items, no_items, item, count, find, is_disabler}
 use Rattle.operations.specs.operators.Operations.{disabler}
 
@@ -47,7 +47,7 @@ part (object (TheObject.CustomTarget number outputs)) (integer i) = option_map o
 part _ _ = None
 
 -- Returns the refusal if there is no part: E10 if the types fit, and otherwise E6.
-abbrev pub part_refusal : Data → Data → Refusal
+abbrev pub part_refusal : Data → Data → OperationRefusal
 part_refusal (list ds) (integer i) = refusal.Absent
 part_refusal (text t) (integer i) = refusal.Absent
 part_refusal (dictionary es) (text k) = refusal.Absent
@@ -55,14 +55,14 @@ part_refusal (object (TheObject.CustomTarget number outputs)) (integer i) = refu
 part_refusal _ _ = refusal.Type
 
 -- Returns the part of an object at an integer index: an output of a custom target, and otherwise a refusal.
-abbrev pub output_outcome : Object → ℤ → Result Object Refusal
+abbrev pub output_outcome : Object → ℤ → Result Object OperationRefusal
 output_outcome (TheObject.CustomTarget number outputs) i = ok_or (indexed_output number outputs i) refusal.Absent
 output_outcome _ i = Err refusal.Type
 
 -- Returns the part, and otherwise the refusal.
-abbrev pub part_outcome : Data → Data → Result Data Refusal
+abbrev pub part_outcome : Data → Data → Result Data OperationRefusal
 part_outcome d i = ok_or (part d i) (part_refusal d i)
 
 -- Returns the part. If the whole or the index is a disabler, the result is a disabler.
-abbrev pub index_answer : Data → Data → Result Data Refusal
+abbrev pub index_answer : Data → Data → Result Data OperationRefusal
 index_answer d i = if is_disabler d || is_disabler i then Ok disabler else part_outcome d i

@@ -1,8 +1,8 @@
 -- Defines dictionary literals by their keys and values, in order: "Dictionaries" of the page "Syntax".
 use Rattle.std.specs.Prelude.{◌≡◌, List, [], ◌∷◌, is_some, Result, Ok, Err, if◌then◌else◌}
-use Rattle.values.specs.declared.refusal.Refusal.{Refusal}
-use Rattle.values.specs.declared.refusal.Refusal.TheVariants as refusal
-use Rattle.values.specs.Data.{Data, text, dictionary, Entries, no_entries, put, find}
+use Rattle.values.specs.declared.refusal.OperationRefusal.{OperationRefusal}
+use Rattle.values.specs.declared.refusal.OperationRefusal.TheVariants as refusal
+use Rattle.values.specs.Data.{Data, text, dictionary, Entries, no_entries, entries_with, find}
 use Rattle.values.specs.Limits.{within}
 use Rattle.values.specs.View.{data_of}
 use Rattle.values.specs.declared.value.Value.{Value}
@@ -17,7 +17,7 @@ Err e >>= f = Err e
 
 -- Returns the entries with one more. Its key must be a text that is not yet present.
 abbrev pub with_entry : Entries → Data → Data → Result Entries LiteralRefusal
-with_entry es (text k) d = if is_some (find k es) then Err (literals.Twice k) else Ok (put k d es)
+with_entry es (text k) d = if is_some (find k es) then Err (literals.Twice k) else Ok (entries_with k d es)
 with_entry es k d = Err (literals.Refused refusal.Type)
 
 -- Returns the entries with all of these added, or the refusal of the first invalid key.
@@ -28,15 +28,15 @@ with_entries es (p ∷ ps) = do
   with_entries more ps
 
 -- Returns a result with its refusal as that of a literal.
-abbrev pub refused : Result Data Refusal → Result Data LiteralRefusal
-refused (Ok d) = Ok d
-refused (Err refusal) = Err (literals.Refused refusal)
+abbrev pub literal_result : Result Data OperationRefusal → Result Data LiteralRefusal
+literal_result (Ok d) = Ok d
+literal_result (Err refusal) = Err (literals.Refused refusal)
 
 -- Returns the value of the literal. Its size is checked last.
 abbrev pub literal_answer : List (Data × Data) → Result Data LiteralRefusal
 literal_answer ps = do
   es ← with_entries no_entries ps
-  refused (within (dictionary es))
+  literal_result (within (dictionary es))
 
 -- Holds if the literal evaluated to the value that the definition gives, or to its refusal.
 abbrev pub Makes : Result Data LiteralRefusal → Result Value LiteralRefusal → Type 0

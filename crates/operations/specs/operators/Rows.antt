@@ -5,7 +5,7 @@ use Rattle.std.specs.Prelude.{Bool, false, not, ◌||◌, ◌++◌, Option, Some
 use Rattle.std.specs.Ordering.{int_cmp, nat_cmp}
 use Rattle.std.specs.Cmp.Lexicographic.{slice_cmp}
 use Rattle.std.specs.declared.cmp.Ordering.{Ordering}
-use Rattle.values.specs.Data.{Data, boolean, integer, text, list, dictionary, Items, no_items, item, items_append, find, merged}
+use Rattle.values.specs.Data.{Data, boolean, integer, text, list, dictionary, Items, no_items, item, items_append, find, merged_entries}
 use Rattle.values.specs.Same.{same}
 use Rattle.operations.specs.operators.Integers as integers
 use Rattle.values.specs.texts.Search.{contains}
@@ -18,7 +18,7 @@ sum (integer x) (integer y) = option_map integer (integers.sum x y)
 sum (text s) (text t) = Some (text (s ++ t))
 sum (list ds) (list es) = Some (list (items_append ds es))
 sum (list ds) e = Some (list (items_append ds (item e no_items)))
-sum (dictionary es) (dictionary fs) = Some (dictionary (merged es fs))
+sum (dictionary es) (dictionary fs) = Some (dictionary (merged_entries es fs))
 sum _ _ = None
 
 -- Defines `-`.

@@ -6,10 +6,10 @@ ghost use Rattle.operations.specs.methods.Steps.{Gives};
 ghost use Rattle.operations.specs.methods.Booleans.{to_int, to_string, answer};
 
 use crate::methods::readers::none;
-use crate::methods::stop::Stop;
+use crate::methods::stop::MethodStop;
 use std::alloc::Global;
 use values::language_names::{BooleanMethod, MethodName};
-use values::{Refusal, Value};
+use values::{OperationRefusal, Value};
 
 /// Calls the method of a boolean with this name and returns its result. Refusals are E8 for an unknown name and E9 for wrong arguments.
 pub fn boolean_method(
@@ -17,17 +17,17 @@ pub fn boolean_method(
     boolean: bool,
     name: &MethodName,
     arguments: &[Value],
-) -> Result<Value, Stop>
+) -> Result<Value, MethodStop>
     ensures { Gives (answer boolean name.now (map data_of arguments.now)) result }
 {
-    let method = name.of_boolean().ok_or(Refusal::UnknownMethod)?;
+    let method = name.of_boolean().ok_or(OperationRefusal::UnknownMethod)?;
     match method {
         BooleanMethod::ToInt => to_int(boolean, arguments),
         BooleanMethod::ToString => to_string(alloc, boolean, arguments),
     }
 }
 
-fn to_int(boolean: bool, arguments: &[Value]) -> Result<Value, Stop>
+fn to_int(boolean: bool, arguments: &[Value]) -> Result<Value, MethodStop>
     ensures { Gives (to_int boolean (map data_of arguments.now)) result }
 {
     none(arguments)?;
@@ -35,14 +35,14 @@ fn to_int(boolean: bool, arguments: &[Value]) -> Result<Value, Stop>
 }
 
 // Returns `true` or `false` as a text.
-fn plain_word(alloc: Global, boolean: bool) -> Result<Value, Stop>
+fn plain_word(alloc: Global, boolean: bool) -> Result<Value, MethodStop>
     ensures { Gives (to_string boolean []) result }
 {
     let word = if boolean { "true" } else { "false" };
     Ok(Value::of_str(alloc, word)??)
 }
 
-fn to_string(alloc: Global, boolean: bool, arguments: &[Value]) -> Result<Value, Stop>
+fn to_string(alloc: Global, boolean: bool, arguments: &[Value]) -> Result<Value, MethodStop>
     ensures { Gives (to_string boolean (map data_of arguments.now)) result }
 {
     match arguments {
@@ -51,6 +51,6 @@ fn to_string(alloc: Global, boolean: bool, arguments: &[Value]) -> Result<Value,
             let word = if boolean { yes } else { no };
             Ok(Value::Text(word.clone()?))
         }
-        _ => Err(Stop::Refused(Refusal::Arguments)),
+        _ => Err(MethodStop::Refused(OperationRefusal::Arguments)),
     }
 }

@@ -9,12 +9,12 @@ ghost use Rattle.operations.specs.methods.Dictionaries.{get, has_key, keys, sort
 
 use crate::methods::lists::take_or;
 use crate::methods::readers::{key_and_fallback, none, one, text};
-use crate::methods::stop::Stop;
+use crate::methods::stop::MethodStop;
 use crate::operators::list;
 use std::alloc::{AllocError, Global};
 use std::collections::BTreeSet;
 use values::language_names::{DictionaryMethod, MethodName};
-use values::{Dictionary, Refusal, Text, Value};
+use values::{Dictionary, OperationRefusal, Text, Value};
 
 /// Calls the method of a dictionary with this name and returns its result. Refusals are E8 for an unknown name, E9 for wrong arguments and
 /// E10 for an absent key.
@@ -23,10 +23,10 @@ pub fn dictionary_method(
     dictionary: &Dictionary,
     name: &MethodName,
     arguments: &[Value],
-) -> Result<Value, Stop>
+) -> Result<Value, MethodStop>
     ensures { Gives (answer dictionary.now name.now (map data_of arguments.now)) result }
 {
-    let method = name.of_dictionary().ok_or(Refusal::UnknownMethod)?;
+    let method = name.of_dictionary().ok_or(OperationRefusal::UnknownMethod)?;
     match method {
         DictionaryMethod::Get => get(dictionary, arguments),
         DictionaryMethod::HasKey => has_key(dictionary, arguments),
@@ -34,7 +34,7 @@ pub fn dictionary_method(
     }
 }
 
-fn get(dictionary: &Dictionary, arguments: &[Value]) -> Result<Value, Stop>
+fn get(dictionary: &Dictionary, arguments: &[Value]) -> Result<Value, MethodStop>
     ensures { Gives (get dictionary.now (map data_of arguments.now)) result }
 {
     let (key, fallback) = key_and_fallback(arguments)?;
@@ -42,14 +42,14 @@ fn get(dictionary: &Dictionary, arguments: &[Value]) -> Result<Value, Stop>
     take_or(dictionary.get(key), fallback)
 }
 
-fn has_key(dictionary: &Dictionary, arguments: &[Value]) -> Result<Value, Stop>
+fn has_key(dictionary: &Dictionary, arguments: &[Value]) -> Result<Value, MethodStop>
     ensures { Gives (has_key dictionary.now (map data_of arguments.now)) result }
 {
     let key = text(one(arguments)?)?;
     Ok(Value::Boolean(dictionary.get(key).is_some()))
 }
 
-fn keys(alloc: Global, dictionary: &Dictionary, arguments: &[Value]) -> Result<Value, Stop>
+fn keys(alloc: Global, dictionary: &Dictionary, arguments: &[Value]) -> Result<Value, MethodStop>
     ensures { Gives (keys dictionary.now (map data_of arguments.now)) result }
 {
     none(arguments)?;

@@ -6,11 +6,11 @@ ghost use Rattle.operations.specs.methods.Steps.{Gives};
 ghost use Rattle.operations.specs.methods.Integers.{is_even, is_odd, to_string, answer};
 
 use crate::methods::readers::none;
-use crate::methods::stop::Stop;
+use crate::methods::stop::MethodStop;
 use std::alloc::Global;
 use values::language_names::{IntegerMethod, MethodName};
 use values::printing::print;
-use values::{Refusal, Value};
+use values::{OperationRefusal, Value};
 
 /// Calls the method of an integer with this name and returns its result. Refusals are E8 for an unknown name and E9 for wrong arguments.
 pub fn integer_method(
@@ -18,10 +18,10 @@ pub fn integer_method(
     integer: i128,
     name: &MethodName,
     arguments: &[Value],
-) -> Result<Value, Stop>
+) -> Result<Value, MethodStop>
     ensures { Gives (answer integer name.now (map data_of arguments.now)) result }
 {
-    let method = name.of_integer().ok_or(Refusal::UnknownMethod)?;
+    let method = name.of_integer().ok_or(OperationRefusal::UnknownMethod)?;
     match method {
         IntegerMethod::IsEven => is_even(integer, arguments),
         IntegerMethod::IsOdd => is_odd(integer, arguments),
@@ -29,21 +29,21 @@ pub fn integer_method(
     }
 }
 
-fn is_even(integer: i128, arguments: &[Value]) -> Result<Value, Stop>
+fn is_even(integer: i128, arguments: &[Value]) -> Result<Value, MethodStop>
     ensures { Gives (is_even integer (map data_of arguments.now)) result }
 {
     none(arguments)?;
     Ok(Value::Boolean(integer.unsigned_abs() % 2 == 0))
 }
 
-fn is_odd(integer: i128, arguments: &[Value]) -> Result<Value, Stop>
+fn is_odd(integer: i128, arguments: &[Value]) -> Result<Value, MethodStop>
     ensures { Gives (is_odd integer (map data_of arguments.now)) result }
 {
     none(arguments)?;
     Ok(Value::Boolean(integer.unsigned_abs() % 2 != 0))
 }
 
-fn to_string(alloc: Global, integer: i128, arguments: &[Value]) -> Result<Value, Stop>
+fn to_string(alloc: Global, integer: i128, arguments: &[Value]) -> Result<Value, MethodStop>
     ensures { Gives (to_string integer (map data_of arguments.now)) result }
 {
     none(arguments)?;

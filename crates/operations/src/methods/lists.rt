@@ -6,17 +6,17 @@ ghost use Rattle.operations.specs.methods.Steps.{Gives};
 ghost use Rattle.operations.specs.methods.Lists.{stands_in, stands_inside, contains, get, found_or, len, answer};
 
 use crate::methods::readers::{integer, key_and_fallback, none, one};
-use crate::methods::stop::Stop;
+use crate::methods::stop::MethodStop;
 use crate::operators::indexed_item;
 use values::language_names::{ListMethod, MethodName};
-use values::{List, Refusal, Value, is_equal};
+use values::{List, OperationRefusal, Value, is_equal};
 
 /// Calls the method of a list with this name and returns its result. Refusals are E8 for an unknown name, E9 for wrong arguments and E10
 /// for an absent index.
-pub fn list_method(list: &List, name: &MethodName, arguments: &[Value]) -> Result<Value, Stop>
+pub fn list_method(list: &List, name: &MethodName, arguments: &[Value]) -> Result<Value, MethodStop>
     ensures { Gives (answer list.now name.now (map data_of arguments.now)) result }
 {
-    let method = name.of_list().ok_or(Refusal::UnknownMethod)?;
+    let method = name.of_list().ok_or(OperationRefusal::UnknownMethod)?;
     match method {
         ListMethod::Contains => contains(list, arguments),
         ListMethod::Get => get(list, arguments),
@@ -24,7 +24,7 @@ pub fn list_method(list: &List, name: &MethodName, arguments: &[Value]) -> Resul
     }
 }
 
-fn contains(list: &List, arguments: &[Value]) -> Result<Value, Stop>
+fn contains(list: &List, arguments: &[Value]) -> Result<Value, MethodStop>
     ensures { Gives (contains list.now (map data_of arguments.now)) result }
 {
     let value = one(arguments)?;
@@ -54,7 +54,7 @@ fn stands_inside(value: &Value, whole: &Value) -> bool
     }
 }
 
-fn get(list: &List, arguments: &[Value]) -> Result<Value, Stop>
+fn get(list: &List, arguments: &[Value]) -> Result<Value, MethodStop>
     ensures { Gives (get list.now (map data_of arguments.now)) result }
 {
     let (index, fallback) = key_and_fallback(arguments)?;
@@ -63,7 +63,7 @@ fn get(list: &List, arguments: &[Value]) -> Result<Value, Stop>
 }
 
 /// Returns a copy of the value that was found, otherwise of the fallback, and the refusal E10 if there is neither.
-pub fn take_or(found: Option<&Value>, fallback: Option<&Value>) -> Result<Value, Stop>
+pub fn take_or(found: Option<&Value>, fallback: Option<&Value>) -> Result<Value, MethodStop>
     ensures { Gives (found_or (option_map (λ v. data_of v.now) found.entry) (option_map (λ v. data_of v.now) fallback.entry)) result }
 {
     if let Some(value) = found {
@@ -71,11 +71,11 @@ pub fn take_or(found: Option<&Value>, fallback: Option<&Value>) -> Result<Value,
     }
     match fallback {
         Some(value) => Ok(value.clone()?),
-        None => Err(Stop::Refused(Refusal::Absent)),
+        None => Err(MethodStop::Refused(OperationRefusal::Absent)),
     }
 }
 
-fn len(list: &List, arguments: &[Value]) -> Result<Value, Stop>
+fn len(list: &List, arguments: &[Value]) -> Result<Value, MethodStop>
     ensures { Gives (len list.now (map data_of arguments.now)) result }
 {
     none(arguments)?;

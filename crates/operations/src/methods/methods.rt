@@ -8,11 +8,11 @@ use crate::methods::booleans::boolean_method;
 use crate::methods::dictionaries::dictionary_method;
 use crate::methods::integers::integer_method;
 use crate::methods::lists::list_method;
-use crate::methods::stop::Stop;
+use crate::methods::stop::MethodStop;
 use crate::methods::text_methods::text_method;
 use std::alloc::{AllocError, Global};
 use values::language_names::MethodName;
-use values::{Refusal, Value};
+use values::{OperationRefusal, Value};
 
 /// Calls the method of the receiver with this name and returns its result.
 ///
@@ -23,7 +23,7 @@ pub fn method(
     receiver: &Value,
     name: &MethodName,
     arguments: &[Value],
-) -> Result<Result<Value, Refusal>, AllocError>
+) -> Result<Result<Value, OperationRefusal>, AllocError>
     ensures { IfOk result (λ r. Answers (answer (data_of receiver.now) name.now (map data_of arguments.now)) r) }
 {
     let answer = match receiver {
@@ -32,12 +32,12 @@ pub fn method(
         Value::List(list) => list_method(list, name, arguments),
         Value::Dictionary(dictionary) => dictionary_method(alloc, dictionary, name, arguments),
         Value::Text(text) => text_method(alloc, text.as_str(), name, arguments),
-        Value::Object(_) => Err(Stop::Refused(Refusal::UnknownMethod)),
+        Value::Object(_) => Err(MethodStop::Refused(OperationRefusal::UnknownMethod)),
     };
     match answer {
         Ok(value) => Ok(Ok(value)),
-        Err(Stop::Refused(refusal)) => Ok(Err(refusal)),
-        Err(Stop::Memory(error)) => Err(error),
+        Err(MethodStop::Refused(refusal)) => Ok(Err(refusal)),
+        Err(MethodStop::Memory(error)) => Err(error),
     }
 }
 

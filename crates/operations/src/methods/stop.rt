@@ -4,43 +4,43 @@ ghost use Rattle.std.specs.Prelude.{◌≡◌, alloc_error};
 
 use std::alloc::{AllocError, AllocFailed};
 use thiserror::Error;
-use values::Refusal;
+use values::OperationRefusal;
 
-/// The reason why a call returns no value: it was refused, or ran out of memory.
+/// Says why a call returns no value: it was refused, or ran out of memory.
 #[derive(Debug, Drop, Error)]
-pub enum Stop {
+pub enum MethodStop {
     #[error(transparent)]
-    Refused(Refusal),
+    Refused(OperationRefusal),
     #[error("out of memory")]
     Memory(AllocError),
 }
 
-impl From<Refusal> for Stop {
-    ghost use Rattle.operations.specs.declared.methods.stop.Stop.TheVariants.{Refused};
+impl From<OperationRefusal> for MethodStop {
+    ghost use Rattle.operations.specs.declared.methods.stop.MethodStop.TheVariants.{Refused};
 
     ghost from_gives = { λ r s. s ≡ Refused r };
 
-    fn from(refusal: Refusal) -> Stop {
-        Stop::Refused(refusal)
+    fn from(refusal: OperationRefusal) -> MethodStop {
+        MethodStop::Refused(refusal)
     }
 }
 
-impl From<AllocError> for Stop {
-    ghost use Rattle.operations.specs.declared.methods.stop.Stop.TheVariants.{Memory};
+impl From<AllocError> for MethodStop {
+    ghost use Rattle.operations.specs.declared.methods.stop.MethodStop.TheVariants.{Memory};
 
     ghost from_gives = { λ e s. s ≡ Memory e };
 
-    fn from(error: AllocError) -> Stop {
-        Stop::Memory(error)
+    fn from(error: AllocError) -> MethodStop {
+        MethodStop::Memory(error)
     }
 }
 
-impl<T: Drop> From<AllocFailed<T>> for Stop {
-    ghost use Rattle.operations.specs.declared.methods.stop.Stop.TheVariants.{Memory};
+impl<T: Drop> From<AllocFailed<T>> for MethodStop {
+    ghost use Rattle.operations.specs.declared.methods.stop.MethodStop.TheVariants.{Memory};
 
     ghost from_gives = { λ _ s. s ≡ Memory alloc_error };
 
-    fn from(failed: AllocFailed<T>) -> Stop {
-        Stop::Memory(AllocError::from(failed))
+    fn from(failed: AllocFailed<T>) -> MethodStop {
+        MethodStop::Memory(AllocError::from(failed))
     }
 }

@@ -12,11 +12,11 @@ ghost use Rattle.operations.specs.methods.TextMethods.{version_compare};
 use crate::methods::flattening::flat_texts;
 use crate::methods::formatted::format_text;
 use crate::methods::readers::{bounds, none, one_text, two_texts};
-use crate::methods::stop::Stop;
+use crate::methods::stop::MethodStop;
 use crate::operators::text_list;
 use std::alloc::Global;
 use values::language_names::{MethodName, TextMethod};
-use values::{Refusal, Text, Value};
+use values::{OperationRefusal, Text, Value};
 
 /// Calls the method of a text with this name and returns its result. Refusals are E8 for an unknown name, E9 for wrong arguments, and those
 /// of the method.
@@ -25,10 +25,10 @@ pub fn text_method(
     text: &str,
     name: &MethodName,
     arguments: &[Value],
-) -> Result<Value, Stop>
+) -> Result<Value, MethodStop>
     ensures { Gives (answer text.now name.now (map data_of arguments.now)) result }
 {
-    let method = name.of_text().ok_or(Refusal::UnknownMethod)?;
+    let method = name.of_text().ok_or(OperationRefusal::UnknownMethod)?;
     match method {
         TextMethod::Contains => contains(text, arguments),
         TextMethod::StartsWith => starts_with(text, arguments),
@@ -48,35 +48,35 @@ pub fn text_method(
     }
 }
 
-fn contains(text: &str, arguments: &[Value]) -> Result<Value, Stop>
+fn contains(text: &str, arguments: &[Value]) -> Result<Value, MethodStop>
     ensures { Gives (contains text.now (map data_of arguments.now)) result }
 {
     let part = one_text(arguments)?;
     Ok(Value::Boolean(values::texts::contains(text, part.as_str())))
 }
 
-fn starts_with(text: &str, arguments: &[Value]) -> Result<Value, Stop>
+fn starts_with(text: &str, arguments: &[Value]) -> Result<Value, MethodStop>
     ensures { Gives (starts_with text.now (map data_of arguments.now)) result }
 {
     let part = one_text(arguments)?;
     Ok(Value::Boolean(values::texts::starts_with(text, part.as_str())))
 }
 
-fn ends_with(text: &str, arguments: &[Value]) -> Result<Value, Stop>
+fn ends_with(text: &str, arguments: &[Value]) -> Result<Value, MethodStop>
     ensures { Gives (ends_with text.now (map data_of arguments.now)) result }
 {
     let part = one_text(arguments)?;
     Ok(Value::Boolean(values::texts::ends_with(text, part.as_str())))
 }
 
-fn format(alloc: Global, text: &str, arguments: &[Value]) -> Result<Value, Stop>
+fn format(alloc: Global, text: &str, arguments: &[Value]) -> Result<Value, MethodStop>
     ensures { Gives (format text.now (map data_of arguments.now)) result }
 {
     let formatted = format_text(alloc, text, arguments)??;
     value_of_text(formatted)
 }
 
-fn join(alloc: Global, text: &str, arguments: &[Value]) -> Result<Value, Stop>
+fn join(alloc: Global, text: &str, arguments: &[Value]) -> Result<Value, MethodStop>
     ensures { Gives (join text.now (map data_of arguments.now)) result }
 {
     let pieces = flat_texts(alloc, arguments)??;
@@ -84,7 +84,7 @@ fn join(alloc: Global, text: &str, arguments: &[Value]) -> Result<Value, Stop>
     value_of_text(joined)
 }
 
-fn replace(alloc: Global, text: &str, arguments: &[Value]) -> Result<Value, Stop>
+fn replace(alloc: Global, text: &str, arguments: &[Value]) -> Result<Value, MethodStop>
     ensures { Gives (replace text.now (map data_of arguments.now)) result }
 {
     let (old, new) = two_texts(arguments)?;
@@ -92,7 +92,7 @@ fn replace(alloc: Global, text: &str, arguments: &[Value]) -> Result<Value, Stop
     value_of_text(replaced)
 }
 
-fn split(alloc: Global, text: &str, arguments: &[Value]) -> Result<Value, Stop>
+fn split(alloc: Global, text: &str, arguments: &[Value]) -> Result<Value, MethodStop>
     ensures { Gives (split text.now (map data_of arguments.now)) result }
 {
     if arguments.is_empty() {
@@ -101,21 +101,21 @@ fn split(alloc: Global, text: &str, arguments: &[Value]) -> Result<Value, Stop>
     split_at(alloc, text, one_text(arguments)?)
 }
 
-fn split_blank(alloc: Global, text: &str) -> Result<Value, Stop>
+fn split_blank(alloc: Global, text: &str) -> Result<Value, MethodStop>
     ensures { Gives (split text.now []) result }
 {
     let words = values::texts::split_blank(alloc, text)??;
     value_of_list(alloc, &words)
 }
 
-fn split_at(alloc: Global, text: &str, separator: &Text) -> Result<Value, Stop>
+fn split_at(alloc: Global, text: &str, separator: &Text) -> Result<Value, MethodStop>
     ensures { Gives (split text.now (text_data separator.now ∷ [])) result }
 {
     let parts = values::texts::split_at(alloc, text, separator.as_str())??;
     value_of_list(alloc, &parts)
 }
 
-fn split_lines(alloc: Global, text: &str, arguments: &[Value]) -> Result<Value, Stop>
+fn split_lines(alloc: Global, text: &str, arguments: &[Value]) -> Result<Value, MethodStop>
     ensures { Gives (split_lines text.now (map data_of arguments.now)) result }
 {
     none(arguments)?;
@@ -123,7 +123,7 @@ fn split_lines(alloc: Global, text: &str, arguments: &[Value]) -> Result<Value, 
     value_of_list(alloc, &lines)
 }
 
-fn strip(alloc: Global, text: &str, arguments: &[Value]) -> Result<Value, Stop>
+fn strip(alloc: Global, text: &str, arguments: &[Value]) -> Result<Value, MethodStop>
     ensures { Gives (strip text.now (map data_of arguments.now)) result }
 {
     if arguments.is_empty() {
@@ -133,14 +133,14 @@ fn strip(alloc: Global, text: &str, arguments: &[Value]) -> Result<Value, Stop>
     value_of_slice(alloc, values::texts::strip_of(alloc, text, set.as_str())?)
 }
 
-fn substring(alloc: Global, text: &str, arguments: &[Value]) -> Result<Value, Stop>
+fn substring(alloc: Global, text: &str, arguments: &[Value]) -> Result<Value, MethodStop>
     ensures { Gives (substring text.now (map data_of arguments.now)) result }
 {
     let (from, to) = bounds(arguments)?;
     value_of_slice(alloc, values::texts::substring(text, from, to))
 }
 
-fn to_int(text: &str, arguments: &[Value]) -> Result<Value, Stop>
+fn to_int(text: &str, arguments: &[Value]) -> Result<Value, MethodStop>
     ensures { Gives (to_int text.now (map data_of arguments.now)) result }
 {
     none(arguments)?;
@@ -148,55 +148,55 @@ fn to_int(text: &str, arguments: &[Value]) -> Result<Value, Stop>
     Ok(Value::Integer(integer))
 }
 
-fn to_lower(alloc: Global, text: &str, arguments: &[Value]) -> Result<Value, Stop>
+fn to_lower(alloc: Global, text: &str, arguments: &[Value]) -> Result<Value, MethodStop>
     ensures { Gives (to_lower text.now (map data_of arguments.now)) result }
 {
     none(arguments)?;
     value_of(alloc, values::texts::to_lower(alloc, text)?)
 }
 
-fn to_upper(alloc: Global, text: &str, arguments: &[Value]) -> Result<Value, Stop>
+fn to_upper(alloc: Global, text: &str, arguments: &[Value]) -> Result<Value, MethodStop>
     ensures { Gives (to_upper text.now (map data_of arguments.now)) result }
 {
     none(arguments)?;
     value_of(alloc, values::texts::to_upper(alloc, text)?)
 }
 
-fn underscorify(alloc: Global, text: &str, arguments: &[Value]) -> Result<Value, Stop>
+fn underscorify(alloc: Global, text: &str, arguments: &[Value]) -> Result<Value, MethodStop>
     ensures { Gives (underscorify text.now (map data_of arguments.now)) result }
 {
     none(arguments)?;
     value_of(alloc, values::texts::underscorify(alloc, text)?)
 }
 
-fn version_compare(text: &str, arguments: &[Value]) -> Result<Value, Stop>
+fn version_compare(text: &str, arguments: &[Value]) -> Result<Value, MethodStop>
     ensures { Gives (version_compare text.now (map data_of arguments.now)) result }
 {
     let condition = one_text(arguments)?;
     Ok(Value::Boolean(values::texts::version_compare(text, condition.as_str())))
 }
 
-fn value_of_text(text: Text) -> Result<Value, Stop>
+fn value_of_text(text: Text) -> Result<Value, MethodStop>
     ensures { Gives (within (text_data text)) result }
 {
     let _within = text.as_str();
     Ok(Value::Text(text))
 }
 
-fn value_of(alloc: Global, string: String) -> Result<Value, Stop>
+fn value_of(alloc: Global, string: String) -> Result<Value, MethodStop>
     ensures { Gives (within (text_data (string_bytes string))) result }
 {
     let value = Value::of_string(alloc, string)??;
     Ok(value)
 }
 
-fn value_of_list(alloc: Global, texts: &[&str]) -> Result<Value, Stop>
+fn value_of_list(alloc: Global, texts: &[&str]) -> Result<Value, MethodStop>
     ensures { Gives (text_list (map (λ t. t.now) texts.now)) result }
 {
     Ok(text_list(alloc, texts)??)
 }
 
-fn value_of_slice(alloc: Global, text: &str) -> Result<Value, Stop>
+fn value_of_slice(alloc: Global, text: &str) -> Result<Value, MethodStop>
     ensures { Gives (within (text_data text.now)) result }
 {
     let value = Value::of_str(alloc, text)??;

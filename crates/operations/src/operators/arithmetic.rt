@@ -3,38 +3,38 @@
 ghost use Rattle.std.specs.Prelude.{◌≡◌, ◌-ℤ◌, ◌*ℤ◌, IfSome, option_map};
 ghost use Rattle.values.specs.Data.{integer as integer_data};
 ghost use Rattle.values.specs.Prelude.{Answers, data_of};
-ghost use Rattle.values.specs.declared.refusal.Refusal.TheVariants as refusal;
+ghost use Rattle.values.specs.declared.refusal.OperationRefusal.TheVariants as refusal;
 ghost use Rattle.operations.specs.operators.Integers.{IsRest, quotient, remainder};
 ghost use Rattle.operations.specs.operators.Operations.{answer, binary_outcome, unary_outcome};
 ghost use Rattle.operations.specs.declared.operators.operator.Unary.TheVariants.{Negate};
 
 use crate::operators::operator::Binary;
-use values::{Refusal, Value};
+use values::{OperationRefusal, Value};
 
 // Returns the value of a result in range, and E7 if there is none.
-fn integer(result_in_range: Option<i128>) -> Result<Value, Refusal>
+fn integer(result_in_range: Option<i128>) -> Result<Value, OperationRefusal>
     ensures { Answers (answer (option_map integer_data result_in_range) refusal.Range) result }
 {
     match result_in_range {
         Some(integer) => Ok(Value::Integer(integer)),
-        None => Err(Refusal::Range),
+        None => Err(OperationRefusal::Range),
     }
 }
 
 /// Returns the result of `-operand`.
-pub fn opposite(operand: &Value) -> Result<Value, Refusal>
+pub fn opposite(operand: &Value) -> Result<Value, OperationRefusal>
     ensures { Answers (unary_outcome Negate (data_of operand.now)) result }
 {
     match operand {
         Value::Integer(x) => integer(x.checked_neg()),
-        _ => Err(Refusal::Type),
+        _ => Err(OperationRefusal::Type),
     }
 }
 
 /// Returns the result of an operator for two integers. Refusals are E7 for a result out of range or a divisor of zero, and E6 for an
 /// operator that integers do not have.
 #[inline(always)]
-pub fn of_integers(operator: Binary, x: i128, y: i128) -> Result<Value, Refusal>
+pub fn of_integers(operator: Binary, x: i128, y: i128) -> Result<Value, OperationRefusal>
     ensures { Answers (binary_outcome operator (integer_data x) (integer_data y)) result }
 {
     match operator {
@@ -49,7 +49,7 @@ pub fn of_integers(operator: Binary, x: i128, y: i128) -> Result<Value, Refusal>
         Binary::LessOrEqual => Ok(Value::Boolean(x <= y)),
         Binary::Greater => Ok(Value::Boolean(x > y)),
         Binary::GreaterOrEqual => Ok(Value::Boolean(x >= y)),
-        Binary::In | Binary::NotIn => Err(Refusal::Type),
+        Binary::In | Binary::NotIn => Err(OperationRefusal::Type),
     }
 }
 

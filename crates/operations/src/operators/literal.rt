@@ -9,21 +9,21 @@ ghost use Rattle.operations.specs.operators.Literal.{with_entry, with_entries, l
 
 use std::alloc::{AllocError, Global};
 use thiserror::Error;
-use values::{Content, DictionaryBuilder, List, Refusal, Text, Value};
+use values::{Content, DictionaryBuilder, List, OperationRefusal, Text, Value};
 
-/// The reason why keys and values make no dictionary.
+/// Says why keys and values make no dictionary.
 #[derive(Debug, Drop, Error)]
 pub enum LiteralRefusal {
     /// E11: an earlier entry has this key.
-    #[error("{}: key '{}'", Refusal::Duplicate, .0.as_str())]
+    #[error("{}: key '{}'", OperationRefusal::Duplicate, .0.as_str())]
     Twice(Text),
     /// A key is no text, or the dictionary is past a limit.
     #[error(transparent)]
-    Refused(Refusal),
+    Refused(OperationRefusal),
 }
 
 /// Returns the list of a literal's items, or E22 if it is past a limit.
-pub fn list(alloc: Global, items: Vec<Value>) -> Result<Result<Value, Refusal>, AllocError>
+pub fn list(alloc: Global, items: Vec<Value>) -> Result<Result<Value, OperationRefusal>, AllocError>
     ensures { IfOk result (λ r. Answers (within (list_data (items_of items.items))) r) }
 {
     match List::from_items(items) {
@@ -37,7 +37,7 @@ fn push_text(
     alloc: Global,
     values: &mut Vec<Value>,
     text: &str,
-) -> Result<Result<(), Refusal>, AllocError>
+) -> Result<Result<(), OperationRefusal>, AllocError>
     ensures { IfOk result (λ r. PutsText values.old.items text.now values.new.items r) }
 {
     let at = values.len();
@@ -49,8 +49,11 @@ fn push_text(
     Ok(put)
 }
 
-// Returns these texts as values, or `Refusal::Limit` if one is too long.
-fn text_values(alloc: Global, texts: &[&str]) -> Result<Result<Vec<Value>, Refusal>, AllocError>
+// Returns these texts as values, or `OperationRefusal::Limit` if one is too long.
+fn text_values(
+    alloc: Global,
+    texts: &[&str],
+) -> Result<Result<Vec<Value>, OperationRefusal>, AllocError>
     ensures { IfOk result (λ r. items_in r ≡ texts_behind no_items (map (λ t. t.now) texts.now)) }
 {
     let mut values = Vec::with_capacity(alloc, texts.len())?;
@@ -62,8 +65,11 @@ fn text_values(alloc: Global, texts: &[&str]) -> Result<Result<Vec<Value>, Refus
     Ok(Ok(values))
 }
 
-/// Returns the list of these texts, or `Refusal::Limit` if one of them or the list is past a limit.
-pub fn text_list(alloc: Global, texts: &[&str]) -> Result<Result<Value, Refusal>, AllocError>
+/// Returns the list of these texts, or `OperationRefusal::Limit` if one of them or the list is past a limit.
+pub fn text_list(
+    alloc: Global,
+    texts: &[&str],
+) -> Result<Result<Value, OperationRefusal>, AllocError>
     ensures { IfOk result (λ r. Answers (text_list (map (λ t. t.now) texts.now)) r) }
 {
     match text_values(alloc, texts)? {
@@ -123,7 +129,7 @@ fn put_entry(
     ensures light { IfOk result (λ _. entries_weight builder.new ≤ entries_weight builder.old + 2 ^ 26) }
 {
     let Content::Text(key) = key.into_content() else {
-        return Ok(Err(LiteralRefusal::Refused(Refusal::Type)));
+        return Ok(Err(LiteralRefusal::Refused(OperationRefusal::Type)));
     };
     if builder.contains_key(&key) {
         return Ok(Err(LiteralRefusal::Twice(key)));

@@ -6,9 +6,9 @@ ghost use Rattle.operations.specs.operators.Logic.{LeftAnswers, right_answer};
 ghost use Rattle.operations.specs.declared.operators.operator.Unary.TheVariants.{Not};
 
 use crate::operators::operator::Connective;
-use values::{Refusal, Value};
+use values::{OperationRefusal, Value};
 
-/// What the left side of `and` or `or` decides.
+/// Says what the left side of `and` or `or` decides.
 #[derive(Drop)]
 pub enum Left {
     /// The value of the whole. The right side is skipped.
@@ -18,18 +18,18 @@ pub enum Left {
 }
 
 /// Returns the result of `not operand`.
-pub fn negation(operand: &Value) -> Result<Value, Refusal>
+pub fn negation(operand: &Value) -> Result<Value, OperationRefusal>
     ensures { Answers (unary_outcome Not (data_of operand.now)) result }
 {
     match operand {
         Value::Boolean(boolean) => Ok(Value::Boolean(!*boolean)),
-        _ => Err(Refusal::Type),
+        _ => Err(OperationRefusal::Type),
     }
 }
 
-/// Returns whether the left side of `and` or `or` decides: `false and`, `true or` and a disabler do. The refusal is E6 for any other value
-/// that is not a boolean.
-pub fn left_side(connective: Connective, left: Value) -> Result<Left, Refusal>
+/// Returns whether the left side of `and` or `or` decides: `false and`, `true or` and a disabler do. Refuses any other value that is not a
+/// boolean with E6.
+pub fn left_side(connective: Connective, left: Value) -> Result<Left, OperationRefusal>
     ensures { LeftAnswers connective (data_of left) result }
 {
     match (connective, &left) {
@@ -40,14 +40,14 @@ pub fn left_side(connective: Connective, left: Value) -> Result<Left, Refusal>
             if left.is_disabler() {
                 Ok(Left::Decides(left))
             } else {
-                Err(Refusal::Type)
+                Err(OperationRefusal::Type)
             }
         }
     }
 }
 
-/// Returns the value of `and` or `or` if the right side decides: a boolean or a disabler. The refusal is E6 for any other value.
-pub fn right_side(right: Value) -> Result<Value, Refusal>
+/// Returns the value of `and` or `or` if the right side decides: a boolean or a disabler. Refuses any other value with E6.
+pub fn right_side(right: Value) -> Result<Value, OperationRefusal>
     ensures { Answers (right_answer (data_of right)) result }
 {
     match &right {
@@ -56,7 +56,7 @@ pub fn right_side(right: Value) -> Result<Value, Refusal>
             if right.is_disabler() {
                 Ok(right)
             } else {
-                Err(Refusal::Type)
+                Err(OperationRefusal::Type)
             }
         }
     }

@@ -21,7 +21,7 @@ pub fn membership(value: &Value, whole: &Value) -> Option<bool>
 }
 
 /// Returns the negation of `membership`, for `not in`.
-pub fn absence(value: &Value, whole: &Value) -> Option<bool>
+pub fn non_membership(value: &Value, whole: &Value) -> Option<bool>
     ensures { result ≡ option_map not (membership_row (data_of value.now) (data_of whole.now)) }
 {
     Some(!membership(value, whole)?)

@@ -2,7 +2,7 @@
 
 ghost use Rattle.std.specs.Prelude.{◌≡◌, ◌≢◌, IfOk, false, option_map};
 ghost use Rattle.values.specs.Data.{boolean as boolean_data};
-ghost use Rattle.values.specs.declared.refusal.Refusal.TheVariants as refusal;
+ghost use Rattle.values.specs.declared.refusal.OperationRefusal.TheVariants as refusal;
 ghost use Rattle.values.specs.Prelude.{Answers, data_of};
 ghost use Rattle.operations.specs.operators.Operations.{answer, are_integers, binary_outcome, unary_answer, binary_answer};
 ghost use Rattle.operations.specs.declared.operators.operator.Binary.TheVariants.{Add, Divide};
@@ -10,17 +10,17 @@ ghost use Rattle.operations.specs.declared.operators.operator.Binary.TheVariants
 use crate::operators::arithmetic::{of_integers, opposite};
 use crate::operators::lists::{append, append_all, merge};
 use crate::operators::logic::negation;
-use crate::operators::membership::{absence, membership};
+use crate::operators::membership::{membership, non_membership};
 use crate::operators::operator::{Binary, Unary};
 use crate::operators::relations::{equality, inequality, order};
 use crate::operators::text_sums::{concatenate, path_text};
 use std::alloc::{AllocError, Global};
 use std::cmp::Ordering;
-use values::{Content, Refusal, Value};
+use values::{Content, OperationRefusal, Value};
 
 /// Returns the result of an operator with one operand, or E6 for a wrong type and E7 for an integer out of range. A disabler gives a
 /// disabler.
-pub fn unary(operator: Unary, operand: Value) -> Result<Value, Refusal>
+pub fn unary(operator: Unary, operand: Value) -> Result<Value, OperationRefusal>
     ensures { Answers (unary_answer operator (data_of operand)) result }
 {
     if operand.is_disabler() {
@@ -42,7 +42,7 @@ pub fn binary(
     operator: Binary,
     left: Value,
     right: Value,
-) -> Result<Result<Value, Refusal>, AllocError>
+) -> Result<Result<Value, OperationRefusal>, AllocError>
     ensures { IfOk result (λ r. Answers (binary_answer operator (data_of left) (data_of right)) r) }
 {
     if let (Value::Integer(x), Value::Integer(y)) = (&left, &right) {
@@ -57,7 +57,7 @@ fn of_others(
     operator: Binary,
     left: Value,
     right: Value,
-) -> Result<Result<Value, Refusal>, AllocError>
+) -> Result<Result<Value, OperationRefusal>, AllocError>
     requires { are_integers (data_of left) (data_of right) ≡ false }
     ensures { IfOk result (λ r. Answers (binary_answer operator (data_of left) (data_of right)) r) }
 {
@@ -79,14 +79,14 @@ fn examine(
     operator: Binary,
     left: &Value,
     right: &Value,
-) -> Result<Result<Value, Refusal>, AllocError>
+) -> Result<Result<Value, OperationRefusal>, AllocError>
     requires other { operator ≢ Add }
     requires few { are_integers (data_of left.now) (data_of right.now) ≡ false }
     ensures { IfOk result (λ r. Answers (binary_outcome operator (data_of left.now) (data_of right.now)) r) }
 {
     match operator {
         Binary::Add => unreachable!(),
-        Binary::Subtract | Binary::Multiply | Binary::Remainder => Ok(Err(Refusal::Type)),
+        Binary::Subtract | Binary::Multiply | Binary::Remainder => Ok(Err(OperationRefusal::Type)),
         Binary::Divide => quotient(alloc, left, right),
         Binary::Equal => Ok(boolean(equality(left, right))),
         Binary::NotEqual => Ok(boolean(inequality(left, right))),
@@ -95,29 +95,33 @@ fn examine(
         Binary::Greater => Ok(boolean(order(left, right).map(Ordering::is_gt))),
         Binary::GreaterOrEqual => Ok(boolean(order(left, right).map(Ordering::is_ge))),
         Binary::In => Ok(boolean(membership(left, right))),
-        Binary::NotIn => Ok(boolean(absence(left, right))),
+        Binary::NotIn => Ok(boolean(non_membership(left, right))),
     }
 }
 
 // Returns the value of a test, and E6 if the operands have no such test.
-fn boolean(test: Option<bool>) -> Result<Value, Refusal>
+fn boolean(test: Option<bool>) -> Result<Value, OperationRefusal>
     ensures { Answers (answer (option_map boolean_data test) refusal.Type) result }
 {
     match test {
         Some(boolean) => Ok(Value::Boolean(boolean)),
-        None => Err(Refusal::Type),
+        None => Err(OperationRefusal::Type),
     }
 }
 
 // Returns the result of `left + right`.
-fn sum(alloc: Global, left: Value, right: Value) -> Result<Result<Value, Refusal>, AllocError>
+fn sum(
+    alloc: Global,
+    left: Value,
+    right: Value,
+) -> Result<Result<Value, OperationRefusal>, AllocError>
     requires { are_integers (data_of left) (data_of right) ≡ false }
     ensures { IfOk result (λ r. Answers (binary_outcome Add (data_of left) (data_of right)) r) }
 {
     match left.into_content() {
         Content::Text(text) => match &right {
             Value::Text(other) => concatenate(alloc, text, other.as_str()),
-            _ => Ok(Err(Refusal::Type)),
+            _ => Ok(Err(OperationRefusal::Type)),
         },
         Content::List(list) => match &right {
             Value::List(others) => append_all(alloc, list, others),
@@ -125,9 +129,9 @@ fn sum(alloc: Global, left: Value, right: Value) -> Result<Result<Value, Refusal
         },
         Content::Dictionary(dictionary) => match &right {
             Value::Dictionary(others) => merge(alloc, dictionary, others),
-            _ => Ok(Err(Refusal::Type)),
+            _ => Ok(Err(OperationRefusal::Type)),
         },
-        Content::Other => Ok(Err(Refusal::Type)),
+        Content::Other => Ok(Err(OperationRefusal::Type)),
     }
 }
 
@@ -136,7 +140,7 @@ fn quotient(
     alloc: Global,
     left: &Value,
     right: &Value,
-) -> Result<Result<Value, Refusal>, AllocError>
+) -> Result<Result<Value, OperationRefusal>, AllocError>
     requires { are_integers (data_of left.now) (data_of right.now) ≡ false }
     ensures { IfOk result (λ r. Answers (binary_outcome Divide (data_of left.now) (data_of right.now)) r) }
 {
@@ -145,6 +149,6 @@ fn quotient(
             Ok(path) => Ok(Ok(Value::Text(path))),
             Err(refusal) => Ok(Err(refusal)),
         },
-        _ => Ok(Err(Refusal::Type)),
+        _ => Ok(Err(OperationRefusal::Type)),
     }
 }

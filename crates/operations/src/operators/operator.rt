@@ -1,6 +1,6 @@
 //! Lists the operators.
 
-/// An operator with one operand.
+/// Names an operator with one operand.
 #[derive(Clone, Copy)]
 pub enum Unary {
     /// `not`
@@ -9,7 +9,7 @@ pub enum Unary {
     Negate,
 }
 
-/// An operator with two operands, both of which are evaluated.
+/// Names an operator with two operands, both of which are evaluated.
 #[derive(Clone, Copy)]
 pub enum Binary {
     /// `+`
@@ -40,7 +40,7 @@ pub enum Binary {
     NotIn,
 }
 
-/// An operator whose left operand decides whether the right one is evaluated.
+/// Names an operator whose left operand decides whether the right one is evaluated.
 #[derive(Clone, Copy)]
 pub enum Connective {
     /// `and`

@@ -2,12 +2,12 @@
 
 ghost use Rattle.std.specs.Prelude.{◌≡◌, IfOk, length, option_map, ok_or, slice_get};
 ghost use Rattle.std.specs.Str.{chars};
-ghost use Rattle.values.specs.declared.refusal.Refusal.TheVariants as refusal;
+ghost use Rattle.values.specs.declared.refusal.OperationRefusal.TheVariants as refusal;
 ghost use Rattle.values.specs.Prelude.{Answers, data_of};
 ghost use Rattle.operations.specs.operators.Index.{place, indexed_item, indexed_char, index_answer, char_text, output_outcome};
 
 use std::alloc::{AllocError, Global};
-use values::{List, Object, Refusal, Value};
+use values::{List, Object, OperationRefusal, Value};
 
 /// Returns `whole[index]`: an item of a list, a character of a text as a text, the value of a key of a dictionary, or an output of a custom
 /// target. Negative integers count from the end.
@@ -18,7 +18,7 @@ pub fn index(
     alloc: Global,
     whole: &Value,
     index: &Value,
-) -> Result<Result<Value, Refusal>, AllocError>
+) -> Result<Result<Value, OperationRefusal>, AllocError>
     ensures { IfOk result (λ r. Answers (index_answer (data_of whole.now) (data_of index.now)) r) }
 {
     if whole.is_disabler() {
@@ -38,7 +38,7 @@ pub fn index(
             Ok(output) => Ok(Ok(Value::of_object(alloc, output)?)),
             Err(refusal) => Ok(Err(refusal)),
         },
-        _ => Ok(Err(Refusal::Type)),
+        _ => Ok(Err(OperationRefusal::Type)),
     }
 }
 
@@ -86,33 +86,36 @@ fn char_at(text: &str, at: usize) -> Option<char>
     text.chars().nth(at)
 }
 
-fn indexed_output(object: &Object, index: i128) -> Result<Object, Refusal>
+fn indexed_output(object: &Object, index: i128) -> Result<Object, OperationRefusal>
     ensures { output_outcome object.now index ≡ result }
 {
     match object {
         Object::CustomTarget { number, outputs } => {
-            let output = place(index, *outputs).ok_or(Refusal::Absent)?;
+            let output = place(index, *outputs).ok_or(OperationRefusal::Absent)?;
             Ok(Object::CustomOutput {
                 target: *number,
                 output,
             })
         }
-        _ => Err(Refusal::Type),
+        _ => Err(OperationRefusal::Type),
     }
 }
 
 // Returns a copy of the value that was found, and E10 if there is none.
-fn give_found(value: Option<&Value>) -> Result<Result<Value, Refusal>, AllocError>
+fn give_found(value: Option<&Value>) -> Result<Result<Value, OperationRefusal>, AllocError>
     ensures { IfOk result (λ r. Answers (ok_or (option_map (λ v. data_of v.now) value.entry) refusal.Absent) r) }
 {
     let Some(value) = value else {
-        return Ok(Err(Refusal::Absent));
+        return Ok(Err(OperationRefusal::Absent));
     };
     Ok(Ok(value.clone()?))
 }
 
 // Returns the text of the character that was found, and E10 if there is none.
-fn text_of(alloc: Global, character: Option<char>) -> Result<Result<Value, Refusal>, AllocError>
+fn text_of(
+    alloc: Global,
+    character: Option<char>,
+) -> Result<Result<Value, OperationRefusal>, AllocError>
     ensures { IfOk result (λ r. Answers (ok_or (char_text character) refusal.Absent) r) }
 {
     match character {
@@ -121,6 +124,6 @@ fn text_of(alloc: Global, character: Option<char>) -> Result<Result<Value, Refus
             text.push(character)?;
             Value::of_string(alloc, text)
         }
-        None => Ok(Err(Refusal::Absent)),
+        None => Ok(Err(OperationRefusal::Absent)),
     }
 }

@@ -3,14 +3,14 @@ use Rattle.std.specs.Prelude.{ℕ, Bool, false, not, ◌||◌, ◌&&◌, List, [
 use Rattle.std.specs.Option.{option_map, option_and_then}
 use Rattle.syntax.specs.ExpressionTree.{ArgumentTree, ArgumentTrees, NoArgument, MoreArguments, arguments}
 use Rattle.support.specs.Among.{is_among}
-use Rattle.machine.specs.option_values.BuiltIns.{is_built_in}
-use Rattle.options.specs.declared.option_file.keyword.Keyword.{Keyword}
+use Rattle.option_values.specs.BuiltIns.{is_built_in}
+use Rattle.options.specs.declared.option_file.keyword.OptionKeyword.{OptionKeyword}
 use Rattle.options.specs.option_file.Declarations.{Declaration}
-use Rattle.options.specs.option_file.Given.{Given, Text, given}
-use Rattle.options.specs.option_file.Keywords.{Keywords, nothing_given, keyword_named, is_left_out, noted, asked_by}
+use Rattle.options.specs.option_file.Given.{Given, Text, given_of_argument}
+use Rattle.options.specs.option_file.Keywords.{Keywords, nothing_given, keyword_named, is_left_out, noted_keywords, asked_by}
 use Rattle.options.specs.option_file.Misfits.{RefusedData, LeftOut, Nameless, Twice, refused_as}
-use Rattle.options.specs.option_file.Names.{is_name}
-use Rattle.options.specs.option_file.Unfit.{first_refused, given_refused, lacking, listed, or_last}
+use Rattle.options.specs.option_file.Names.{is_option_name}
+use Rattle.options.specs.option_file.Unfit.{first_refused, given_refused, missing_keyword_refusal, list_of_arguments, or_last}
 
 -- Returns whether an argument's keyword, if it has one, is among these.
 abbrev pub stands_key : List (List ℕ) → Option (List ℕ) → Bool
@@ -39,7 +39,7 @@ gives_left_out (MoreArguments key e more) = is_left_out_key key || gives_left_ou
 
 -- Returns whether a project may give an option this name.
 abbrev pub is_free_name : List ℕ → Bool
-is_free_name name = is_name name && not (is_built_in name)
+is_free_name name = is_option_name name && not (is_built_in name)
 
 -- Returns the name of an option, if a text gives one that a project may use.
 abbrev pub name_in : Option Given → Option (List ℕ)
@@ -47,15 +47,15 @@ name_in (Some (Text name)) = if is_free_name name then Some name else None
 name_in _ = None
 
 -- Adds a known keyword and what it gives.
-abbrev pub with_keyword : Keywords → Option Keyword → Option Given → Option Keywords
-with_keyword k (Some keyword) (Some g) = noted k keyword g
+abbrev pub with_keyword : Keywords → Option OptionKeyword → Option Given → Option Keywords
+with_keyword k (Some keyword) (Some g) = noted_keywords k keyword g
 with_keyword k (Some keyword) None = None
 with_keyword k None g = None
 
 -- Adds one more argument, which a known keyword gives.
 abbrev pub with_argument : Keywords → ArgumentTree → Option Keywords
 with_argument k (None, e) = None
-with_argument k (Some key, e) = with_keyword k (keyword_named key) (given e)
+with_argument k (Some key, e) = with_keyword k (keyword_named key) (given_of_argument e)
 
 -- Adds what these arguments give to that of earlier ones, if known keywords give them all.
 abbrev pub keywords_from : Keywords → ArgumentTrees → Option Keywords
@@ -69,7 +69,7 @@ with_name line name k = option_map (λ a. record { name = name; kind = a.0; valu
 -- Returns the option that these arguments declare: its name, followed by keywords.
 abbrev pub option_of : ℕ → ArgumentTrees → Option Declaration
 option_of line (MoreArguments None e more) =
-    option_and_then (λ name. option_and_then (with_name line name) (keywords_from nothing_given more)) (name_in (given e))
+    option_and_then (λ name. option_and_then (with_name line name) (keywords_from nothing_given more)) (name_in (given_of_argument e))
 option_of line (MoreArguments (Some key) e more) = None
 option_of line NoArgument = None
 
@@ -92,12 +92,12 @@ first_left_out (a ∷ others) = if is_left_out_key a.0 then key_said a.0 else fi
 
 -- Returns the first faulty argument after the name, or else a missing keyword.
 abbrev pub others_unfit : List ArgumentTree → RefusedData
-others_unfit others = or_last (first_refused others) (lacking (keywords_from nothing_given (arguments others)))
+others_unfit others = or_last (first_refused others) (missing_keyword_refusal (keywords_from nothing_given (arguments others)))
 
 -- Returns what is wrong with the name, or else with the other arguments.
 abbrev pub first_unfit : ArgumentTree → List ArgumentTree → RefusedData
 first_unfit (Some key, e) others = refused_as Nameless
-first_unfit (None, e) others = or_last (given_refused (given e)) (others_unfit others)
+first_unfit (None, e) others = or_last (given_refused (given_of_argument e)) (others_unfit others)
 
 -- Returns the fault of the name, or else of the other arguments.
 abbrev pub unfit : List ArgumentTree → RefusedData
@@ -113,6 +113,6 @@ or_fault refused None = Err refused
 -- that is left out, then everything else.
 abbrev pub call_declares : ℕ → ArgumentTrees → Result Declaration RefusedData
 call_declares line given_arguments =
-    if gives_twice [] given_arguments then Err (refused_as (Twice (first_twice [] (listed given_arguments))))
-    else (if gives_left_out given_arguments then Err (refused_as (LeftOut (first_left_out (listed given_arguments))))
-    else or_fault (unfit (listed given_arguments)) (option_of line given_arguments))
+    if gives_twice [] given_arguments then Err (refused_as (Twice (first_twice [] (list_of_arguments given_arguments))))
+    else (if gives_left_out given_arguments then Err (refused_as (LeftOut (first_left_out (list_of_arguments given_arguments))))
+    else or_fault (unfit (list_of_arguments given_arguments)) (option_of line given_arguments))

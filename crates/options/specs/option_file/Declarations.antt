@@ -1,6 +1,6 @@
 -- Defines the options that an option file declares.
 use Rattle.std.specs.Prelude.{ℕ, List, Option}
-use Rattle.machine.specs.option_values.Kinds.{Kind}
+use Rattle.option_values.specs.Kinds.{Kind}
 use Rattle.options.specs.option_file.Given.{Given}
 
 -- An option: its name, what it takes, its default, and the line of its statement.

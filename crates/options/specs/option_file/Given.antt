@@ -1,14 +1,14 @@
 -- Defines what an argument of a call of `option` gives, as it is written.
 use Rattle.std.specs.Prelude.{ℕ, ℤ, Bool, true, false, List, [], ◌∷◌, Option, Some, None}
 use Rattle.std.specs.Option.{option_map, option_and_then}
-use Rattle.syntax.specs.declared.lexer.token.Kind.TheVariants as Kinds
+use Rattle.syntax.specs.declared.lexer.token.TokenKind.TheVariants as Kinds
 use Rattle.syntax.specs.lexer.Texts.{text_of}
 use Rattle.syntax.specs.declared.tree.Literal.{Literal}
 use Rattle.syntax.specs.declared.tree.Literal.TheVariants as literals
 use Rattle.syntax.specs.declared.tree.Prefix.{Prefix}
 use Rattle.syntax.specs.declared.tree.Prefix.TheVariants as prefixes
 use Rattle.syntax.specs.ExpressionTree.{ExpressionTree, LiteralTree, ListTree, PrefixTree, ExpressionTrees, NoExpression, MoreExpressions}
-use Rattle.options.specs.option_file.Numbers.{number_of}
+use Rattle.options.specs.option_file.Numbers.{numeral_value}
 
 -- Texts are bytes. `Other` is a value that no option takes: a number that does not fit in 64 bits, or a list of things other than texts.
 pub data Given : Type 0 where
@@ -25,7 +25,7 @@ integer None = Other
 
 -- Returns the number with this sign, if it is within the range of the language's integers.
 abbrev pub numeral : Bool → List ℕ → Option Given
-numeral negative digits = option_map integer (number_of negative digits)
+numeral negative digits = option_map integer (numeral_value negative digits)
 
 -- Returns what a literal gives. A plain or a raw string gives its text. A format string gives nothing that an option file may have.
 abbrev pub literal_given : Literal → List ℕ → Option Given
@@ -83,6 +83,6 @@ abbrev pub list_given : List Given → Given
 list_given gs = texts_or_other (texts_in gs)
 
 -- Returns what an argument gives: a string, a boolean, a number, or a list of these.
-abbrev pub given : ExpressionTree → Option Given
-given (ListTree items line) = option_map list_given (items_given items)
-given e = item_given e
+abbrev pub given_of_argument : ExpressionTree → Option Given
+given_of_argument (ListTree items line) = option_map list_given (items_given items)
+given_of_argument e = item_given e

@@ -1,17 +1,17 @@
 -- Defines the keywords of a call of `option`, and what they give.
 use Rattle.std.specs.Prelude.{ℕ, ℤ, Bool, List, [], ◌∷◌, Option, Some, None, codes, bytes_eq, if◌then◌else◌}
 use Rattle.std.specs.Option.{option_map}
-use Rattle.machine.specs.option_values.Kinds as kinds
-use Rattle.machine.specs.option_values.Kinds.{Kind}
-use Rattle.options.specs.declared.option_file.keyword.Keyword.{Keyword}
-use Rattle.options.specs.declared.option_file.keyword.Keyword.TheVariants as words
-use Rattle.machine.specs.declared.option_values.kind.OptionType.{OptionType}
-use Rattle.machine.specs.declared.option_values.kind.OptionType.TheVariants as types
-use Rattle.machine.specs.option_values.Types.{type_named}
+use Rattle.option_values.specs.Kinds as kinds
+use Rattle.option_values.specs.Kinds.{Kind}
+use Rattle.options.specs.declared.option_file.keyword.OptionKeyword.{OptionKeyword}
+use Rattle.options.specs.declared.option_file.keyword.OptionKeyword.TheVariants as words
+use Rattle.option_values.specs.declared.kind.OptionType.{OptionType}
+use Rattle.option_values.specs.declared.kind.OptionType.TheVariants as types
+use Rattle.option_values.specs.Types.{type_named}
 use Rattle.options.specs.option_file.Given.{Given, Text, Integer, Texts}
 use Rattle.support.specs.Among.{is_among}
 
--- What the keywords up to some place give. A type, choices and bounds already have the right form.
+-- The keywords of a call so far, each with the value that it gives. A type, choices and bounds already have the right form.
 pub record Keywords : Type 0 where
   pub kind : Option OptionType
   pub value : Option Given
@@ -19,12 +19,12 @@ pub record Keywords : Type 0 where
   pub least : Option ℤ
   pub greatest : Option ℤ
 
--- Returns the keywords of a call without any.
+-- Returns the keywords of a call that has none.
 abbrev pub nothing_given : Keywords
 nothing_given = record { kind = None; value = None; choices = None; least = None; greatest = None }
 
 -- Returns the keyword with this name. `description` and `yield` have no effect.
-unfoldable pub keyword_named : List ℕ → Option Keyword
+unfoldable pub keyword_named : List ℕ → Option OptionKeyword
 keyword_named name =
     if bytes_eq name (codes "type") then Some words.Kind
     else (if bytes_eq name (codes "value") then Some words.Value
@@ -55,13 +55,13 @@ bound_in (Integer n) = Some n
 bound_in _ = None
 
 -- Records one more keyword and what it gives, if the keyword may give this.
-abbrev pub noted : Keywords → Keyword → Given → Option Keywords
-noted k words.Kind g = option_map (λ t. record k { kind = Some t }) (type_in g)
-noted k words.Value g = Some (record k { value = Some g })
-noted k words.Choices g = option_map (λ c. record k { choices = Some c }) (choices_in g)
-noted k words.Min g = option_map (λ n. record k { least = Some n }) (bound_in g)
-noted k words.Max g = option_map (λ n. record k { greatest = Some n }) (bound_in g)
-noted k words.NoEffect g = Some k
+abbrev pub noted_keywords : Keywords → OptionKeyword → Given → Option Keywords
+noted_keywords k words.Kind g = option_map (λ t. record k { kind = Some t }) (type_in g)
+noted_keywords k words.Value g = Some (record k { value = Some g })
+noted_keywords k words.Choices g = option_map (λ c. record k { choices = Some c }) (choices_in g)
+noted_keywords k words.Min g = option_map (λ n. record k { least = Some n }) (bound_in g)
+noted_keywords k words.Max g = option_map (λ n. record k { greatest = Some n }) (bound_in g)
+noted_keywords k words.NoEffect g = Some k
 
 -- Returns a combo of these choices, of which there must be one.
 abbrev pub combo_of : Option (List (List ℕ)) → Option Kind

@@ -1,15 +1,16 @@
 -- Defines the keywords of a call, without their place in memory.
 use Rattle.std.specs.Prelude.{Option}
 use Rattle.std.specs.Option.{option_map}
-use Rattle.machine.specs.declared.option_values.kind.OptionKind.{OptionKind}
-use Rattle.machine.specs.option_values.Kinds.{Kind}
-use Rattle.machine.specs.option_values.View.{choices_in, kind_in}
-use Rattle.options.specs.declared.option_file.declaration.Given.{Given}
+use Rattle.option_values.specs.declared.kind.OptionKind.{OptionKind}
+use Rattle.option_values.specs.Kinds.{Kind}
+use Rattle.option_values.specs.View.{choices_in, kind_in}
+use Rattle.options.specs.declared.option_file.declaration.DeclaredValue.{DeclaredValue}
 use Rattle.options.specs.declared.option_file.keyword.Keywords.{Keywords}
 use Rattle.options.specs.option_file.Given as given
 use Rattle.options.specs.option_file.Keywords as plain
 use Rattle.options.specs.option_file.View.{given_in}
 
+-- Returns the keywords of a call as plain data. The bounds `min` and `max` are its `least` and `greatest`.
 abbrev pub keywords_in : Keywords → plain.Keywords
 keywords_in k = record {
   kind = k.kind;
@@ -20,5 +21,5 @@ keywords_in k = record {
 }
 
 -- Returns what an option takes, and its default.
-abbrev pub asked_in : OptionKind × Option Given → Kind × Option given.Given
+abbrev pub asked_in : OptionKind × Option DeclaredValue → Kind × Option given.Given
 asked_in a = (kind_in a.0, option_map given_in a.1)

@@ -1,7 +1,7 @@
 -- Defines look-ups among declared options.
 use Rattle.std.specs.Prelude.{ℕ, Bool, true, not, ◌||◌, ◌&&◌, List, [], ◌∷◌, ◌++◌, Option, Some, None, if◌then◌else◌, bytes_eq}
 use Rattle.std.specs.List.{list_any}
-use Rattle.machine.specs.option_values.BuiltIns.{is_built_in}
+use Rattle.option_values.specs.BuiltIns.{is_built_in}
 use Rattle.options.specs.option_file.Declarations.{Declaration}
 
 -- Returns whether one of these options has this name.
@@ -13,7 +13,7 @@ abbrev pub option_named : List Declaration → List ℕ → Option Declaration
 option_named [] name = None
 option_named (d ∷ ds) name = if bytes_eq name d.name then Some d else option_named ds name
 
--- Returns whether the name is none of a built-in option, and none of these.
+-- Returns whether the name is neither that of a built-in option nor one of these.
 abbrev pub is_new : List ℕ → List Declaration → Bool
 is_new name options = not (is_built_in name || is_used name options)
 

@@ -1,11 +1,12 @@
 -- Defines what is wrong with a statement, without its place in memory.
 use Rattle.std.specs.Prelude.{string_bytes}
 use Rattle.options.specs.option_file.Misfits as plain
-use Rattle.options.specs.declared.option_file.misfit.Misfit.{Misfit}
-use Rattle.options.specs.declared.option_file.misfit.Misfit.TheVariants as misfit
-use Rattle.options.specs.declared.option_file.misfit.Refused.{Refused}
+use Rattle.options.specs.declared.option_file.statement_problem.StatementProblem.{StatementProblem}
+use Rattle.options.specs.declared.option_file.statement_problem.StatementProblem.TheVariants as misfit
+use Rattle.options.specs.declared.option_file.statement_problem.StatementError.{StatementError}
 
-abbrev pub misfit_in : Misfit → plain.MisfitData
+-- Returns the reason why the code refuses a statement as plain data, with each borrowed text as its bytes.
+abbrev pub misfit_in : StatementProblem → plain.MisfitData
 misfit_in misfit.NoCall = plain.NoCall
 misfit_in (misfit.Twice key) = plain.Twice key.now
 misfit_in (misfit.LeftOut key) = plain.LeftOut key.now
@@ -21,5 +22,6 @@ misfit_in (misfit.NoChoices key) = plain.NoChoices key.now
 misfit_in (misfit.NoBound key) = plain.NoBound key.now
 misfit_in (misfit.Missing key) = plain.Missing key.now
 
-abbrev pub refused_in : Refused → plain.RefusedData
+-- Returns the refusal of a statement as plain data, with its details as bytes.
+abbrev pub refused_in : StatementError → plain.RefusedData
 refused_in r = record { refusal = r.refusal; detail = string_bytes r.detail }

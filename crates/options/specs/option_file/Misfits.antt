@@ -3,6 +3,7 @@ use Rattle.std.specs.Prelude.{ℕ, List, ◌++◌, codes}
 use Rattle.support.specs.declared.faults.refusal.Refusal.{Refusal}
 use Rattle.support.specs.declared.faults.refusal.Refusal.TheVariants as refusals
 
+-- A reason why a statement of an option file is refused.
 pub data MisfitData : Type 0 where
   -- The statement is no call of `option`.
   NoCall : MisfitData
@@ -27,7 +28,7 @@ pub data MisfitData : Type 0 where
   -- A required keyword that is missing.
   Missing : (key : List ℕ) → MisfitData
 
--- What is refused, and the details.
+-- The refusal of a statement, and its details.
 pub record RefusedData : Type 0 where
   pub refusal : Refusal
   pub detail : List ℕ
@@ -37,18 +38,20 @@ abbrev pub refusal_of : MisfitData → Refusal
 refusal_of (LeftOut key) = refusals.LeftOut
 refusal_of _ = refusals.OptionValue
 
+-- Returns the text in single quotes, a colon, a space and these words.
 abbrev pub text_is : List ℕ → List ℕ → List ℕ
 text_is text words = codes "'" ++ (text ++ (codes "': " ++ words))
 
+-- Returns `keyword`, the key in single quotes, a colon and these words.
 abbrev pub keyword_is : List ℕ → List ℕ → List ℕ
 keyword_is key words = codes "keyword '" ++ (key ++ (codes "': " ++ words))
 
 -- Returns the details in words.
 abbrev pub words_of : MisfitData → List ℕ
 words_of NoCall = codes "statement: is no call of option"
-words_of (Twice key) = keyword_is key (codes "stands twice")
+words_of (Twice key) = keyword_is key (codes "occurs twice")
 words_of (LeftOut key) = keyword_is key (codes "is left out")
-words_of (Again name) = codes "option '" ++ (name ++ codes "': stands twice")
+words_of (Again name) = codes "option '" ++ (name ++ codes "': occurs twice")
 words_of Nameless = codes "arguments: needs the name of an option"
 words_of (NoName text) = text_is text (codes "is no name of an option")
 words_of (BuiltIn name) = text_is name (codes "is the name of a built-in option")

@@ -8,5 +8,5 @@ abbrev pub in_name : ℕ → Bool
 in_name b = continues_word b || (b == minus)
 
 -- Returns whether the text is at least one letter, digit, underscore or minus, and nothing else.
-abbrev pub is_name : List ℕ → Bool
-is_name text = nat_lt 0 (length text) && list_all in_name text
+abbrev pub is_option_name : List ℕ → Bool
+is_option_name text = nat_lt 0 (length text) && list_all in_name text

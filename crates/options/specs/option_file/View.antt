@@ -6,14 +6,14 @@ use Rattle.options.specs.option_file.Fault.{DeclareFaultData}
 use Rattle.options.specs.option_file.FaultView.{fault_in}
 use Rattle.options.specs.option_file.MisfitView.{refused_in}
 use Rattle.options.specs.option_file.Misfits.{RefusedData}
-use Rattle.options.specs.declared.option_file.misfit.Refused.{Refused}
+use Rattle.options.specs.declared.option_file.statement_problem.StatementError.{StatementError}
 use Rattle.options.specs.declared.option_file.declaration.Declaration.{Declaration}
 use Rattle.options.specs.declared.option_file.declaration.Declared.{Declared}
 use Rattle.options.specs.declared.option_file.fault.DeclareFault.{DeclareFault}
 use Rattle.options.specs.option_file.Declarations as plain
 
 -- Returns the option that a call declares, or what is wrong with it.
-abbrev pub call_in : Result (String Global × Declaration) Refused → Result plain.Declaration RefusedData
+abbrev pub call_in : Result (String Global × Declaration) StatementError → Result plain.Declaration RefusedData
 call_in (Ok e) = Ok (entry_in e)
 call_in (Err refused) = Err (refused_in refused)
 
@@ -22,7 +22,7 @@ abbrev pub options_in : Declared → List plain.Declaration
 options_in declared = entries_in declared.options.entries
 
 -- Returns the options after a statement, or what is wrong with it.
-abbrev pub after_in : Result Declared Refused → Result (List plain.Declaration) RefusedData
+abbrev pub after_in : Result Declared StatementError → Result (List plain.Declaration) RefusedData
 after_in (Ok declared) = Ok (options_in declared)
 after_in (Err refused) = Err (refused_in refused)
 

@@ -5,7 +5,7 @@ ghost use Rattle.std.specs.List.{list_any};
 ghost use Rattle.std.specs.Option.{option_and_then, option_map};
 ghost use Rattle.syntax.specs.ExpressionTree.{argument_of, argument_trees};
 ghost use Rattle.support.specs.Among.{is_among};
-ghost use Rattle.machine.specs.option_values.View.{strings_in};
+ghost use Rattle.option_values.specs.View.{strings_in};
 ghost use Rattle.options.specs.option_file.Calls.{stands_key, with_key, gives_twice, is_left_out_key, is_free_name, name_in, with_argument};
 ghost use Rattle.options.specs.option_file.Calls.{first_left_out, first_twice, key_said, keywords_from, option_of, call_declares};
 ghost use Rattle.options.specs.option_file.FirstName.{first_name};
@@ -15,13 +15,13 @@ ghost use Rattle.options.specs.option_file.MisfitView.{refused_in};
 ghost use Rattle.options.specs.option_file.Misfits.{Twice, refused_as};
 ghost use Rattle.options.specs.option_file.View.{given_in, entry_in, call_in};
 
-use crate::option_file::declaration::{Declaration, Given};
-use crate::option_file::given::read_given;
-use crate::option_file::keyword::{Keyword, Keywords, is_left_out};
-use crate::option_file::misfit::{Misfit, Refused};
-use crate::option_file::names::is_name;
-use crate::option_file::unfit::unfit;
-use machine::option_values::{OptionKind, is_built_in};
+use crate::option_file::argument_values::read_given;
+use crate::option_file::declaration::{Declaration, DeclaredValue};
+use crate::option_file::keyword::{Keywords, OptionKeyword, is_left_out};
+use crate::option_file::names::is_option_name;
+use crate::option_file::refusals::unfit;
+use crate::option_file::statement_problem::{StatementError, StatementProblem};
+use option_values::{OptionKind, is_built_in};
 use std::alloc::{AllocError, Global};
 use support::tables::{SipSet, new_set};
 use syntax::tree::Argument;
@@ -120,14 +120,14 @@ fn first_left_out<'a>(arguments: &[Argument<'a>]) -> &'a str
 fn is_free_name(name: &str) -> bool
     ensures { result ≡ is_free_name name.now }
 {
-    is_name(name) && !is_built_in(name)
+    is_option_name(name) && !is_built_in(name)
 }
 
 // Returns the name that is given, if a project may give it to an option.
-fn name_in(given: Option<Given>) -> Option<String>
+fn name_in(given: Option<DeclaredValue>) -> Option<String>
     ensures { option_map string_bytes result ≡ name_in (option_map given_in given) }
 {
-    let Given::Text(name) = given? else {
+    let DeclaredValue::Text(name) = given? else {
         return None;
     };
     if is_free_name(name.as_str()) {
@@ -148,7 +148,7 @@ fn with_argument(
     let Some(key) = argument.name else {
         return Ok(None);
     };
-    let Some(keyword) = Keyword::from_name(key) else {
+    let Some(keyword) = OptionKeyword::from_name(key) else {
         return Ok(None);
     };
     let Some(given) = read_given(alloc, &argument.value)? else {
@@ -188,7 +188,7 @@ fn first_name(alloc: Global, first: &Argument<'_>) -> Result<Option<String>, All
 fn asked_by(
     alloc: Global,
     others: &[Argument<'_>],
-) -> Result<Option<(OptionKind, Option<Given>)>, AllocError>
+) -> Result<Option<(OptionKind, Option<DeclaredValue>)>, AllocError>
     ensures { IfOk result (λ asked. option_map asked_in asked
         ≡ option_and_then asked_by (keywords_from nothing_given (argument_trees others.now))) }
 {
@@ -218,11 +218,11 @@ fn option_of(
     }
 }
 
-fn refuse_twice(alloc: Global, arguments: &[Argument<'_>]) -> Result<Refused, AllocError>
+fn refuse_twice(alloc: Global, arguments: &[Argument<'_>]) -> Result<StatementError, AllocError>
     ensures { IfOk result (λ r. refused_in r ≡ refused_as (Twice (first_twice [] (map argument_of arguments.now)))) }
 {
     let key = first_twice(alloc, arguments)?;
-    Misfit::Twice(key).refuse(alloc)
+    StatementProblem::Twice(key).refuse(alloc)
 }
 
 /// Returns the option that a call of `option` declares, with its name, or what is wrong with the call. A keyword that occurs twice is
@@ -231,7 +231,7 @@ pub fn call_declares(
     alloc: Global,
     line: usize,
     arguments: &[Argument<'_>],
-) -> Result<Result<(String, Declaration), Refused>, AllocError>
+) -> Result<Result<(String, Declaration), StatementError>, AllocError>
     ensures { IfOk result (λ option. call_in option ≡ call_declares line (argument_trees arguments.now)) }
 {
     if gives_twice(alloc, arguments)? {
@@ -239,7 +239,7 @@ pub fn call_declares(
     }
     if gives_left_out(arguments) {
         let key = first_left_out(arguments);
-        let refused = Misfit::LeftOut(key).refuse(alloc)?;
+        let refused = StatementProblem::LeftOut(key).refuse(alloc)?;
         return Ok(Err(refused));
     }
     match option_of(alloc, line, arguments)? {

@@ -5,14 +5,14 @@ ghost use Rattle.std.specs.Option.{option_map};
 ghost use Rattle.options.specs.option_file.Entries.{entries_in};
 ghost use Rattle.options.specs.option_file.Lookups.{are_new};
 
-use machine::option_values::OptionKind;
+use option_values::OptionKind;
 use std::alloc::{AllocError, Global};
 use support::tables::{SipMap, new_map};
 
-/// Holds what an argument gives, as it is written. Of `value:` only the form is known here. Whether it is a value of the option is decided
-/// when options are resolved.
+/// Holds what an argument gives, as it is written. For `value:` only the form is checked here. When options are resolved, the value is
+/// compared with what the option takes.
 #[derive(Drop)]
-pub enum Given {
+pub enum DeclaredValue {
     /// A plain or a raw string, after its escapes.
     Text(String),
     Boolean(bool),
@@ -29,7 +29,7 @@ pub enum Given {
 pub struct Declaration {
     pub kind: OptionKind,
     /// The default, if the call gives one.
-    pub value: Option<Given>,
+    pub value: Option<DeclaredValue>,
     /// The line, from 1, of its statement.
     pub line: usize,
 }

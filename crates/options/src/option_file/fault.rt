@@ -9,7 +9,7 @@ use std::alloc::{AllocError, Global};
 use support::faults::{Fault, Refusal};
 use thiserror::Error;
 
-/// Holds what is wrong with an option file, and the line, from 1, of the statement. It is E15 if the statement declares no option, and E23
+/// Holds what is wrong with an option file, and the line of the statement, from 1. It is E15 if the statement declares no option, and E23
 /// if it has a keyword that is left out.
 #[derive(Debug, Drop, Error)]
 #[error("line {line}: {refusal}{}{detail}", if .detail.is_empty() {""} else {": "})]

@@ -10,7 +10,7 @@ ghost use Rattle.options.specs.option_file.View.{call_in, after_in, options_in, 
 use crate::option_file::call::call_declares;
 use crate::option_file::declaration::{Declaration, Declared};
 use crate::option_file::fault::DeclareFault;
-use crate::option_file::misfit::{Misfit, Refused};
+use crate::option_file::statement_problem::{StatementError, StatementProblem};
 use std::alloc::{AllocError, Global};
 use syntax::tree::{Argument, Expression, File, Statement};
 
@@ -34,13 +34,13 @@ fn function_declares(
     line: usize,
     name: &str,
     arguments: &[Argument<'_>],
-) -> Result<Result<(String, Declaration), Refused>, AllocError>
+) -> Result<Result<(String, Declaration), StatementError>, AllocError>
     ensures { IfOk result (λ option. call_in option ≡ function_declares line name.now (argument_trees arguments.now)) }
 {
     if name == "option" {
         call_declares(alloc, line, arguments)
     } else {
-        Ok(Err(Misfit::NoCall.refuse(alloc)?))
+        Ok(Err(StatementProblem::NoCall.refuse(alloc)?))
     }
 }
 
@@ -48,7 +48,7 @@ fn expression_declares(
     alloc: Global,
     line: usize,
     expression: &Expression<'_>,
-) -> Result<Result<(String, Declaration), Refused>, AllocError>
+) -> Result<Result<(String, Declaration), StatementError>, AllocError>
     ensures { IfOk result (λ option. call_in option ≡ expression_declares line (expression_of expression.now)) }
 {
     match expression {
@@ -57,7 +57,7 @@ fn expression_declares(
             arguments,
             ..
         } => function_declares(alloc, line, name, arguments),
-        _ => Ok(Err(Misfit::NoCall.refuse(alloc)?)),
+        _ => Ok(Err(StatementProblem::NoCall.refuse(alloc)?)),
     }
 }
 
@@ -65,12 +65,12 @@ fn expression_declares(
 fn statement_declares(
     alloc: Global,
     statement: &Statement<'_>,
-) -> Result<Result<(String, Declaration), Refused>, AllocError>
+) -> Result<Result<(String, Declaration), StatementError>, AllocError>
     ensures { IfOk result (λ option. call_in option ≡ statement_declares (statement_of statement.now)) }
 {
     match statement {
         Statement::Expression { value, line } => expression_declares(alloc, *line, value),
-        _ => Ok(Err(Misfit::NoCall.refuse(alloc)?)),
+        _ => Ok(Err(StatementProblem::NoCall.refuse(alloc)?)),
     }
 }
 
@@ -80,7 +80,7 @@ fn after(
     alloc: Global,
     declared: Declared,
     statement: &Statement<'_>,
-) -> Result<Result<Declared, Refused>, AllocError>
+) -> Result<Result<Declared, StatementError>, AllocError>
     ensures { IfOk result (λ more. after_in more ≡ after (options_in declared) (statement_of statement.now)) }
 {
     let (name, declaration) = match statement_declares(alloc, statement)? {
@@ -88,7 +88,7 @@ fn after(
         Err(refused) => return Ok(Err(refused)),
     };
     if declared.has(name.as_str()) {
-        let refused = Misfit::Again(name.as_str()).refuse(alloc)?;
+        let refused = StatementProblem::Again(name.as_str()).refuse(alloc)?;
         return Ok(Err(refused));
     }
     let more = declared.with(name, declaration)?;
@@ -107,7 +107,7 @@ pub fn declare(alloc: Global, file: &File<'_>) -> Result<Result<Declared, Declar
             Ok(more) => declared = more,
             Err(refused) => {
                 let line = line_of(statement);
-                let Refused { refusal, detail } = refused;
+                let StatementError { refusal, detail } = refused;
                 return Ok(Err(DeclareFault {
                     refusal,
                     line,

@@ -2,21 +2,22 @@
 
 ghost use Rattle.std.specs.Prelude.{◌≡◌, IfOk, Some};
 ghost use Rattle.std.specs.Option.{option_map};
-ghost use Rattle.options.specs.option_file.Keywords.{nothing_given, keyword_named, is_left_out, type_in, choices_in, bound_in, noted};
+ghost use Rattle.options.specs.option_file.Keywords.{nothing_given, keyword_named, is_left_out, type_in, choices_in, bound_in};
+ghost use Rattle.options.specs.option_file.Keywords.{noted_keywords};
 ghost use Rattle.options.specs.option_file.Keywords.{combo_of};
 ghost use Rattle.options.specs.option_file.Keywords.{asked_by, kind_of_type};
 ghost use Rattle.options.specs.option_file.KeywordsView.{asked_in, keywords_in};
 ghost use Rattle.options.specs.option_file.View.{given_in};
-ghost use Rattle.machine.specs.option_values.View.{kind_in, texts_of};
+ghost use Rattle.option_values.specs.View.{kind_in, texts_of};
 
-use crate::option_file::declaration::Given;
-use machine::option_values::{Choices, OptionKind, OptionType};
+use crate::option_file::declaration::DeclaredValue;
+use option_values::{Choices, OptionKind, OptionType};
 use std::alloc::{AllocError, Global};
 use support::text_lists::is_among;
 
 /// Names a keyword of `option`, by what it gives.
 #[derive(Clone, Copy)]
-pub enum Keyword {
+pub enum OptionKeyword {
     /// `type:`
     Kind,
     Value,
@@ -31,25 +32,25 @@ pub enum Keyword {
 #[derive(Drop)]
 pub struct Keywords {
     pub kind: Option<OptionType>,
-    pub value: Option<Given>,
+    pub value: Option<DeclaredValue>,
     pub choices: Option<Choices>,
     pub min: Option<i64>,
     pub max: Option<i64>,
 }
 
-impl Keyword {
+impl OptionKeyword {
     /// Returns the keyword of this name, if there is one.
     #[tactic(auto, unfolding(crate::specs::option_file::Keywords::keyword_named))]
-    pub fn from_name(name: &str) -> Option<Keyword>
+    pub fn from_name(name: &str) -> Option<OptionKeyword>
         ensures { result ≡ keyword_named name.now }
     {
         match name {
-            "type" => Some(Keyword::Kind),
-            "value" => Some(Keyword::Value),
-            "choices" => Some(Keyword::Choices),
-            "min" => Some(Keyword::Min),
-            "max" => Some(Keyword::Max),
-            "description" | "yield" => Some(Keyword::NoEffect),
+            "type" => Some(OptionKeyword::Kind),
+            "value" => Some(OptionKeyword::Value),
+            "choices" => Some(OptionKeyword::Choices),
+            "min" => Some(OptionKeyword::Min),
+            "max" => Some(OptionKeyword::Max),
+            "description" | "yield" => Some(OptionKeyword::NoEffect),
             _ => None,
         }
     }
@@ -63,31 +64,31 @@ pub fn is_left_out(name: &str) -> bool
 }
 
 /// Returns the type whose name is given.
-pub(crate) fn type_in(given: &Given) -> Option<OptionType>
+pub(crate) fn type_in(given: &DeclaredValue) -> Option<OptionType>
     ensures { result ≡ type_in (given_in given.now) }
 {
     match given {
-        Given::Text(name) => OptionType::from_name(name.as_str()),
+        DeclaredValue::Text(name) => OptionType::from_name(name.as_str()),
         _ => None,
     }
 }
 
 // Returns the choices, which must be a list of texts.
-fn choices_in(alloc: Global, given: Given) -> Result<Option<Choices>, AllocError>
+fn choices_in(alloc: Global, given: DeclaredValue) -> Result<Option<Choices>, AllocError>
     ensures { IfOk result (λ choices. option_map texts_of choices ≡ choices_in (given_in given)) }
 {
     match given {
-        Given::Texts(items) => Ok(Some(Choices::new(alloc, items)?)),
+        DeclaredValue::Texts(items) => Ok(Some(Choices::new(alloc, items)?)),
         _ => Ok(None),
     }
 }
 
 /// Returns the bound, which must be an integer of 64 bits.
-pub(crate) fn read_bound(given: &Given) -> Option<i64>
+pub(crate) fn read_bound(given: &DeclaredValue) -> Option<i64>
     ensures { result ≡ bound_in (given_in given.now) }
 {
     match given {
-        Given::Integer(number) => Some(*number),
+        DeclaredValue::Integer(number) => Some(*number),
         _ => None,
     }
 }
@@ -105,7 +106,7 @@ fn combo_of(choices: Option<Choices>) -> Option<OptionKind>
 }
 
 impl Keywords {
-    /// Returns the keywords of a call without any.
+    /// Returns the keywords of a call that has none.
     pub fn new() -> Keywords
         ensures { keywords_in result ≡ nothing_given }
     {
@@ -119,24 +120,28 @@ impl Keywords {
     }
 
     // Records the type, which is given by its name.
-    fn with_kind(mut self, given: &Given) -> Option<Keywords>
-        ensures { option_map keywords_in result ≡ noted (keywords_in self) Keyword.Kind (given_in given.now) }
+    fn with_kind(mut self, given: &DeclaredValue) -> Option<Keywords>
+        ensures { option_map keywords_in result ≡ noted_keywords (keywords_in self) OptionKeyword.Kind (given_in given.now) }
     {
         self.kind = Some(type_in(given)?);
         Some(self)
     }
 
     // Records a default of any form.
-    fn with_value(mut self, given: Given) -> Keywords
-        ensures { Some (keywords_in result) ≡ noted (keywords_in self) Keyword.Value (given_in given) }
+    fn with_value(mut self, given: DeclaredValue) -> Keywords
+        ensures { Some (keywords_in result) ≡ noted_keywords (keywords_in self) OptionKeyword.Value (given_in given) }
     {
         self.value = Some(given);
         self
     }
 
     // Records the choices.
-    fn with_choices(mut self, alloc: Global, given: Given) -> Result<Option<Keywords>, AllocError>
-        ensures { IfOk result (λ k. option_map keywords_in k ≡ noted (keywords_in self) Keyword.Choices (given_in given)) }
+    fn with_choices(
+        mut self,
+        alloc: Global,
+        given: DeclaredValue,
+    ) -> Result<Option<Keywords>, AllocError>
+        ensures { IfOk result (λ k. option_map keywords_in k ≡ noted_keywords (keywords_in self) OptionKeyword.Choices (given_in given)) }
     {
         let Some(choices) = choices_in(alloc, given)? else {
             return Ok(None);
@@ -146,16 +151,16 @@ impl Keywords {
     }
 
     // Records the lower bound.
-    fn with_min(mut self, given: &Given) -> Option<Keywords>
-        ensures { option_map keywords_in result ≡ noted (keywords_in self) Keyword.Min (given_in given.now) }
+    fn with_min(mut self, given: &DeclaredValue) -> Option<Keywords>
+        ensures { option_map keywords_in result ≡ noted_keywords (keywords_in self) OptionKeyword.Min (given_in given.now) }
     {
         self.min = Some(read_bound(given)?);
         Some(self)
     }
 
     // Records the upper bound.
-    fn with_max(mut self, given: &Given) -> Option<Keywords>
-        ensures { option_map keywords_in result ≡ noted (keywords_in self) Keyword.Max (given_in given.now) }
+    fn with_max(mut self, given: &DeclaredValue) -> Option<Keywords>
+        ensures { option_map keywords_in result ≡ noted_keywords (keywords_in self) OptionKeyword.Max (given_in given.now) }
     {
         self.max = Some(read_bound(given)?);
         Some(self)
@@ -165,18 +170,18 @@ impl Keywords {
     pub fn note(
         self,
         alloc: Global,
-        keyword: Keyword,
-        given: Given,
+        keyword: OptionKeyword,
+        given: DeclaredValue,
     ) -> Result<Option<Keywords>, AllocError>
-        ensures { IfOk result (λ k. option_map keywords_in k ≡ noted (keywords_in self) keyword (given_in given)) }
+        ensures { IfOk result (λ k. option_map keywords_in k ≡ noted_keywords (keywords_in self) keyword (given_in given)) }
     {
         match keyword {
-            Keyword::Kind => Ok(self.with_kind(&given)),
-            Keyword::Value => Ok(Some(self.with_value(given))),
-            Keyword::Choices => self.with_choices(alloc, given),
-            Keyword::Min => Ok(self.with_min(&given)),
-            Keyword::Max => Ok(self.with_max(&given)),
-            Keyword::NoEffect => Ok(Some(self)),
+            OptionKeyword::Kind => Ok(self.with_kind(&given)),
+            OptionKeyword::Value => Ok(Some(self.with_value(given))),
+            OptionKeyword::Choices => self.with_choices(alloc, given),
+            OptionKeyword::Min => Ok(self.with_min(&given)),
+            OptionKeyword::Max => Ok(self.with_max(&given)),
+            OptionKeyword::NoEffect => Ok(Some(self)),
         }
     }
 
@@ -209,7 +214,7 @@ impl Keywords {
     }
 
     /// Returns what an option with these keywords takes, and its default. Returns `None` if a required keyword is missing.
-    pub fn finish(mut self) -> Option<(OptionKind, Option<Given>)>
+    pub fn finish(mut self) -> Option<(OptionKind, Option<DeclaredValue>)>
         ensures { option_map asked_in result ≡ asked_by (keywords_in self) }
     {
         let named = self.kind?;

@@ -2,7 +2,7 @@
 
 ghost use Rattle.std.specs.Prelude.{◌≡◌};
 ghost use Rattle.std.specs.List.{list_all};
-ghost use Rattle.options.specs.option_file.Names.{in_name, is_name};
+ghost use Rattle.options.specs.option_file.Names.{in_name, is_option_name};
 
 // Returns whether the byte may be in the name of an option.
 fn in_name(byte: u8) -> bool
@@ -18,8 +18,8 @@ fn are_in_name(bytes: &[u8]) -> bool
 }
 
 /// Returns whether a text is a valid name of an option: at least one letter, digit, underscore or minus, and nothing else.
-pub fn is_name(text: &str) -> bool
-    ensures { result ≡ is_name text.now }
+pub fn is_option_name(text: &str) -> bool
+    ensures { result ≡ is_option_name text.now }
 {
     let bytes = text.as_bytes();
     !bytes.is_empty() && are_in_name(bytes)

@@ -3,6 +3,7 @@
 use Rattle.std.specs.Prelude.{◌≡◌, false, refl}
 use Rattle.ports.specs.DiskOutputs.{disk_tells}
 
+-- Proves that `disk_tells` is false. Outside this crate the definition is closed, so no proof there can use its value.
 pub nothing_owed : disk_tells ≡ false
 unfolding disk_tells
 nothing_owed = refl

@@ -1,3 +1,4 @@
+-- Defines what a tree in memory shows: its files, and whether the next call fails.
 use Rattle.std.specs.Prelude.{ℕ, Bool, true, List, map, String, Vec, string_bytes}
 use Rattle.std.specs.declared.alloc.Global.{Global}
 use Rattle.std.specs.List.{list_any}

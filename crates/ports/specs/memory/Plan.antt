@@ -5,16 +5,16 @@ use Rattle.ports.specs.declared.memory.plan.TreeCall.TheVariants.{Size, ReadAt, 
 use Rattle.ports.specs.declared.memory.plan.OutputCall.{OutputCall}
 use Rattle.ports.specs.declared.memory.plan.OutputCall.TheVariants.{Open, Put, Close, Log, Fault, Any}
 
--- A call takes at most `piece` bytes. Of the coming calls of this kind, the one with this number fails; none fails if it is 0.
+-- A call takes at most `piece` bytes. The call with this number among the next calls of this kind fails; with 0 no call fails.
 pub record Planned (C : Type 0) : Type 0 where
   pub piece : ℕ
   pub kind : C
   pub number : ℕ
 
 -- Returns the plan with this piece, and with the call, given by kind and number, that fails.
-abbrev pub planned : {C : Type 0} → C → ℕ → Option (C × ℕ) → Planned C
-planned any piece None = record { piece = piece; kind = any; number = 0 }
-planned any piece (Some call) = record { piece = piece; kind = call.0; number = call.1 }
+abbrev pub device_plan : {C : Type 0} → C → ℕ → Option (C × ℕ) → Planned C
+device_plan any piece None = record { piece = piece; kind = any; number = 0 }
+device_plan any piece (Some call) = record { piece = piece; kind = call.0; number = call.1 }
 
 -- Returns whether the kind includes this call.
 abbrev pub is_tree_call : TreeCall → TreeCall → Bool
@@ -23,6 +23,7 @@ is_tree_call Size Size = true
 is_tree_call ReadAt ReadAt = true
 is_tree_call kind call = false
 
+-- Returns whether the kind includes this call. `Any` includes each call.
 abbrev pub is_output_call : OutputCall → OutputCall → Bool
 is_output_call Any call = true
 is_output_call Open Open = true

@@ -54,14 +54,16 @@ is_within len (Close span) = is_span_within len span
 is_within len (Log byte) = true
 is_within len (Fault byte) = true
 
+-- Returns whether the name of the open output lies within a text of this length. It is true if no output is open.
 unfoldable pub is_open_within : ℕ → Option Span → Bool
 is_open_within len None = true
 is_open_within len (Some span) = is_span_within len span
 
+-- Returns whether the names of all these events lie within a text of this length.
 unfoldable pub are_within : ℕ → List (Event Span) → Bool
 are_within len slots = list_all (is_within len) slots
 
--- Returns the call that takes what goes into a stream.
+-- Returns the call that takes the bytes of a stream.
 abbrev pub call_of : Stream → OutputCall
 call_of (ToOutput span) = calls.Put
 call_of ToLog = calls.Log
@@ -86,5 +88,6 @@ state_at names slots current failures = record {
 abbrev pub room_of : {X : Type 0} → Vec X Global → ℕ
 room_of items = vec_capacity items - vec_len items
 
+-- Returns whether a vector has no room for another item.
 abbrev pub is_full : {X : Type 0} → Vec X Global → Bool
 is_full items = nat_le (vec_capacity items) (vec_len items)

@@ -1,3 +1,5 @@
+//! Defines the events that outputs in memory keep.
+
 /// Records what outputs took, one byte at a time. `N` is the type of an output's name.
 #[derive(Clone, Copy, Debug, PartialEq, Eq)]
 pub enum Event<N> {

@@ -1,8 +1,9 @@
+//! Keeps the events of outputs in memory.
 ghost use Rattle.std.specs.Prelude.{◌≡◌, ◌+◌, ◌-◌, ◌^◌, ◌≤◌, ◌<◌, ◌++◌, ◌∷◌, [], ◌||◌, ◌&&◌, IsTrue, true, IfOk, MatchResult, is_err};
 ghost use Rattle.std.specs.Prelude.{is_ok, if◌then◌else◌, length, map, min, nat_lt, vec_len, vec_capacity};
 ghost use Rattle.ports.specs.memory.Slots.{events_at, open_at, are_within, is_open_within, is_within, name_at, event_at, event_now};
 ghost use Rattle.ports.specs.memory.Slots.{is_full, call_of, room_of, slot_of};
-ghost use Rattle.ports.specs.Outputs.{taken};
+ghost use Rattle.ports.specs.Outputs.{taken_bytes};
 ghost use Rattle.ports.specs.memory.Plan.{is_due, is_output_call};
 
 use crate::memory::event::Event;
@@ -64,7 +65,7 @@ fn record_bytes(
 ) -> Result<usize, DeviceFault>
     ensures within { IfOk result (λ n. n ≤ length bytes.now) }
     ensures some { IfOk result (λ n. 0 < length bytes.now → 0 < n) }
-    ensures items { slots.new.items ≡ slots.old.items ++ map (slot_of stream) (taken bytes.now result) }
+    ensures items { slots.new.items ≡ slots.old.items ++ map (slot_of stream) (taken_bytes bytes.now result) }
     ensures fails { is_err result ≡ (is_due (is_output_call plan.old.kind (call_of stream)) plan.old.number
         || (nat_lt 0 (length bytes.now) && is_full slots.old)) }
     ensures count { IfOk result (λ n. n ≡ min (min (length bytes.now) (room_of slots.old)) plan.old.piece) }
@@ -150,7 +151,7 @@ pub struct MemOutputs {
 
 impl MemOutputs {
     ghost use Rattle.ports.specs.memory.MemOutputs.{mem_outputs_plan, mem_outputs_room, mem_outputs_seen};
-    ghost use Rattle.ports.specs.memory.Plan.{planned};
+    ghost use Rattle.ports.specs.memory.Plan.{device_plan};
     ghost use Rattle.ports.specs.declared.memory.plan.OutputCall.TheVariants.{Any};
     ghost use Rattle.std.specs.Prelude.{slice_get};
     ghost use Rattle.std.specs.Option.{option_map};
@@ -177,7 +178,7 @@ impl MemOutputs {
     pub fn with_plan(self, piece: usize, fail: Option<(OutputCall, u64)>) -> Self
         requires { 0 < piece }
         ensures seen { mem_outputs_seen result ≡ mem_outputs_seen self }
-        ensures plan { mem_outputs_plan result ≡ planned Any piece fail }
+        ensures plan { mem_outputs_plan result ≡ device_plan Any piece fail }
         ensures room { mem_outputs_room result ≡ mem_outputs_room self }
     {
         MemOutputs {

@@ -1,7 +1,7 @@
 //! Plans short calls and failures of a device in memory, for tests.
 
 ghost use Rattle.std.specs.Prelude.{◌≡◌, ◌<◌, ◌-◌, ◌==◌};
-ghost use Rattle.ports.specs.memory.Plan.{planned, is_due, is_output_call, is_tree_call, number_after};
+ghost use Rattle.ports.specs.memory.Plan.{device_plan, is_due, is_output_call, is_tree_call, number_after};
 
 /// Names the calls of a tree, to plan which of them fails.
 #[derive(Clone, Copy, Debug, PartialEq, Eq)]
@@ -24,7 +24,7 @@ pub enum OutputCall {
     Any,
 }
 
-// A call takes at most `piece` bytes. Of the coming calls of this kind, the one with this number fails; none fails if it is 0.
+// A call takes at most `piece` bytes. The call with this number among the next calls of this kind fails; with 0 no call fails.
 #[derive(Drop)]
 pub(crate) struct Plan<C> {
     pub(crate) piece: usize,
@@ -37,7 +37,7 @@ impl<C: Copy> Plan<C> {
     // Returns the plan with this piece, and with the call, given by kind and number, that fails.
     pub(crate) fn told(any: C, piece: usize, fail: Option<(C, u64)>) -> Self
         requires { 0 < piece }
-        ensures { planned any piece fail ≡ record { piece = result.piece; kind = result.kind; number = result.number } }
+        ensures { device_plan any piece fail ≡ record { piece = result.piece; kind = result.kind; number = result.number } }
     {
         let (kind, number) = fail.unwrap_or((any, 0));
         Plan::new(piece, kind, number)

@@ -1,10 +1,11 @@
+//! Keeps a tree of files in memory.
 ghost use Rattle.std.specs.Prelude.{◌≡◌, ℕ, ◌^◌, ◌-◌, ◌≤◌, ◌<◌, ◌||◌, List, length, not, true, IfOk, string_bytes};
 ghost use Rattle.std.specs.List.{list_any};
 ghost use Rattle.std.specs.Option.{option_map};
 ghost use Rattle.std.specs.Str.{bytes_eq};
 ghost use Rattle.ports.specs.Tree.{Reads, SameFiles, file_at};
 ghost use Rattle.ports.specs.memory.MemTree.{contents, is_one_of, mem_tree_knows, mem_tree_plan, mem_tree_seen};
-ghost use Rattle.ports.specs.memory.Plan.{is_due, is_tree_call, number_after, planned};
+ghost use Rattle.ports.specs.memory.Plan.{is_due, is_tree_call, number_after, device_plan};
 ghost use Rattle.ports.specs.declared.memory.plan.TreeCall.TheVariants.{Any};
 
 use crate::memory::plan::{Plan, TreeCall, tree_call_fails};
@@ -93,7 +94,7 @@ impl MemTree {
     pub fn with_plan(self, piece: usize, fail: Option<(TreeCall, u64)>) -> Self
         requires { 0 < piece }
         ensures seen { mem_tree_seen result ≡ mem_tree_seen self }
-        ensures plan { mem_tree_plan result ≡ planned Any piece fail }
+        ensures plan { mem_tree_plan result ≡ device_plan Any piece fail }
         ensures known { (path : List ℕ) → mem_tree_knows result path ≡ mem_tree_knows self path }
     {
         let MemTree {

@@ -2,9 +2,11 @@
 use Rattle.std.specs.Prelude.{ℕ, Bool, not, ◌||◌, ◌==◌, List, [], ◌∷◌, bytes_eq, codes, if◌then◌else◌}
 use Rattle.std.specs.List.{list_any, list_all}
 
+-- Returns whether a text contains this byte.
 abbrev pub has : ℕ → List ℕ → Bool
 has byte text = list_any (λ b. b == byte) text
 
+-- Returns whether a text contains a `/`.
 abbrev pub has_slash : List ℕ → Bool
 has_slash text = has 47 text
 
@@ -22,6 +24,7 @@ abbrev pub before_dot : List ℕ → List ℕ
 before_dot [] = []
 before_dot (b ∷ bs) = if has 46 bs then b ∷ before_dot bs else (if b == 46 then [] else b ∷ bs)
 
+-- Returns whether a text consists of dots alone. It is true for the empty text.
 abbrev pub are_dots : List ℕ → Bool
 are_dots text = list_all (λ b. b == 46) text
 

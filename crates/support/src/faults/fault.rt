@@ -1,7 +1,7 @@
 //! Defines faults: a refusal with its place and detail.
 
 ghost use Rattle.std.specs.Prelude.{◌≡◌, ◌++◌, IfOk, string_bytes};
-ghost use Rattle.support.specs.Faults.{detail_text, fault_text, number_of, plain_fault};
+ghost use Rattle.support.specs.Faults.{detail_text, fault_text, fault_number, plain_fault};
 ghost use Rattle.support.specs.View.{fault_view};
 
 use crate::faults::Refusal;
@@ -9,7 +9,7 @@ use itoa::Buffer;
 use std::alloc::{AllocError, Global};
 use thiserror::Error;
 
-/// The reason why a run ended: the first refusal in the order of evaluation. It is one pointer in size, since most results could be one.
+/// Says why a run ended: the first refusal in the order of evaluation. It is one pointer in size, since most results could be one.
 #[derive(Debug, Drop, Error)]
 #[error("{}{}{}", .told.refusal, self.shown_detail().0, self.shown_detail().1)]
 pub struct Fault {
@@ -117,7 +117,7 @@ impl Fault {
 
     /// Returns the number after the `E`.
     pub fn number(&self) -> u8
-        ensures { result ≡ number_of (fault_view self.now).refusal }
+        ensures { result ≡ fault_number (fault_view self.now).refusal }
     {
         self.told.refusal.number()
     }

@@ -1,11 +1,11 @@
 //! Lists the refusals of a run, with their numbers and words.
 
 ghost use Rattle.std.specs.Prelude.{◌≡◌, option_map};
-ghost use Rattle.support.specs.Faults.{detail_sign, number_of, told_of, words_of};
+ghost use Rattle.support.specs.Faults.{detail_sign, fault_number, told_of, words_of};
 
 use thiserror::Error;
 
-/// The reason why a run is refused. The numbers are fixed, so scripts may search for them.
+/// Says why a run is refused. The numbers are fixed, so scripts may search for them.
 #[derive(Clone, Copy, Debug, Error)]
 #[error("E{} {}", self.number(), self.words())]
 pub enum Refusal {
@@ -43,7 +43,7 @@ pub enum Refusal {
     MachineFile,
     /// E17: something required was not found; the detail is its first name.
     NotFound,
-    /// E18: the build files end the run; the detail is their message.
+    /// E18: the definition files end the run; the detail is their message.
     Message,
     /// E19: a line of a template is wrong.
     Template,
@@ -94,7 +94,7 @@ impl Refusal {
 
     /// Returns the number after the `E`.
     pub fn number(self) -> u8
-        ensures { result ≡ number_of self }
+        ensures { result ≡ fault_number self }
     {
         self.tell().0
     }

@@ -1,11 +1,11 @@
-//! Resolves the paths that texts of a build file name.
+//! Resolves the paths that texts of a definition file name.
 ghost use Rattle.std.specs.Prelude.{◌≡◌, ◌++◌, ◌||◌, not, IfOk, map, None, Some, option_map, option_copied, string_bytes, codes, []};
 ghost use Rattle.std.specs.Prelude.{if◌then◌else◌};
 ghost use Rattle.std.specs.List.{join_with_byte, list_all};
 ghost use Rattle.std.specs.Str.{bytes_eq};
 ghost use Rattle.support.specs.paths.Folder.{folder_of};
 ghost use Rattle.support.specs.paths.Paths.{follow_part, follow_parts, folder_below, folder_named, folder_path, from_root};
-ghost use Rattle.support.specs.paths.Paths.{is_below, leads_down, named, parts_of, path_in, rest_after, tree_path};
+ghost use Rattle.support.specs.paths.Paths.{is_below, leads_down, path_of_parts, parts_of, path_in, rest_after, tree_path};
 
 use crate::paths::below::is_absolute;
 use std::alloc::{AllocError, Global};
@@ -40,7 +40,7 @@ pub fn path_in(alloc: Global, folder: &str, name: &str) -> Result<String, AllocE
     }
 }
 
-// Returns a text of a build file in the folder as a path relative to the source root.
+// Returns a text of a definition file in the folder as a path relative to the source root.
 fn from_root(
     alloc: Global,
     source_root: &str,
@@ -112,7 +112,7 @@ fn clean(alloc: Global, text: &str) -> Result<Option<String>, AllocError>
 
 // Returns the resolved path of a text that is relative to the root, and `None` for the root itself.
 fn clean_name(alloc: Global, text: &str) -> Result<Option<String>, AllocError>
-    ensures { IfOk result (λ path. option_map string_bytes path ≡ named (follow_parts [] (parts_of text.now))) }
+    ensures { IfOk result (λ path. option_map string_bytes path ≡ path_of_parts (follow_parts [] (parts_of text.now))) }
 {
     match follow_parts(alloc, text)? {
         Some(parts) if !parts.is_empty() => Ok(Some(join_parts(alloc, &parts)?)),
@@ -137,7 +137,7 @@ fn is_path(text: &str) -> bool
 
 // Returns the resolved path of a text that is relative to the root, and `None` for the root itself. A resolved text is returned as it is.
 fn named_path(alloc: Global, text: String) -> Result<Option<String>, AllocError>
-    ensures { IfOk result (λ path. option_map string_bytes path ≡ named (follow_parts [] (parts_of (string_bytes text)))) }
+    ensures { IfOk result (λ path. option_map string_bytes path ≡ path_of_parts (follow_parts [] (parts_of (string_bytes text)))) }
 {
     if is_path(text.as_str()) {
         Ok(Some(text))
@@ -146,7 +146,8 @@ fn named_path(alloc: Global, text: String) -> Result<Option<String>, AllocError>
     }
 }
 
-/// Returns the path of the folder that a text names, in a build file of a folder, without `.` and `..`. The path is empty for the root.
+/// Returns the path of the folder that a text names, in a definition file of a folder, without `.` and `..`. The path is empty for the
+/// root.
 ///
 /// Returns `None` if the text leads above the root, or is absolute and not below the source root.
 pub fn folder_path(
@@ -170,7 +171,7 @@ fn leads_down(text: &str) -> bool
     !text.split('/').any(|part| ".." == part)
 }
 
-// Returns whether a text may name a folder below that of its build file.
+// Returns whether a text may name a folder below that of its definition file.
 fn is_below(text: &str) -> bool
     ensures { result ≡ is_below text.now }
 {
@@ -189,8 +190,8 @@ pub fn folder_below(alloc: Global, folder: &str, text: &str) -> Result<Option<St
     }
 }
 
-/// Returns the path relative to the source root of the file that a text names, in a build file of a folder. Returns `None` if `folder_path`
-/// does, or if the text names the root itself.
+/// Returns the path relative to the source root of the file that a text names, in a definition file of a folder. Returns `None` if
+/// `folder_path` does, or if the text names the root itself.
 pub fn tree_path(
     alloc: Global,
     source_root: &str,

@@ -12,7 +12,7 @@ use std::alloc::{AllocError, Global};
 use std::hash::{BuildHasherDefault, Hash};
 use std::marker::Model;
 
-/// A map in order of insertion, hashed by SipHash.
+/// Holds a map in order of insertion, hashed by SipHash.
 pub struct SipMap<K: Eq + Hash + Drop, V: Drop> {
     map: IndexMap<K, V, SipHasher>,
 }

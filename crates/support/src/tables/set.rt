@@ -12,7 +12,7 @@ use std::marker::Model;
 /// Builds a hasher for each key: SipHash with a fixed key.
 pub type SipHasher = BuildHasherDefault<DefaultHasher>;
 
-/// A set in order of insertion, hashed by SipHash. Its keys have indexes from 0.
+/// Holds a set in order of insertion, hashed by SipHash. Its keys have indexes from 0.
 pub struct SipSet<K: Eq + Hash + Drop> {
     set: IndexSet<K, SipHasher>,
 }
@@ -65,8 +65,8 @@ impl<K: Eq + Hash + Drop> SipSet<K> {
 
     /// Inserts a key at the end, and returns true. If an equal key is present, it stays, and the result is false.
     ///
-    /// Only a new key can run out of memory. Then the keys of the set are unchanged, and the new one is dropped. The time is that of a
-    /// look-up, amortized over many keys.
+    /// Only inserting a new key can run out of memory. Then the keys of the set are unchanged, and the new one is dropped. The time is that
+    /// of a look-up, amortized over many keys.
     #[inline]
     pub fn insert(&mut self, key: K) -> Result<bool, AllocError>
         ensures added { IfOk result (λ new. new ≡ not (list_any (K.eq key) self.old.keys)) }

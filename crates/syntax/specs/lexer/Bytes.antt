@@ -3,90 +3,119 @@ use Rattle.std.specs.Prelude.{ℕ, Bool, true, false, List, [], ◌∷◌, ◌==
 use Rattle.std.specs.Char.{is_ascii_alphabetic, is_ascii_digit}
 use Rattle.std.specs.List.{list_all}
 
+-- Returns the byte of a tab.
 abbrev pub tab : ℕ
 tab = 9
 
+-- Returns the byte of a newline.
 abbrev pub newline : ℕ
 newline = 10
 
+-- Returns the byte of a carriage return.
 abbrev pub carriage_return : ℕ
 carriage_return = 13
 
+-- Returns the byte of a space.
 abbrev pub space : ℕ
 space = 32
 
+-- Returns the byte of `!`.
 abbrev pub exclamation : ℕ
 exclamation = 33
 
+-- Returns the byte of `#`, which begins a comment.
 abbrev pub hash : ℕ
 hash = 35
 
+-- Returns the byte of `%`.
 abbrev pub percent : ℕ
 percent = 37
 
+-- Returns the byte of the single quote, which begins and ends a string.
 abbrev pub quote : ℕ
 quote = 39
 
+-- Returns the byte of `(`.
 abbrev pub open_parenthesis : ℕ
 open_parenthesis = 40
 
+-- Returns the byte of `)`.
 abbrev pub close_parenthesis : ℕ
 close_parenthesis = 41
 
+-- Returns the byte of `*`.
 abbrev pub star : ℕ
 star = 42
 
+-- Returns the byte of `+`.
 abbrev pub plus : ℕ
 plus = 43
 
+-- Returns the byte of `,`.
 abbrev pub comma : ℕ
 comma = 44
 
+-- Returns the byte of `-`.
 abbrev pub minus : ℕ
 minus = 45
 
+-- Returns the byte of `.`.
 abbrev pub dot : ℕ
 dot = 46
 
+-- Returns the byte of `/`.
 abbrev pub slash : ℕ
 slash = 47
 
+-- Returns the byte of the digit `0`.
 abbrev pub digit_zero : ℕ
 digit_zero = 48
 
+-- Returns the byte of `:`.
 abbrev pub colon : ℕ
 colon = 58
 
+-- Returns the byte of `<`.
 abbrev pub less : ℕ
 less = 60
 
+-- Returns the byte of `=`.
 abbrev pub equals : ℕ
 equals = 61
 
+-- Returns the byte of `>`.
 abbrev pub greater : ℕ
 greater = 62
 
+-- Returns the byte of `?`.
 abbrev pub question : ℕ
 question = 63
 
+-- Returns the byte of `[`.
 abbrev pub open_bracket : ℕ
 open_bracket = 91
 
+-- Returns the byte of the backslash.
 abbrev pub backslash : ℕ
 backslash = 92
 
+-- Returns the byte of `]`.
 abbrev pub close_bracket : ℕ
 close_bracket = 93
 
+-- Returns the byte of `_`.
 abbrev pub underscore : ℕ
 underscore = 95
 
+-- Returns the byte of the letter `f`, which begins an f-string.
 abbrev pub lower_f : ℕ
 lower_f = 102
 
+-- Returns the byte of `{`.
 abbrev pub open_brace : ℕ
 open_brace = 123
 
+-- Returns the byte of `}`.
 abbrev pub close_brace : ℕ
 close_brace = 125
 

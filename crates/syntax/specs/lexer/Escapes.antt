@@ -7,24 +7,31 @@ use Rattle.std.specs.List.{list_all}
 use Rattle.syntax.specs.lexer.Bytes.{quote, backslash, lower_f}
 use Rattle.syntax.specs.lexer.Numbers.{lower_b, lower_x, is_octal_digit}
 
+-- Returns the byte of `U`, which begins the escape of a character by eight hexadecimal digits.
 abbrev pub upper_u : ℕ
 upper_u = 85
 
+-- Returns the byte of `a`, which names the alert character (7) in an escape.
 abbrev pub lower_a : ℕ
 lower_a = 97
 
+-- Returns the byte of `n`, which names the newline (10) in an escape.
 abbrev pub lower_n : ℕ
 lower_n = 110
 
+-- Returns the byte of `r`, which names the carriage return (13) in an escape.
 abbrev pub lower_r : ℕ
 lower_r = 114
 
+-- Returns the byte of `t`, which names the tab (9) in an escape.
 abbrev pub lower_t : ℕ
 lower_t = 116
 
+-- Returns the byte of `u`, which begins the escape of a character by four hexadecimal digits.
 abbrev pub lower_u : ℕ
 lower_u = 117
 
+-- Returns the byte of `v`, which names the vertical tab (11) in an escape.
 abbrev pub lower_v : ℕ
 lower_v = 118
 
@@ -58,24 +65,28 @@ octal zero value size bs = (value, size)
 octal (suc n) value size [] = (value, size)
 octal (suc n) value size (b ∷ bs) = if is_octal_digit b then octal n (8 * value + digit_value b) (size + 1) bs else (value, size)
 
-abbrev pub sized : ℕ → Option ℕ → Option (ℕ × ℕ)
-sized n None = None
-sized n (Some code) = Some (code, n)
+-- Returns the number that an escape names, and the bytes n that the escape has after the backslash. Returns none if it names no number.
+abbrev pub escape_of_size : ℕ → Option ℕ → Option (ℕ × ℕ)
+escape_of_size n None = None
+escape_of_size n (Some code) = Some (code, n)
 
-abbrev pub named : ℕ → Option ℕ → List ℕ → Option (ℕ × ℕ)
-named b None bs = sized 1 (control b)
-named b (Some n) bs = sized (n + 1) (hexadecimal n 0 bs)
+-- Returns the escape that byte b begins, with n hexadecimal digits at the front of `bs` if n is given. Returns `None` if there is no such
+-- escape.
+abbrev pub named_escape : ℕ → Option ℕ → List ℕ → Option (ℕ × ℕ)
+named_escape b None bs = escape_of_size 1 (control b)
+named_escape b (Some n) bs = escape_of_size (n + 1) (hexadecimal n 0 bs)
 
 -- Returns the number that an escape names, and how many bytes it has after the backslash. Returns `None` if the backslash is itself. Each
 -- escape needs all of its digits, except the octal one, which needs one to three.
 unfoldable pub escape_at : List ℕ → Option (ℕ × ℕ)
 escape_at [] = None
-escape_at (b ∷ bs) = if is_octal_digit b then Some (octal 3 0 0 (b ∷ bs)) else named b (digit_count b) bs
+escape_at (b ∷ bs) = if is_octal_digit b then Some (octal 3 0 0 (b ∷ bs)) else named_escape b (digit_count b) bs
 
 -- Returns whether a character has this number: at most 10FFFF, and no surrogate.
 abbrev pub is_character : ℕ → Bool
 is_character code = nat_lt code 0xD800 || is_in_range 0xE000 0x10FFFF code
 
+-- Returns whether an escape names a number that no character has. It is false if there is no escape.
 abbrev pub names_none : Option (ℕ × ℕ) → Bool
 names_none None = false
 names_none (Some (code, n)) = not (is_character code)
@@ -90,6 +101,7 @@ is_bad_escape bs = names_none (escape_at bs)
 abbrev pub number_of : ℕ → List ℕ → ℕ
 number_of base digits = fold (λ value d. base * value + digit_value d) 0 digits
 
+-- Returns whether the first byte is an octal digit. It is false if there is no byte.
 abbrev pub begins_octal : List ℕ → Bool
 begins_octal [] = false
 begins_octal (b ∷ rest) = is_octal_digit b
@@ -97,9 +109,12 @@ begins_octal (b ∷ rest) = is_octal_digit b
 -- The text after a backslash is an escape that names the number, followed by `rest`. It is one character, a letter with as many hexadecimal
 -- digits as it needs, or one to three octal digits. It has fewer than three only if no other octal digit follows.
 pub data IsEscape : ℕ → List ℕ → List ℕ → Type 0 where
+  -- A byte that names a control character, a backslash or a quote needs no digits.
   alone : (b code : ℕ) (rest : List ℕ) → control b ≡ Some code → IsEscape code (b ∷ []) rest
+  -- The letter `x`, `u` or `U` precedes 2, 4 or 8 hexadecimal digits.
   sixteen : (b : ℕ) (digits rest : List ℕ) → digit_count b ≡ Some (length digits) → list_all (λ d. is_digit d 16) digits ≡ true
       → IsEscape (number_of 16 digits) (b ∷ digits) rest
+  -- One to three octal digits follow the backslash.
   eight : (digits rest : List ℕ) → 0 < length digits → length digits ≤ 3 → list_all is_octal_digit digits ≡ true
       → (length digits < 3 → begins_octal rest ≡ false) → IsEscape (number_of 8 digits) digits rest
 

@@ -2,11 +2,11 @@
 use Rattle.std.specs.Prelude.{ℕ, ◌+◌, ◌-◌, Bool, ◌||◌, List, [], ◌∷◌, Option, Some, None, nat_eq, ◌==◌, if◌then◌else◌, codes}
 use Rattle.std.specs.Str.{bytes_eq}
 use Rattle.syntax.specs.lexer.Bytes as byte
-use Rattle.syntax.specs.declared.lexer.token.Kind.{Kind}
-use Rattle.syntax.specs.declared.lexer.token.Kind.TheVariants as Kinds
+use Rattle.syntax.specs.declared.lexer.token.TokenKind.{TokenKind}
+use Rattle.syntax.specs.declared.lexer.token.TokenKind.TheVariants as Kinds
 
 -- Returns a number for each kind.
-abbrev pub number : Kind → ℕ
+abbrev pub number : TokenKind → ℕ
 number Kinds.Name = 0
 number Kinds.String = 1
 number Kinds.True = 2
@@ -53,11 +53,11 @@ number Kinds.FormatString = 42
 number Kinds.RawFormatString = 43
 
 -- Returns whether two kinds are the same.
-abbrev pub is : Kind → Kind → Bool
+abbrev pub is : TokenKind → TokenKind → Bool
 is a b = nat_eq (number a) (number b)
 
 -- Returns the kind of a word: a keyword, or else a name.
-abbrev pub word_kind : List ℕ → Kind
+abbrev pub word_kind : List ℕ → TokenKind
 word_kind text =
     if bytes_eq text (codes "true") then Kinds.True
     else (if bytes_eq text (codes "false") then Kinds.False
@@ -76,11 +76,11 @@ word_kind text =
     else Kinds.Name)))))))))))))
 
 -- Returns the kind of a string of this kind after an `f`.
-abbrev pub format_kind : Kind → Kind
+abbrev pub format_kind : TokenKind → TokenKind
 format_kind k = if is k Kinds.String then Kinds.FormatString else (if is k Kinds.RawString then Kinds.RawFormatString else k)
 
 -- Returns the symbol of one byte.
-abbrev pub single_kind : ℕ → Option Kind
+abbrev pub single_kind : ℕ → Option TokenKind
 single_kind b =
     if b == byte.open_parenthesis then Some Kinds.OpenParenthesis
     else (if b == byte.close_parenthesis then Some Kinds.CloseParenthesis
@@ -104,7 +104,7 @@ single_kind b =
     else None))))))))))))))))))
 
 -- Returns the symbol that this byte and an equals sign form.
-abbrev pub with_equals_kind : ℕ → Option Kind
+abbrev pub with_equals_kind : ℕ → Option TokenKind
 with_equals_kind b =
     if b == byte.equals then Some Kinds.Equal
     else (if b == byte.exclamation then Some Kinds.NotEqual
@@ -114,14 +114,14 @@ with_equals_kind b =
     else None))))
 
 -- Returns the symbol that a text is.
-abbrev pub symbol_kind : List ℕ → Option Kind
+abbrev pub symbol_kind : List ℕ → Option TokenKind
 symbol_kind [] = None
 symbol_kind (a ∷ []) = single_kind a
 symbol_kind (a ∷ b ∷ []) = if b == byte.equals then with_equals_kind a else None
 symbol_kind (a ∷ b ∷ c ∷ more) = None
 
 -- Returns how many brackets are open after a token of this kind, given how many are open before it.
-abbrev pub depth_after : Kind → ℕ → ℕ
+abbrev pub depth_after : TokenKind → ℕ → ℕ
 depth_after k depth =
     if is k Kinds.OpenParenthesis || is k Kinds.OpenBracket || is k Kinds.OpenBrace then depth + 1
     else (if is k Kinds.CloseParenthesis || is k Kinds.CloseBracket || is k Kinds.CloseBrace then depth - 1

@@ -5,27 +5,35 @@ use Rattle.std.specs.Int.{is_in_range}
 use Rattle.std.specs.List.{list_all}
 use Rattle.syntax.specs.lexer.Bytes.{digit_zero}
 
+-- Returns the byte of `b`: `0b` begins a binary number.
 abbrev pub lower_b : ℕ
 lower_b = 98
 
+-- Returns the byte of `o`: `0o` begins an octal number.
 abbrev pub lower_o : ℕ
 lower_o = 111
 
+-- Returns the byte of `x`: `0x` begins a hexadecimal number.
 abbrev pub lower_x : ℕ
 lower_x = 120
 
+-- Returns the byte of `B`: `0B` begins a binary number.
 abbrev pub upper_b : ℕ
 upper_b = 66
 
+-- Returns the byte of `O`: `0O` begins an octal number.
 abbrev pub upper_o : ℕ
 upper_o = 79
 
+-- Returns the byte of `X`: `0X` begins a hexadecimal number.
 abbrev pub upper_x : ℕ
 upper_x = 88
 
+-- Returns whether the byte is a digit from 0 to 7.
 abbrev pub is_octal_digit : ℕ → Bool
 is_octal_digit d = is_in_range 48 55 d
 
+-- Returns whether the byte is the digit 0 or 1.
 abbrev pub is_binary_digit : ℕ → Bool
 is_binary_digit d = is_in_range 48 49 d
 

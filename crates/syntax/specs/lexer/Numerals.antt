@@ -8,9 +8,9 @@ abbrev pub digit : ℕ → ℕ
 digit d = if nat_lt d 65 then d - 48 else (if nat_lt d 97 then d - 55 else d - 87)
 
 -- Returns the number that these digits spell in a base, after digits that spell n.
-unfoldable pub spelled : ℕ → ℕ → List ℕ → ℕ
-spelled base n [] = n
-spelled base n (d ∷ ds) = spelled base (n * base + digit d) ds
+unfoldable pub number_in_base : ℕ → ℕ → List ℕ → ℕ
+number_in_base base n [] = n
+number_in_base base n (d ∷ ds) = number_in_base base (n * base + digit d) ds
 
 -- Returns the base that the letter after a leading 0 names.
 abbrev pub base_of : ℕ → ℕ
@@ -19,12 +19,12 @@ base_of letter =
     else (if (letter == lower_o) || (letter == upper_o) then 8
     else 2)
 
--- Returns the number of what follows a leading 0: nothing, or the letter of a base and digits.
+-- Returns the number that the text after a leading 0 spells: 0 for no text, or the letter of a base and its digits.
 abbrev pub behind_zero : List ℕ → ℕ
 behind_zero [] = 0
-behind_zero (letter ∷ digits) = spelled (base_of letter) 0 digits
+behind_zero (letter ∷ digits) = number_in_base (base_of letter) 0 digits
 
 -- Returns the number that the text of a number token spells.
 abbrev pub magnitude : List ℕ → ℕ
 magnitude [] = 0
-magnitude (d ∷ ds) = if d == digit_zero then behind_zero ds else spelled 10 0 (d ∷ ds)
+magnitude (d ∷ ds) = if d == digit_zero then behind_zero ds else number_in_base 10 0 (d ∷ ds)

@@ -3,7 +3,7 @@
 ghost use Rattle.std.specs.Prelude.{◌≡◌, ◌+◌, ◌<◌, ◌^◌, List, IfOk, MatchResult};
 ghost use Rattle.syntax.specs.lexer.Kinds.{depth_after};
 ghost use Rattle.syntax.specs.lexer.Lexeme.{Lexeme, lexemes};
-ghost use Rattle.syntax.specs.lexer.Lexing.{token_at, lexed};
+ghost use Rattle.syntax.specs.lexer.Lexing.{token_at, lexed_tokens};
 ghost use Rattle.syntax.specs.lexer.Answers.{Answers};
 ghost use Rattle.syntax.specs.lexer.Tokens.{AreTokens, IsUnreadable};
 
@@ -13,13 +13,13 @@ use crate::lexer::gap::gap_length;
 use crate::lexer::number::number_at;
 use crate::lexer::string::{format_at, string_at};
 use crate::lexer::symbol::symbol_at;
-use crate::lexer::token::{Kind, Token};
+use crate::lexer::token::{Token, TokenKind};
 use crate::lexer::word::word_at;
 use std::alloc::{AllocError, Global};
 
 // Returns the kind and the length in bytes of the longest token at the front, or `None` if no token begins there.
 #[tactic(auto, using(crate::proofs::Cuts::token_cases))]
-fn token_at(text: &str) -> Option<(Kind, usize)>
+fn token_at(text: &str) -> Option<(TokenKind, usize)>
     ensures { result ≡ token_at text.now }
 {
     let bytes = text.as_bytes();
@@ -43,13 +43,14 @@ fn token_at(text: &str) -> Option<(Kind, usize)>
 }
 
 // Returns how many brackets are open after a token, given how many are open before it.
-fn depth_after(kind: Kind, depth: usize) -> usize
+fn depth_after(kind: TokenKind, depth: usize) -> usize
     requires { depth + 1 < 2 ^ 64 }
     ensures { result ≡ depth_after kind depth }
 {
     match kind {
-        Kind::OpenParenthesis | Kind::OpenBracket | Kind::OpenBrace => depth + 1,
-        Kind::CloseParenthesis | Kind::CloseBracket | Kind::CloseBrace => depth.saturating_sub(1),
+        TokenKind::OpenParenthesis | TokenKind::OpenBracket | TokenKind::OpenBrace => depth + 1,
+        TokenKind::CloseParenthesis | TokenKind::CloseBracket | TokenKind::CloseBrace =>
+            depth.saturating_sub(1),
         _ => depth,
     }
 }
@@ -83,7 +84,7 @@ pub fn keep_room(alloc: Global, bytes: usize) {
 /// or at any other byte.
 pub fn tokens(alloc: Global, source: &str) -> Result<Vec<Token<'_>>, SyntaxError>
     // Unless memory runs out, the result is this function of the source.
-    ensures reads { Answers (λ v. lexemes v.items) result (lexed source.now) }
+    ensures reads { Answers (λ v. lexemes v.items) result (lexed_tokens source.now) }
 
     // The tokens are those of the source, and the source has no others.
     ensures listed { IfOk result (λ v. AreTokens source.now (lexemes v.items)) }

@@ -4,7 +4,7 @@ ghost use Rattle.syntax.specs.lexer.Laws.{TextsAreLexed, TokensStandForTexts};
 /// Proves that every text, of any bytes, is either exactly one list of longest tokens or has exactly one first place at which no token
 /// begins.
 ///
-/// The definition `lexed` returns those tokens or that fault. Contracts use it to describe a text's tokens.
+/// The definition `lexed_tokens` returns those tokens or that fault. Contracts use it to describe a text's tokens.
 pub fn texts_are_lexed()
     ensures { TextsAreLexed }
 {}

@@ -6,7 +6,7 @@ ghost use Rattle.std.specs.List.{list_all};
 ghost use Rattle.syntax.specs.lexer.Lexing.{number_at};
 ghost use Rattle.syntax.specs.lexer.Numbers.{is_digit_of, is_number};
 
-use crate::lexer::token::Kind;
+use crate::lexer::token::TokenKind;
 use crate::lexer::word::word_length;
 
 // Returns whether this is a digit of the base that the letter names.
@@ -53,12 +53,12 @@ pub(crate) fn is_number(text: &[u8]) -> bool
 
 // Returns the kind and length of the number at the front, whose first byte is a digit.
 #[tactic(auto, using(crate::proofs::Cuts::number_at_cases))]
-pub(crate) fn number_at(bytes: &[u8]) -> Option<(Kind, usize)>
+pub(crate) fn number_at(bytes: &[u8]) -> Option<(TokenKind, usize)>
     ensures { result ≡ number_at bytes.now }
 {
     let length = word_length(bytes);
     if is_number(&bytes[..length]) {
-        Some((Kind::Number, length))
+        Some((TokenKind::Number, length))
     } else {
         None
     }

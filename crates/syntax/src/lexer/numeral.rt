@@ -1,7 +1,7 @@
 //! Computes the values of number tokens.
 
 ghost use Rattle.std.specs.Prelude.{◌≡◌, ◌<◌, ◌≤◌, ◌^◌, SomeIff};
-ghost use Rattle.syntax.specs.lexer.Numerals.{digit, spelled, base_of, magnitude};
+ghost use Rattle.syntax.specs.lexer.Numerals.{digit, number_in_base, base_of, magnitude};
 
 // Returns the value of a digit: 0 to 9, then the letters from 10 on.
 fn digit(byte: u8) -> u8
@@ -19,7 +19,7 @@ fn digit(byte: u8) -> u8
 // Returns the number that these digits spell in this base, or `None` if it does not fit in 128 bits.
 fn read_digits(base: u128, digits: &[u8]) -> Option<u128>
     requires { 1 ≤ base }
-    ensures { SomeIff result (spelled base 0 digits.now < 2 ^ 128) (spelled base 0 digits.now) }
+    ensures { SomeIff result (number_in_base base 0 digits.now < 2 ^ 128) (number_in_base base 0 digits.now) }
 {
     let mut value: u128 = 0;
     for byte in digits {

@@ -6,7 +6,7 @@ ghost use Rattle.syntax.specs.lexer.Lexing.{inside, before_quotes, string_at, fo
 
 use crate::lexer::bytes::opens_raw;
 use crate::lexer::escape::is_bad_escape;
-use crate::lexer::token::Kind;
+use crate::lexer::token::TokenKind;
 
 // Returns how many bytes precede the quote that ends a string, or `None` if the string has no end or a bad escape.
 #[tactic(auto, using(crate::proofs::Strings::inside_steps))]
@@ -46,34 +46,34 @@ fn length_before_quotes(bytes: &[u8]) -> Option<usize>
 
 // Returns the kind and length of the string at the front, whose first byte is a quote.
 #[tactic(auto, using(crate::proofs::Strings::string_cases))]
-pub(crate) fn string_at(bytes: &[u8]) -> Option<(Kind, usize)>
+pub(crate) fn string_at(bytes: &[u8]) -> Option<(TokenKind, usize)>
     requires { 0 < length bytes.now }
     ensures found { result ≡ string_at bytes.now }
     ensures within { IfSome result (λ t. t.1 ≤ length bytes.now) }
 {
     if opens_raw(bytes) {
         let length = length_before_quotes(&bytes[3..])?;
-        Some((Kind::RawString, length + 6))
+        Some((TokenKind::RawString, length + 6))
     } else {
         let length = inside_length(&bytes[1..])?;
-        Some((Kind::String, length + 2))
+        Some((TokenKind::String, length + 2))
     }
 }
 
 // Returns the kind of a string of this kind after an `f`.
-fn format_kind(kind: Kind) -> Kind
+fn format_kind(kind: TokenKind) -> TokenKind
     ensures { result ≡ format_kind kind }
 {
     match kind {
-        Kind::String => Kind::FormatString,
-        Kind::RawString => Kind::RawFormatString,
+        TokenKind::String => TokenKind::FormatString,
+        TokenKind::RawString => TokenKind::RawFormatString,
         other => other,
     }
 }
 
 // Returns the kind and length of the f-string at the front, whose first bytes are `f` and a quote.
 #[tactic(auto, using(crate::proofs::Strings::format_cases))]
-pub(crate) fn format_at(bytes: &[u8]) -> Option<(Kind, usize)>
+pub(crate) fn format_at(bytes: &[u8]) -> Option<(TokenKind, usize)>
     requires { 1 < length bytes.now }
     ensures { result ≡ format_at bytes.now }
 {

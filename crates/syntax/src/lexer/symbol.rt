@@ -4,52 +4,52 @@ ghost use Rattle.std.specs.Prelude.{◌≡◌};
 ghost use Rattle.syntax.specs.lexer.Kinds.{single_kind, with_equals_kind};
 ghost use Rattle.syntax.specs.lexer.Lexing.{double_kind, symbol_at};
 
-use crate::lexer::token::Kind;
+use crate::lexer::token::TokenKind;
 
 // Returns the symbol of one byte.
-fn single_kind(byte: u8) -> Option<Kind>
+fn single_kind(byte: u8) -> Option<TokenKind>
     ensures { result ≡ single_kind byte }
 {
     match byte {
-        b'(' => Some(Kind::OpenParenthesis),
-        b')' => Some(Kind::CloseParenthesis),
-        b'[' => Some(Kind::OpenBracket),
-        b']' => Some(Kind::CloseBracket),
-        b'{' => Some(Kind::OpenBrace),
-        b'}' => Some(Kind::CloseBrace),
-        b',' => Some(Kind::Comma),
-        b':' => Some(Kind::Colon),
-        b'.' => Some(Kind::Dot),
-        b'?' => Some(Kind::Question),
-        b'=' => Some(Kind::Assign),
-        b'<' => Some(Kind::Less),
-        b'>' => Some(Kind::Greater),
-        b'+' => Some(Kind::Plus),
-        b'-' => Some(Kind::Minus),
-        b'*' => Some(Kind::Times),
-        b'/' => Some(Kind::Divide),
-        b'%' => Some(Kind::Remainder),
-        b'\n' => Some(Kind::Newline),
+        b'(' => Some(TokenKind::OpenParenthesis),
+        b')' => Some(TokenKind::CloseParenthesis),
+        b'[' => Some(TokenKind::OpenBracket),
+        b']' => Some(TokenKind::CloseBracket),
+        b'{' => Some(TokenKind::OpenBrace),
+        b'}' => Some(TokenKind::CloseBrace),
+        b',' => Some(TokenKind::Comma),
+        b':' => Some(TokenKind::Colon),
+        b'.' => Some(TokenKind::Dot),
+        b'?' => Some(TokenKind::Question),
+        b'=' => Some(TokenKind::Assign),
+        b'<' => Some(TokenKind::Less),
+        b'>' => Some(TokenKind::Greater),
+        b'+' => Some(TokenKind::Plus),
+        b'-' => Some(TokenKind::Minus),
+        b'*' => Some(TokenKind::Times),
+        b'/' => Some(TokenKind::Divide),
+        b'%' => Some(TokenKind::Remainder),
+        b'\n' => Some(TokenKind::Newline),
         _ => None,
     }
 }
 
 // Returns the symbol that this byte and an equals sign form.
-fn with_equals_kind(byte: u8) -> Option<Kind>
+fn with_equals_kind(byte: u8) -> Option<TokenKind>
     ensures { result ≡ with_equals_kind byte }
 {
     match byte {
-        b'=' => Some(Kind::Equal),
-        b'!' => Some(Kind::NotEqual),
-        b'<' => Some(Kind::LessOrEqual),
-        b'>' => Some(Kind::GreaterOrEqual),
-        b'+' => Some(Kind::PlusAssign),
+        b'=' => Some(TokenKind::Equal),
+        b'!' => Some(TokenKind::NotEqual),
+        b'<' => Some(TokenKind::LessOrEqual),
+        b'>' => Some(TokenKind::GreaterOrEqual),
+        b'+' => Some(TokenKind::PlusAssign),
         _ => None,
     }
 }
 
 // Returns the symbol that this byte and the next one form.
-fn double_kind(first: u8, bytes: &[u8]) -> Option<Kind>
+fn double_kind(first: u8, bytes: &[u8]) -> Option<TokenKind>
     ensures { result ≡ double_kind first bytes.now }
 {
     if bytes.len() > 0 && bytes[0] == b'=' {
@@ -61,7 +61,7 @@ fn double_kind(first: u8, bytes: &[u8]) -> Option<Kind>
 
 // Returns the kind and length of the symbol that begins with this byte.
 #[tactic(auto, using(crate::proofs::Cuts::symbol_cases))]
-pub(crate) fn symbol_at(first: u8, bytes: &[u8]) -> Option<(Kind, usize)>
+pub(crate) fn symbol_at(first: u8, bytes: &[u8]) -> Option<(TokenKind, usize)>
     ensures { result ≡ symbol_at first bytes.now }
 {
     if let Some(kind) = double_kind(first, bytes) {

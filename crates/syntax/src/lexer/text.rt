@@ -1,12 +1,13 @@
 //! Computes the texts of tokens.
 
 ghost use Rattle.std.specs.Prelude.{◌≡◌, ℕ, ◌<◌, List, IfOk, IfSome, string_bytes};
-ghost use Rattle.syntax.specs.lexer.Lexing.{run};
-ghost use Rattle.syntax.specs.lexer.Texts.{escaped_by, is_no_backslash, unescaped, is_framed, between, text_of, TokenStandsFor};
+ghost use Rattle.syntax.specs.lexer.Lexing.{run_length};
+ghost use Rattle.syntax.specs.lexer.Texts.{escaped_by, is_no_backslash, unescaped_text, is_framed, text_between_quotes, text_of};
+ghost use Rattle.syntax.specs.lexer.Texts.{TokenStandsFor};
 ghost use Rattle.syntax.specs.lexer.Tokens.{IsToken};
 
 use crate::lexer::escape::escape_at;
-use crate::lexer::token::{Kind, Token};
+use crate::lexer::token::{Token, TokenKind};
 use std::alloc::{AllocError, Global};
 
 // Returns the character that a backslash and these bytes name, and how many of the bytes belong to the escape. A backslash without an
@@ -27,7 +28,7 @@ fn unescape_one(bytes: &[u8]) -> (char, usize)
 // Returns how many bytes precede the first backslash.
 #[tactic(auto, using(crate::proofs::Runs::run_steps))]
 fn plain_length(bytes: &[u8]) -> usize
-    ensures { result ≡ run is_no_backslash bytes.now }
+    ensures { result ≡ run_length is_no_backslash bytes.now }
 {
     let mut length = 0;
     while length < bytes.len() && bytes[length] != b'\\' {
@@ -38,7 +39,7 @@ fn plain_length(bytes: &[u8]) -> usize
 
 // Returns the text that the characters between quotes name.
 fn unescape(alloc: Global, text: &str) -> Result<String, AllocError>
-    ensures { IfOk result (λ s. string_bytes s ≡ unescaped text.now) }
+    ensures { IfOk result (λ s. string_bytes s ≡ unescaped_text text.now) }
 {
     let mut whole = String::new(alloc);
     let mut rest = text;
@@ -77,7 +78,7 @@ fn between(text: &str, front: usize, back: usize) -> &str
     requires few { front < 8 }
     requires behind { 0 < back }
     requires not_many { back < 8 }
-    ensures { result.now ≡ between front back text.now }
+    ensures { result.now ≡ text_between_quotes front back text.now }
 {
     if is_framed(text.as_bytes(), front, back) {
         &text[front..text.len() - back]
@@ -87,21 +88,21 @@ fn between(text: &str, front: usize, back: usize) -> &str
 }
 
 // Returns the text of a token of this kind and slice.
-fn stood_for(alloc: Global, kind: Kind, text: &str) -> Result<String, AllocError>
+fn stood_for(alloc: Global, kind: TokenKind, text: &str) -> Result<String, AllocError>
     ensures { IfOk result (λ s. string_bytes s ≡ text_of kind text.now) }
 {
     match kind {
-        Kind::String => unescape(alloc, between(text, 1, 1)),
-        Kind::FormatString => unescape(alloc, between(text, 2, 1)),
-        Kind::RawString => String::from_str(alloc, between(text, 3, 3)),
-        Kind::RawFormatString => String::from_str(alloc, between(text, 4, 3)),
+        TokenKind::String => unescape(alloc, between(text, 1, 1)),
+        TokenKind::FormatString => unescape(alloc, between(text, 2, 1)),
+        TokenKind::RawString => String::from_str(alloc, between(text, 3, 3)),
+        TokenKind::RawFormatString => String::from_str(alloc, between(text, 4, 3)),
         _ => String::from_str(alloc, text),
     }
 }
 
 // Returns the characters between quotes, if none of them is a backslash.
 fn without_escapes(text: &str) -> Option<&str>
-    ensures { IfSome result (λ t. t.now ≡ unescaped text.now) }
+    ensures { IfSome result (λ t. t.now ≡ unescaped_text text.now) }
 {
     if plain_length(text.as_bytes()) == text.len() {
         Some(text)
@@ -113,14 +114,14 @@ fn without_escapes(text: &str) -> Option<&str>
 /// Returns the part of a token's slice that is the token's text, without allocating.
 ///
 /// The text is the one that [`text_of_slice`] returns. Returns `None` for a string that is not raw and has a backslash.
-pub fn text_in_slice(kind: Kind, slice: &str) -> Option<&str>
+pub fn text_in_slice(kind: TokenKind, slice: &str) -> Option<&str>
     ensures { IfSome result (λ t. t.now ≡ text_of kind slice.now) }
 {
     match kind {
-        Kind::String => without_escapes(between(slice, 1, 1)),
-        Kind::FormatString => without_escapes(between(slice, 2, 1)),
-        Kind::RawString => Some(between(slice, 3, 3)),
-        Kind::RawFormatString => Some(between(slice, 4, 3)),
+        TokenKind::String => without_escapes(between(slice, 1, 1)),
+        TokenKind::FormatString => without_escapes(between(slice, 2, 1)),
+        TokenKind::RawString => Some(between(slice, 3, 3)),
+        TokenKind::RawFormatString => Some(between(slice, 4, 3)),
         _ => Some(slice),
     }
 }
@@ -128,9 +129,9 @@ pub fn text_in_slice(kind: Kind, slice: &str) -> Option<&str>
 /// Returns the text of a token of this kind, given its slice of the source.
 ///
 /// The text of a string is the one between its quotes, after its escapes, as the Meson manual describes them (page "Syntax"). A raw string
-/// has no escapes. The text of any other token is its slice. A slice that is no such token of any source has a text too: an escape that
-/// names no character keeps its backslash, and a string without its quotes is taken whole.
-pub fn text_of_slice(alloc: Global, kind: Kind, slice: &str) -> Result<String, AllocError>
+/// has no escapes. The text of any other token is its slice. A slice that is no such token of any source has a text too. An escape that
+/// names no character keeps its backslash, and a string without its quotes is its own text.
+pub fn text_of_slice(alloc: Global, kind: TokenKind, slice: &str) -> Result<String, AllocError>
     // Unless memory runs out, the result is this function of the kind and the slice, for all values of both.
     ensures value { IfOk result (λ s. string_bytes s ≡ text_of kind slice.now) }
 

@@ -4,7 +4,7 @@ ghost use Rattle.std.specs.Prelude.{◌≡◌};
 
 /// Lists the kinds of tokens.
 #[derive(Clone, Copy, PartialEq, Eq)]
-pub enum Kind {
+pub enum TokenKind {
     /// A name that is no keyword.
     Name,
     /// `'..'`
@@ -71,7 +71,7 @@ pub enum Kind {
 /// Holds one token of a source.
 #[derive(Clone, Copy)]
 pub struct Token<'a> {
-    pub kind: Kind,
+    pub kind: TokenKind,
     /// The line, from 1, of its first byte.
     pub line: usize,
     /// The slice of the source. A string keeps its quotes.
@@ -82,7 +82,7 @@ impl Token<'_> {
     ghost use Rattle.syntax.specs.lexer.Kinds.{is};
 
     /// Returns whether the token is of this kind.
-    pub fn is(&self, kind: Kind) -> bool
+    pub fn is(&self, kind: TokenKind) -> bool
         ensures { result ≡ is self.now.kind kind }
     {
         self.kind == kind

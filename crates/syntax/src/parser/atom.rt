@@ -11,21 +11,21 @@ ghost use Rattle.syntax.specs.ReadingExpressions.{entry_at, group_at, inner_at, 
 ghost use Rattle.syntax.specs.ReadingExpressions.{unary_at};
 
 use super::{Parser, Read, fit, put};
-use crate::lexer::token::{Kind, Token};
+use crate::lexer::token::{Token, TokenKind};
 use crate::tree::{Entry, Expression, Literal};
 
 // Returns the literal that a token is.
-fn literal_of(kind: Kind) -> Option<Literal>
+fn literal_of(kind: TokenKind) -> Option<Literal>
     ensures { result ≡ literal_of kind }
 {
     match kind {
-        Kind::True => Some(Literal::True),
-        Kind::False => Some(Literal::False),
-        Kind::Number => Some(Literal::Number),
-        Kind::String => Some(Literal::String),
-        Kind::RawString => Some(Literal::RawString),
-        Kind::FormatString => Some(Literal::FormatString),
-        Kind::RawFormatString => Some(Literal::RawFormatString),
+        TokenKind::True => Some(Literal::True),
+        TokenKind::False => Some(Literal::False),
+        TokenKind::Number => Some(Literal::Number),
+        TokenKind::String => Some(Literal::String),
+        TokenKind::RawString => Some(Literal::RawString),
+        TokenKind::FormatString => Some(Literal::FormatString),
+        TokenKind::RawFormatString => Some(Literal::RawFormatString),
         _ => None,
     }
 }
@@ -34,7 +34,7 @@ fn literal_of(kind: Kind) -> Option<Literal>
 fn single_of<'a>(token: &Token<'a>) -> Option<Expression<'a>>
     ensures { option_map expression_of result ≡ single_of (lexeme_of token.now) }
 {
-    if token.is(Kind::Name) {
+    if token.is(TokenKind::Name) {
         return Some(Expression::Name {
             name: token.text,
             line: token.line,
@@ -56,8 +56,8 @@ fn ends_expression(tokens: &[Token<'_>]) -> bool
         return false;
     };
     match token.kind {
-        Kind::Comma | Kind::Colon | Kind::Newline => true,
-        Kind::CloseParenthesis | Kind::CloseBracket | Kind::CloseBrace => true,
+        TokenKind::Comma | TokenKind::Colon | TokenKind::Newline => true,
+        TokenKind::CloseParenthesis | TokenKind::CloseBracket | TokenKind::CloseBrace => true,
         _ => false,
     }
 }
@@ -101,12 +101,12 @@ impl<'a> Parser<'_, 'a> {
 
     // Returns whether another element of a list follows, and takes the comma before it.
     #[tactic(auto, using(crate::proofs::Loops::more_end, crate::proofs::Loops::more_none, crate::proofs::Loops::more_comma))]
-    pub(super) fn more(&mut self, close: Kind) -> bool
+    pub(super) fn more(&mut self, close: TokenKind) -> bool
         ensures read { (result, lexemes self.new.rest.now) ≡ more_at close (lexemes self.old.rest.now) }
         ensures within { length self.new.rest.now ≤ length self.old.rest.now }
     {
         match self.rest {
-            [comma, rest @ ..] if comma.is(Kind::Comma) => {
+            [comma, rest @ ..] if comma.is(TokenKind::Comma) => {
                 self.rest = rest;
                 !self.begins(close)
             }
@@ -122,11 +122,11 @@ impl<'a> Parser<'_, 'a> {
         ensures shorter { OnOk result (length self.new.rest.now ≤ length self.old.rest.now) }
     {
         let mut items = Vec::new(self.alloc);
-        let mut more = !self.begins(Kind::CloseBracket);
+        let mut more = !self.begins(TokenKind::CloseBracket);
         while more {
             let item = self.ternary(levels, ternaries);
             put(&mut items, item)?;
-            more = self.more(Kind::CloseBracket);
+            more = self.more(TokenKind::CloseBracket);
         }
         Ok(fit(items))
     }
@@ -136,12 +136,12 @@ impl<'a> Parser<'_, 'a> {
     #[tactic(auto, unfolding(crate::specs::ReadingExpressions::entered_at, crate::specs::ReadingExpressions::list_at, crate::specs::ReadingExpressions::elements_at))]
     fn list(&mut self, levels: u32, ternaries: bool) -> Read<Expression<'a>>
         ensures read { Gives expression_of result (lexemes self.new.rest.now)
-            (entered_at Kind.OpenBracket levels (λ e. list_at e ternaries) (lexemes self.old.rest.now)) }
+            (entered_at TokenKind.OpenBracket levels (λ e. list_at e ternaries) (lexemes self.old.rest.now)) }
         ensures shorter { OnOk result (length self.new.rest.now < length self.old.rest.now) }
     {
-        let (open, inside) = self.enter(Kind::OpenBracket, levels)?;
+        let (open, inside) = self.enter(TokenKind::OpenBracket, levels)?;
         let items = self.elements(inside, ternaries)?;
-        self.take(Kind::CloseBracket)?;
+        self.take(TokenKind::CloseBracket)?;
         Ok(Expression::List {
             items,
             line: open.line,
@@ -156,7 +156,7 @@ impl<'a> Parser<'_, 'a> {
             (entry_at (ternary_at (unary_at levels) ternaries) (lexemes self.old.rest.now)) }
         ensures shorter { OnOk result (length self.new.rest.now < length self.old.rest.now) }
     {
-        let key = self.ended(Kind::Colon, levels, ternaries)?;
+        let key = self.ended(TokenKind::Colon, levels, ternaries)?;
         let value = self.ternary(levels, ternaries)?;
         Ok(Entry { key, value })
     }
@@ -169,11 +169,11 @@ impl<'a> Parser<'_, 'a> {
         ensures shorter { OnOk result (length self.new.rest.now ≤ length self.old.rest.now) }
     {
         let mut entries = Vec::new(self.alloc);
-        let mut more = !self.begins(Kind::CloseBrace);
+        let mut more = !self.begins(TokenKind::CloseBrace);
         while more {
             let entry = self.entry(levels, ternaries);
             put(&mut entries, entry)?;
-            more = self.more(Kind::CloseBrace);
+            more = self.more(TokenKind::CloseBrace);
         }
         Ok(fit(entries))
     }
@@ -183,12 +183,12 @@ impl<'a> Parser<'_, 'a> {
     #[tactic(auto, unfolding(crate::specs::ReadingExpressions::entered_at, crate::specs::ReadingExpressions::dictionary_at, crate::specs::ReadingExpressions::entries_at))]
     fn dictionary(&mut self, levels: u32, ternaries: bool) -> Read<Expression<'a>>
         ensures read { Gives expression_of result (lexemes self.new.rest.now)
-            (entered_at Kind.OpenBrace levels (λ e. dictionary_at e ternaries) (lexemes self.old.rest.now)) }
+            (entered_at TokenKind.OpenBrace levels (λ e. dictionary_at e ternaries) (lexemes self.old.rest.now)) }
         ensures shorter { OnOk result (length self.new.rest.now < length self.old.rest.now) }
     {
-        let (open, inside) = self.enter(Kind::OpenBrace, levels)?;
+        let (open, inside) = self.enter(TokenKind::OpenBrace, levels)?;
         let entries = self.entries(inside, ternaries)?;
-        self.take(Kind::CloseBrace)?;
+        self.take(TokenKind::CloseBrace)?;
         Ok(Expression::Dictionary {
             entries,
             line: open.line,
@@ -200,10 +200,10 @@ impl<'a> Parser<'_, 'a> {
     #[tactic(auto, unfolding(crate::specs::ReadingExpressions::call_at))]
     fn call(&mut self, levels: u32, ternaries: bool) -> Read<Expression<'a>>
         ensures read { Gives expression_of result (lexemes self.new.rest.now)
-            (call_at (entered_at Kind.OpenParenthesis levels (λ e. items_at e ternaries)) (lexemes self.old.rest.now)) }
+            (call_at (entered_at TokenKind.OpenParenthesis levels (λ e. items_at e ternaries)) (lexemes self.old.rest.now)) }
         ensures shorter { OnOk result (length self.new.rest.now < length self.old.rest.now) }
     {
-        let name = self.take(Kind::Name)?;
+        let name = self.take(TokenKind::Name)?;
         let arguments = self.arguments(levels, ternaries)?;
         Ok(Expression::Call {
             line: name.line,
@@ -217,11 +217,11 @@ impl<'a> Parser<'_, 'a> {
     #[tactic(auto, unfolding(crate::specs::ReadingExpressions::entered_at, crate::specs::ReadingExpressions::group_at, crate::specs::Reading::ended_at))]
     fn group(&mut self, levels: u32, ternaries: bool) -> Read<Expression<'a>>
         ensures read { Gives expression_of result (lexemes self.new.rest.now)
-            (entered_at Kind.OpenParenthesis levels (λ e. group_at e ternaries) (lexemes self.old.rest.now)) }
+            (entered_at TokenKind.OpenParenthesis levels (λ e. group_at e ternaries) (lexemes self.old.rest.now)) }
         ensures shorter { OnOk result (length self.new.rest.now < length self.old.rest.now) }
     {
-        let (_, inside) = self.enter(Kind::OpenParenthesis, levels)?;
-        self.ended(Kind::CloseParenthesis, inside, ternaries)
+        let (_, inside) = self.enter(TokenKind::OpenParenthesis, levels)?;
+        self.ended(TokenKind::CloseParenthesis, inside, ternaries)
     }
 
     // Reads a call of a function, or an atom.
@@ -232,13 +232,13 @@ impl<'a> Parser<'_, 'a> {
             (base_at (inner_at levels) ternaries (lexemes self.old.rest.now)) }
         ensures shorter { OnOk result (length self.new.rest.now < length self.old.rest.now) }
     {
-        if self.two_begin(Kind::Name, Kind::OpenParenthesis) {
+        if self.two_begin(TokenKind::Name, TokenKind::OpenParenthesis) {
             self.call(levels, ternaries)
-        } else if self.begins(Kind::OpenParenthesis) {
+        } else if self.begins(TokenKind::OpenParenthesis) {
             self.group(levels, ternaries)
-        } else if self.begins(Kind::OpenBracket) {
+        } else if self.begins(TokenKind::OpenBracket) {
             self.list(levels, ternaries)
-        } else if self.begins(Kind::OpenBrace) {
+        } else if self.begins(TokenKind::OpenBrace) {
             self.dictionary(levels, ternaries)
         } else {
             self.single()

@@ -5,15 +5,15 @@ ghost use Rattle.std.specs.Option.{OnSome};
 ghost use Rattle.syntax.specs.lexer.Lexeme.{lexeme_of, lexemes};
 ghost use Rattle.syntax.specs.ExpressionTree.{expression_of, operand_of};
 ghost use Rattle.syntax.specs.Expressions.{comparative};
-ghost use Rattle.syntax.specs.Parts.{first_line, stands_for, taken};
+ghost use Rattle.syntax.specs.Parts.{first_line, stands_for, taken_token};
 ghost use Rattle.syntax.specs.Reading.{Gives, GoesOn, begins, ended_at, head_is, two_begin};
 ghost use Rattle.syntax.specs.ReadingExpressions.{branches_at, chain_at, ternary_at, comparison_at, comparison_operator_at, compares};
 ghost use Rattle.syntax.specs.ReadingExpressions.{disjunction_at, enter_at, expr_at, not_in_at, one_compared_at, operands_at};
 ghost use Rattle.syntax.specs.ReadingExpressions.{operator_of, part_at, sum_at, unary_at};
 
 use super::{Parser, Read, allocate, fit};
-use crate::lexer::token::{Kind, Token};
-use crate::stop::{ReadError, Stop};
+use crate::lexer::token::{Token, TokenKind};
+use crate::stop::{ParseStop, ReadError};
 use crate::tree::{Expression, Operand, Operator};
 
 /// Names the operators between the parts of a chain, from the loosest to the tightest.
@@ -27,27 +27,27 @@ enum Rank {
 
 impl Rank {
     // Returns the operator of this rank that a token is.
-    fn operator(self, kind: Kind) -> Option<Operator>
+    fn operator(self, kind: TokenKind) -> Option<Operator>
         ensures { result ≡ operator_of self kind }
     {
         match self {
             Rank::Or => match kind {
-                Kind::Or => Some(Operator::Or),
+                TokenKind::Or => Some(Operator::Or),
                 _ => None,
             },
             Rank::And => match kind {
-                Kind::And => Some(Operator::And),
+                TokenKind::And => Some(Operator::And),
                 _ => None,
             },
             Rank::Sum => match kind {
-                Kind::Plus => Some(Operator::Add),
-                Kind::Minus => Some(Operator::Subtract),
+                TokenKind::Plus => Some(Operator::Add),
+                TokenKind::Minus => Some(Operator::Subtract),
                 _ => None,
             },
             Rank::Product => match kind {
-                Kind::Times => Some(Operator::Multiply),
-                Kind::Divide => Some(Operator::Divide),
-                Kind::Remainder => Some(Operator::Remainder),
+                TokenKind::Times => Some(Operator::Multiply),
+                TokenKind::Divide => Some(Operator::Divide),
+                TokenKind::Remainder => Some(Operator::Remainder),
                 _ => None,
             },
         }
@@ -55,17 +55,17 @@ impl Rank {
 }
 
 // Returns the comparison that one token is.
-fn comparative(kind: Kind) -> Option<Operator>
+fn comparative(kind: TokenKind) -> Option<Operator>
     ensures { result ≡ comparative kind }
 {
     match kind {
-        Kind::Equal => Some(Operator::Equal),
-        Kind::NotEqual => Some(Operator::NotEqual),
-        Kind::Less => Some(Operator::Less),
-        Kind::LessOrEqual => Some(Operator::LessOrEqual),
-        Kind::Greater => Some(Operator::Greater),
-        Kind::GreaterOrEqual => Some(Operator::GreaterOrEqual),
-        Kind::In => Some(Operator::In),
+        TokenKind::Equal => Some(Operator::Equal),
+        TokenKind::NotEqual => Some(Operator::NotEqual),
+        TokenKind::Less => Some(Operator::Less),
+        TokenKind::LessOrEqual => Some(Operator::LessOrEqual),
+        TokenKind::Greater => Some(Operator::Greater),
+        TokenKind::GreaterOrEqual => Some(Operator::GreaterOrEqual),
+        TokenKind::In => Some(Operator::In),
         _ => None,
     }
 }
@@ -98,7 +98,7 @@ impl<'a> Parser<'_, 'a> {
     // Takes the next token if it is an operator of this rank.
     #[tactic(auto, using(crate::proofs::ExpressionTails::taken_cases))]
     fn operator(&mut self, rank: Rank) -> Option<Operator>
-        ensures read { (result, lexemes self.new.rest.now) ≡ taken (operator_of rank) (lexemes self.old.rest.now) }
+        ensures read { (result, lexemes self.new.rest.now) ≡ taken_token (operator_of rank) (lexemes self.old.rest.now) }
         ensures within { length self.new.rest.now ≤ length self.old.rest.now }
         ensures shorter { OnSome result (length self.new.rest.now < length self.old.rest.now) }
     {
@@ -125,7 +125,7 @@ impl<'a> Parser<'_, 'a> {
     // Takes the next token if it is a comparison by itself.
     #[tactic(auto, using(crate::proofs::ExpressionTails::taken_cases))]
     fn plain_comparison(&mut self) -> Option<Operator>
-        ensures read { (result, lexemes self.new.rest.now) ≡ taken comparative (lexemes self.old.rest.now) }
+        ensures read { (result, lexemes self.new.rest.now) ≡ taken_token comparative (lexemes self.old.rest.now) }
         ensures within { length self.new.rest.now ≤ length self.old.rest.now }
         ensures shorter { OnSome result (length self.new.rest.now < length self.old.rest.now) }
     {
@@ -145,8 +145,8 @@ impl<'a> Parser<'_, 'a> {
         ensures read { Gives (λ o. o) result (lexemes self.new.rest.now) (not_in_at (lexemes self.old.rest.now)) }
         ensures shorter { OnOk result (length self.new.rest.now < length self.old.rest.now) }
     {
-        self.take(Kind::Not)?;
-        self.take(Kind::In)?;
+        self.take(TokenKind::Not)?;
+        self.take(TokenKind::In)?;
         Ok(Operator::NotIn)
     }
 
@@ -166,20 +166,20 @@ impl<'a> Parser<'_, 'a> {
         ensures { result ≡ head_is compares (lexemes self.now.rest.now) }
     {
         match self.rest {
-            [token, ..] => token.is(Kind::Not) || comparative(token.kind).is_some(),
+            [token, ..] => token.is(TokenKind::Not) || comparative(token.kind).is_some(),
             [] => false,
         }
     }
 
     // Returns whether a ternary continues, if one is allowed.
     fn asks(&self, ternaries: bool) -> bool
-        ensures { result ≡ (ternaries && begins Kind.Question (lexemes self.now.rest.now)) }
+        ensures { result ≡ (ternaries && begins TokenKind.Question (lexemes self.now.rest.now)) }
     {
-        ternaries && self.begins(Kind::Question)
+        ternaries && self.begins(TokenKind::Question)
     }
 
     // Returns whether the first two tokens are of these kinds.
-    pub(super) fn two_begin(&self, first: Kind, second: Kind) -> bool
+    pub(super) fn two_begin(&self, first: TokenKind, second: TokenKind) -> bool
         ensures { result ≡ two_begin first second (lexemes self.now.rest.now) }
     {
         match self.rest {
@@ -190,7 +190,7 @@ impl<'a> Parser<'_, 'a> {
 
     // Takes a token that opens a level, and returns it with the number of levels that may still be opened inside.
     #[tactic(auto, using(crate::proofs::ExpressionTails::enter_cases))]
-    pub(super) fn enter(&mut self, kind: Kind, levels: u32) -> Read<(Token<'a>, u32)>
+    pub(super) fn enter(&mut self, kind: TokenKind, levels: u32) -> Read<(Token<'a>, u32)>
         ensures read { Gives (λ x. (lexeme_of x.0, x.1)) result (lexemes self.new.rest.now)
             (enter_at kind levels (lexemes self.old.rest.now)) }
         ensures shorter { OnOk result (length self.new.rest.now < length self.old.rest.now) }
@@ -200,7 +200,7 @@ impl<'a> Parser<'_, 'a> {
             let token = self.take(kind)?;
             Ok((token, levels - 1))
         } else if self.begins(kind) {
-            Err(ReadError::Stop(Stop::TooDeep(self.rest.len())))
+            Err(ReadError::Stop(ParseStop::TooDeep(self.rest.len())))
         } else {
             Err(self.unexpected())
         }
@@ -301,10 +301,10 @@ impl<'a> Parser<'_, 'a> {
             (branches_at (disjunction_at (unary_at levels false)) (lexemes self.old.rest.now)) }
         ensures shorter { OnOk result (length self.new.rest.now < length self.old.rest.now) }
     {
-        self.take(Kind::Question)?;
+        self.take(TokenKind::Question)?;
         let yes = self.chain(levels, false, Rank::Or);
         let yes = allocate(self.alloc, yes)?;
-        let yes = self.close(Kind::Colon, yes)?;
+        let yes = self.close(TokenKind::Colon, yes)?;
         let no = self.chain(levels, false, Rank::Or);
         let no = allocate(self.alloc, no)?;
         Ok((yes, no))
@@ -347,7 +347,12 @@ impl<'a> Parser<'_, 'a> {
 
     // Reads an expression and the token of this kind after it.
     #[cycle(expression)]
-    pub(super) fn ended(&mut self, kind: Kind, levels: u32, ternaries: bool) -> Read<Expression<'a>>
+    pub(super) fn ended(
+        &mut self,
+        kind: TokenKind,
+        levels: u32,
+        ternaries: bool,
+    ) -> Read<Expression<'a>>
         ensures read { Gives expression_of result (lexemes self.new.rest.now)
             (ended_at kind (ternary_at (unary_at levels) ternaries) (lexemes self.old.rest.now)) }
         ensures shorter { OnOk result (length self.new.rest.now < length self.old.rest.now) }

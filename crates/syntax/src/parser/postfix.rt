@@ -10,16 +10,16 @@ ghost use Rattle.syntax.specs.ReadingExpressions.{links_on, method_at, name_colo
 ghost use Rattle.syntax.specs.ReadingExpressions.{unary_at, word_of};
 
 use super::{Parser, Read, allocate, fit, put};
-use crate::lexer::token::Kind;
+use crate::lexer::token::TokenKind;
 use crate::tree::{Argument, Expression, Link, Prefix};
 
 // Returns the token that a prefix operator is.
-fn word_of(prefix: Prefix) -> Kind
+fn word_of(prefix: Prefix) -> TokenKind
     ensures { result ≡ word_of prefix }
 {
     match prefix {
-        Prefix::Not => Kind::Not,
-        Prefix::Negative => Kind::Minus,
+        Prefix::Not => TokenKind::Not,
+        Prefix::Negative => TokenKind::Minus,
     }
 }
 
@@ -29,16 +29,16 @@ impl<'a> Parser<'_, 'a> {
         ensures { result ≡ head_is links_on (lexemes self.now.rest.now) }
     {
         match self.rest {
-            [token, ..] => token.is(Kind::Dot) || token.is(Kind::OpenBracket),
+            [token, ..] => token.is(TokenKind::Dot) || token.is(TokenKind::OpenBracket),
             [] => false,
         }
     }
 
     // Returns whether a name and a colon are next, or have to be.
     fn labels(&self, behind: bool) -> bool
-        ensures { result ≡ (behind || two_begin Kind.Name Kind.Colon (lexemes self.now.rest.now)) }
+        ensures { result ≡ (behind || two_begin TokenKind.Name TokenKind.Colon (lexemes self.now.rest.now)) }
     {
-        behind || self.two_begin(Kind::Name, Kind::Colon)
+        behind || self.two_begin(TokenKind::Name, TokenKind::Colon)
     }
 
     // Reads the name of an argument and its colon, if they are next. They have to be after an argument with a name.
@@ -61,8 +61,8 @@ impl<'a> Parser<'_, 'a> {
         ensures read { Gives (λ name. name.now) result (lexemes self.new.rest.now) (name_colon_at (lexemes self.old.rest.now)) }
         ensures shorter { OnOk result (length self.new.rest.now < length self.old.rest.now) }
     {
-        let name = self.take(Kind::Name)?;
-        self.take(Kind::Colon)?;
+        let name = self.take(TokenKind::Name)?;
+        self.take(TokenKind::Colon)?;
         Ok(name.text)
     }
 
@@ -92,13 +92,13 @@ impl<'a> Parser<'_, 'a> {
     {
         let mut items = Vec::new(self.alloc);
         let mut behind = false;
-        let mut more = !self.begins(Kind::CloseParenthesis);
+        let mut more = !self.begins(TokenKind::CloseParenthesis);
         while more {
             let name = self.label(behind)?;
             behind = name.is_some();
             let argument = self.argument(name, levels, ternaries);
             put(&mut items, argument)?;
-            more = self.more(Kind::CloseParenthesis);
+            more = self.more(TokenKind::CloseParenthesis);
         }
         Ok(fit(items))
     }
@@ -108,12 +108,12 @@ impl<'a> Parser<'_, 'a> {
     #[tactic(auto, unfolding(crate::specs::ReadingExpressions::entered_at, crate::specs::ReadingExpressions::items_at, crate::specs::ReadingExpressions::given_at))]
     pub(super) fn arguments(&mut self, levels: u32, ternaries: bool) -> Read<Vec<Argument<'a>>>
         ensures read { Gives (λ v. map argument_of v.items) result (lexemes self.new.rest.now)
-            (entered_at Kind.OpenParenthesis levels (λ e. items_at e ternaries) (lexemes self.old.rest.now)) }
+            (entered_at TokenKind.OpenParenthesis levels (λ e. items_at e ternaries) (lexemes self.old.rest.now)) }
         ensures shorter { OnOk result (length self.new.rest.now < length self.old.rest.now) }
     {
-        let (_, inside) = self.enter(Kind::OpenParenthesis, levels)?;
+        let (_, inside) = self.enter(TokenKind::OpenParenthesis, levels)?;
         let items = self.given(inside, ternaries)?;
-        self.close(Kind::CloseParenthesis, items)
+        self.close(TokenKind::CloseParenthesis, items)
     }
 
     // Reads a dot, the name of a method, and its arguments.
@@ -121,11 +121,11 @@ impl<'a> Parser<'_, 'a> {
     #[tactic(auto, unfolding(crate::specs::ReadingExpressions::method_at))]
     fn method(&mut self, levels: u32, ternaries: bool) -> Read<Link<'a>>
         ensures read { Gives link_of result (lexemes self.new.rest.now)
-            (method_at (entered_at Kind.OpenParenthesis levels (λ e. items_at e ternaries)) (lexemes self.old.rest.now)) }
+            (method_at (entered_at TokenKind.OpenParenthesis levels (λ e. items_at e ternaries)) (lexemes self.old.rest.now)) }
         ensures shorter { OnOk result (length self.new.rest.now < length self.old.rest.now) }
     {
-        self.take(Kind::Dot)?;
-        let name = self.take(Kind::Name)?;
+        self.take(TokenKind::Dot)?;
+        let name = self.take(TokenKind::Name)?;
         let arguments = self.arguments(levels, ternaries)?;
         Ok(Link::Method {
             name: name.text,
@@ -138,11 +138,11 @@ impl<'a> Parser<'_, 'a> {
     #[tactic(auto, unfolding(crate::specs::ReadingExpressions::entered_at, crate::specs::ReadingExpressions::index_at, crate::specs::Reading::ended_at))]
     fn index(&mut self, levels: u32, ternaries: bool) -> Read<Link<'a>>
         ensures read { Gives link_of result (lexemes self.new.rest.now)
-            (entered_at Kind.OpenBracket levels (λ e. index_at e ternaries) (lexemes self.old.rest.now)) }
+            (entered_at TokenKind.OpenBracket levels (λ e. index_at e ternaries) (lexemes self.old.rest.now)) }
         ensures shorter { OnOk result (length self.new.rest.now < length self.old.rest.now) }
     {
-        let (_, inside) = self.enter(Kind::OpenBracket, levels)?;
-        let index = self.ended(Kind::CloseBracket, inside, ternaries)?;
+        let (_, inside) = self.enter(TokenKind::OpenBracket, levels)?;
+        let index = self.ended(TokenKind::CloseBracket, inside, ternaries)?;
         Ok(Link::Index { index })
     }
 
@@ -154,7 +154,7 @@ impl<'a> Parser<'_, 'a> {
             (link_at (inner_at levels) ternaries (lexemes self.old.rest.now)) }
         ensures shorter { OnOk result (length self.new.rest.now < length self.old.rest.now) }
     {
-        if self.begins(Kind::Dot) {
+        if self.begins(TokenKind::Dot) {
             self.method(levels, ternaries)
         } else {
             self.index(levels, ternaries)
@@ -198,8 +198,8 @@ impl<'a> Parser<'_, 'a> {
         ensures { result ≡ prefix_of (lexemes self.now.rest.now) }
     {
         match self.rest {
-            [token, ..] if token.is(Kind::Not) => Some(Prefix::Not),
-            [token, ..] if token.is(Kind::Minus) => Some(Prefix::Negative),
+            [token, ..] if token.is(TokenKind::Not) => Some(Prefix::Not),
+            [token, ..] if token.is(TokenKind::Minus) => Some(Prefix::Negative),
             _ => None,
         }
     }

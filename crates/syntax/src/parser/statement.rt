@@ -13,8 +13,8 @@ ghost use Rattle.syntax.specs.ReadingStatements.{stmt_at};
 ghost use Rattle.syntax.specs.Tree.{branch_of, statement_of};
 
 use super::{Parser, Read, allocate, fit, put};
-use crate::lexer::token::{Kind, Token};
-use crate::stop::{ReadError, Stop};
+use crate::lexer::token::{Token, TokenKind};
+use crate::stop::{ParseStop, ReadError};
 use crate::tree::{Branch, Expression, Statement};
 
 // Returns the statement that sets a name, or that adds to its value.
@@ -53,7 +53,7 @@ impl<'a> Parser<'_, 'a> {
         ensures { result ≡ begins_block (lexemes self.now.rest.now) }
     {
         match self.rest {
-            [token, ..] => token.is(Kind::Foreach) || token.is(Kind::If),
+            [token, ..] => token.is(TokenKind::Foreach) || token.is(TokenKind::If),
             [] => false,
         }
     }
@@ -64,10 +64,10 @@ impl<'a> Parser<'_, 'a> {
     {
         match self.rest {
             [token, ..] => {
-                !(token.is(Kind::EndForeach)
-                    || token.is(Kind::EndIf)
-                    || token.is(Kind::Elif)
-                    || token.is(Kind::Else))
+                !(token.is(TokenKind::EndForeach)
+                    || token.is(TokenKind::EndIf)
+                    || token.is(TokenKind::Elif)
+                    || token.is(TokenKind::Else))
             }
             [] => false,
         }
@@ -78,7 +78,7 @@ impl<'a> Parser<'_, 'a> {
         ensures { result ≡ ends_line (lexemes self.now.rest.now) }
     {
         match self.rest {
-            [token, ..] => token.is(Kind::Newline),
+            [token, ..] => token.is(TokenKind::Newline),
             [] => true,
         }
     }
@@ -90,8 +90,12 @@ impl<'a> Parser<'_, 'a> {
             (set_at (sign_of adds) (set_tree adds) (expr_at levels) (lexemes self.old.rest.now)) }
         ensures shorter { OnOk result (length self.new.rest.now < length self.old.rest.now) }
     {
-        let name = self.take(Kind::Name)?;
-        self.take(if adds { Kind::PlusAssign } else { Kind::Assign })?;
+        let name = self.take(TokenKind::Name)?;
+        self.take(if adds {
+            TokenKind::PlusAssign
+        } else {
+            TokenKind::Assign
+        })?;
         let value = self.expression(levels);
         let value = allocate(self.alloc, value)?;
         Ok(set(name, adds, value))
@@ -117,7 +121,11 @@ impl<'a> Parser<'_, 'a> {
         ensures shorter { OnOk result (length self.new.rest.now < length self.old.rest.now) }
     {
         if inside {
-            let word = self.take(if ends { Kind::Break } else { Kind::Continue })?;
+            let word = self.take(if ends {
+                TokenKind::Break
+            } else {
+                TokenKind::Continue
+            })?;
             Ok(leaving(ends, word.line))
         } else {
             Err(self.unexpected())
@@ -130,13 +138,13 @@ impl<'a> Parser<'_, 'a> {
         ensures read { Gives statement_of result (lexemes self.new.rest.now) (simple_at inside levels (lexemes self.old.rest.now)) }
         ensures shorter { OnOk result (length self.new.rest.now < length self.old.rest.now) }
     {
-        if self.begins(Kind::Break) {
+        if self.begins(TokenKind::Break) {
             self.leave(true, inside)
-        } else if self.begins(Kind::Continue) {
+        } else if self.begins(TokenKind::Continue) {
             self.leave(false, inside)
-        } else if self.two_begin(Kind::Name, Kind::Assign) {
+        } else if self.two_begin(TokenKind::Name, TokenKind::Assign) {
             self.assign(false, levels)
-        } else if self.two_begin(Kind::Name, Kind::PlusAssign) {
+        } else if self.two_begin(TokenKind::Name, TokenKind::PlusAssign) {
             self.assign(true, levels)
         } else {
             self.plain(levels)
@@ -153,8 +161,8 @@ impl<'a> Parser<'_, 'a> {
         if !self.begins_block() {
             self.simple(inside, levels)
         } else if levels == 0 {
-            Err(ReadError::Stop(Stop::TooDeep(self.rest.len())))
-        } else if self.begins(Kind::Foreach) {
+            Err(ReadError::Stop(ParseStop::TooDeep(self.rest.len())))
+        } else if self.begins(TokenKind::Foreach) {
             self.foreach(levels - 1)
         } else {
             self.conditional(inside, levels - 1)
@@ -167,8 +175,8 @@ impl<'a> Parser<'_, 'a> {
         ensures read { Gives (λ name. name.now) result (lexemes self.new.rest.now) (second_at (lexemes self.old.rest.now)) }
         ensures shorter { OnOk result (length self.new.rest.now < length self.old.rest.now) }
     {
-        self.take(Kind::Comma)?;
-        let name = self.take(Kind::Name)?;
+        self.take(TokenKind::Comma)?;
+        let name = self.take(TokenKind::Name)?;
         Ok(name.text)
     }
 
@@ -176,10 +184,10 @@ impl<'a> Parser<'_, 'a> {
     #[tactic(auto, using(crate::proofs::StatementTails::optional_cases))]
     fn second(&mut self) -> Read<Option<&'a str>>
         ensures read { Gives (option_map (λ name. name.now)) result (lexemes self.new.rest.now)
-            (optional_at (begins Kind.Comma) second_at (lexemes self.old.rest.now)) }
+            (optional_at (begins TokenKind.Comma) second_at (lexemes self.old.rest.now)) }
         ensures shorter { OnOk result (length self.new.rest.now ≤ length self.old.rest.now) }
     {
-        if self.begins(Kind::Comma) {
+        if self.begins(TokenKind::Comma) {
             Ok(Some(self.comma_name()?))
         } else {
             Ok(None)
@@ -193,9 +201,9 @@ impl<'a> Parser<'_, 'a> {
             (names_at (lexemes self.old.rest.now)) }
         ensures shorter { OnOk result (length self.new.rest.now < length self.old.rest.now) }
     {
-        let first = self.take(Kind::Name)?;
+        let first = self.take(TokenKind::Name)?;
         let second = self.second()?;
-        self.take(Kind::Colon)?;
+        self.take(TokenKind::Colon)?;
         Ok((first.text, second))
     }
 
@@ -204,12 +212,12 @@ impl<'a> Parser<'_, 'a> {
     #[tactic(auto, unfolding(crate::specs::Reading::ended_at))]
     fn round(&mut self, levels: u32) -> Read<Box<Branch<'a>>>
         ensures read { Gives (λ b. branch_of b.value) result (lexemes self.new.rest.now)
-            (ended_at Kind.EndForeach (branch_at (expr_at levels) (stmt_at true levels)) (lexemes self.old.rest.now)) }
+            (ended_at TokenKind.EndForeach (branch_at (expr_at levels) (stmt_at true levels)) (lexemes self.old.rest.now)) }
         ensures shorter { OnOk result (length self.new.rest.now < length self.old.rest.now) }
     {
         let round = self.branch(true, levels);
         let round = allocate(self.alloc, round)?;
-        self.close(Kind::EndForeach, round)
+        self.close(TokenKind::EndForeach, round)
     }
 
     // Reads a `foreach`, up to its `endforeach`.
@@ -220,7 +228,7 @@ impl<'a> Parser<'_, 'a> {
             (foreach_at (expr_at levels) (stmt_at true levels) (lexemes self.old.rest.now)) }
         ensures shorter { OnOk result (length self.new.rest.now < length self.old.rest.now) }
     {
-        let word = self.take(Kind::Foreach)?;
+        let word = self.take(TokenKind::Foreach)?;
         let (first, second) = self.names()?;
         let round = self.round(levels)?;
         Ok(Statement::Foreach {
@@ -245,7 +253,7 @@ impl<'a> Parser<'_, 'a> {
     {
         let branches = self.parts(inside, levels)?;
         let otherwise = self.otherwise(inside, levels)?;
-        self.close(Kind::EndIf, (branches, otherwise))
+        self.close(TokenKind::EndIf, (branches, otherwise))
     }
 
     // Reads an `if`, up to its `endif`.
@@ -256,7 +264,7 @@ impl<'a> Parser<'_, 'a> {
             (conditional_at (expr_at levels) (stmt_at inside levels) (lexemes self.old.rest.now)) }
         ensures shorter { OnOk result (length self.new.rest.now < length self.old.rest.now) }
     {
-        let word = self.take(Kind::If)?;
+        let word = self.take(TokenKind::If)?;
         let (branches, otherwise) = self.alternatives(inside, levels)?;
         Ok(Statement::If {
             line: word.line,
@@ -274,7 +282,7 @@ impl<'a> Parser<'_, 'a> {
         ensures shorter { OnOk result (length self.new.rest.now < length self.old.rest.now) }
     {
         let line = self.first_line();
-        let condition = self.ended(Kind::Newline, levels, true)?;
+        let condition = self.ended(TokenKind::Newline, levels, true)?;
         let body = self.body(inside, levels)?;
         Ok(Branch {
             condition,
@@ -293,8 +301,8 @@ impl<'a> Parser<'_, 'a> {
         let mut parts = Vec::new(self.alloc);
         let first = self.branch(inside, levels);
         put(&mut parts, first)?;
-        while self.begins(Kind::Elif) {
-            self.take(Kind::Elif)?;
+        while self.begins(TokenKind::Elif) {
+            self.take(TokenKind::Elif)?;
             let other = self.branch(inside, levels);
             put(&mut parts, other)?;
         }
@@ -309,11 +317,11 @@ impl<'a> Parser<'_, 'a> {
             (otherwise_at (stmt_at inside levels) (lexemes self.old.rest.now)) }
         ensures shorter { OnOk result (length self.new.rest.now ≤ length self.old.rest.now) }
     {
-        if !self.begins(Kind::Else) {
+        if !self.begins(TokenKind::Else) {
             return Ok(Vec::new(self.alloc));
         }
-        self.take(Kind::Else)?;
-        self.take(Kind::Newline)?;
+        self.take(TokenKind::Else)?;
+        self.take(TokenKind::Newline)?;
         self.body(inside, levels)
     }
 
@@ -327,7 +335,7 @@ impl<'a> Parser<'_, 'a> {
         let mut statements = Vec::new(self.alloc);
         while self.in_body() {
             self.line(inside, levels, &mut statements)?;
-            self.take(Kind::Newline)?;
+            self.take(TokenKind::Newline)?;
         }
         Ok(fit(statements))
     }

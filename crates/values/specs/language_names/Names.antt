@@ -7,7 +7,7 @@ use Rattle.support.specs.Among.{is_among}
 use Rattle.values.specs.Data.{Data, object}
 use Rattle.values.specs.declared.object.Object.TheVariants as objects
 
--- Returns the predefined variables, which no build file can assign.
+-- Returns the predefined variables, which no definition file can assign.
 abbrev pub predefined_names : List (List ℕ)
 predefined_names = codes "meson" ∷ codes "host_machine" ∷ codes "build_machine" ∷ codes "target_machine" ∷ []
 
@@ -17,8 +17,8 @@ is_predefined name = is_among predefined_names name
 
 -- Returns the value of a predefined variable, which does not depend on the machine file. There is no cross compilation, so the three
 -- machines are the same object.
-abbrev pub predefined : List ℕ → Data
-predefined name = if bytes_eq name (codes "meson") then object objects.Meson else object objects.Machine
+abbrev pub predefined_value : List ℕ → Data
+predefined_value name = if bytes_eq name (codes "meson") then object objects.Meson else object objects.Machine
 
 -- Returns the keywords, which cannot be names.
 abbrev pub keywords : List (List ℕ)
@@ -35,8 +35,8 @@ begins_name [] = false
 begins_name (b ∷ bs) = is_ascii_alphabetic b || b == 95
 
 -- Holds if a text is a name: letters, digits and underscores, not beginning with a digit, and no keyword.
-abbrev pub is_name : List ℕ → Bool
-is_name text = begins_name text && (list_all is_name_byte text && not (is_among keywords text))
+abbrev pub is_variable_name : List ℕ → Bool
+is_variable_name text = begins_name text && (list_all is_name_byte text && not (is_among keywords text))
 
 -- Returns the functions of Meson that are not supported.
 abbrev pub left_out_names : List (List ℕ)

@@ -21,6 +21,6 @@ part_pieces (part.Items items is_first) = item_pieces is_first (items_of items.n
 part_pieces (part.Entries keys values is_first) = entry_pieces is_first (entries_of keys.now values.now)
 
 -- Returns the pieces of all parts that are left. The next part is last in the list.
-abbrev pub left : List Part → List (List ℕ)
-left [] = []
-left (p ∷ ps) = left ps ++ part_pieces p
+abbrev pub remaining_pieces : List Part → List (List ℕ)
+remaining_pieces [] = []
+remaining_pieces (p ∷ ps) = remaining_pieces ps ++ part_pieces p

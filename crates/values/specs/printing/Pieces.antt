@@ -4,7 +4,7 @@ use Rattle.std.specs.Fmt.{signed_decimal}
 use Rattle.values.specs.Data.{Data, boolean, integer, text, list, dictionary, object, Items, no_items, item, Entries, no_entries, entry}
 use Rattle.values.specs.printing.Printed.{boolean_text}
 
--- Returns what is printed before an item: nothing before the first one, a comma and a space before any other.
+-- Returns the text before an item: nothing before the first one, a comma and a space before any other.
 abbrev pub separator : Bool → List ℕ
 separator true = []
 separator false = codes ", "
@@ -19,10 +19,12 @@ abbrev mutual
   inside_pieces (dictionary es) = codes "{" ∷ entry_pieces true es
   inside_pieces (object o) = [] ∷ []
 
+  -- Returns the pieces of the items and the closing bracket. `is_first` says whether no item precedes them.
   pub item_pieces : Bool → Items → List (List ℕ)
   item_pieces is_first no_items = codes "]" ∷ []
   item_pieces is_first (item d ds) = separator is_first ∷ (inside_pieces d ++ item_pieces false ds)
 
+  -- Returns the pieces of the entries and the closing brace. `is_first` says whether no entry precedes them.
   pub entry_pieces : Bool → Entries → List (List ℕ)
   entry_pieces is_first no_entries = codes "}" ∷ []
   entry_pieces is_first (entry k d es) =

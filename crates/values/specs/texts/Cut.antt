@@ -2,8 +2,8 @@
 use Rattle.std.specs.Prelude.{ℕ, ◌<◌, List, [], ◌∷◌, length, Option, Some, None, nat_eq, codes, ◌==◌, if◌then◌else◌}
 use Rattle.std.specs.List.{starts_with}
 use denote.Ref.{Bor}
-use Rattle.values.specs.declared.texts.cut.Cut.{Cut}
-use Rattle.values.specs.declared.texts.cut.Cut.TheVariants as cut
+use Rattle.values.specs.declared.texts.first_piece.Cut.{Cut}
+use Rattle.values.specs.declared.texts.first_piece.Cut.TheVariants as cut
 use Rattle.values.specs.texts.Pieces.{parts, words, lines, lines_after}
 
 -- Returns the pieces into which a text is cut.
@@ -13,9 +13,9 @@ pieces cut.Blanks text = words text
 pieces cut.Lines text = lines text
 
 -- Returns the pieces of the remaining text, and none if nothing remains.
-abbrev pub left : (List ℕ → List (List ℕ)) → Option (Bor (List ℕ)) → List (List ℕ)
-left cut_up None = []
-left cut_up (Some rest) = cut_up rest.now
+abbrev pub pieces_of_rest : (List ℕ → List (List ℕ)) → Option (Bor (List ℕ)) → List (List ℕ)
+pieces_of_rest cut_up None = []
+pieces_of_rest cut_up (Some rest) = cut_up rest.now
 
 -- Returns the lines after the line ending with which a text begins.
 abbrev pub lines_behind : List ℕ → List (List ℕ)

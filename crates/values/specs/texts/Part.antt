@@ -18,9 +18,9 @@ abbrev pub items_between : ℕ → ℕ → List ℕ → List ℕ
 items_between start end items = take (end - start) (drop start items)
 
 -- Returns the characters from one index up to another. A missing index means the start or the end.
-abbrev pub between : Option ℤ → Option ℤ → List ℕ → List ℕ
-between from to cs = items_between (place_or from (length cs) 0) (place_or to (length cs) (length cs)) cs
+abbrev pub characters_between : Option ℤ → Option ℤ → List ℕ → List ℕ
+characters_between from to cs = items_between (place_or from (length cs) 0) (place_or to (length cs) (length cs)) cs
 
 -- Returns the substring from one index up to another.
 abbrev pub part : Option ℤ → Option ℤ → List ℕ → List ℕ
-part from to text = encode_utf8_all (between from to (chars text))
+part from to text = encode_utf8_all (characters_between from to (chars text))

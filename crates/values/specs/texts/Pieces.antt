@@ -3,8 +3,8 @@ use Rattle.std.specs.Prelude.{ℕ, zero, suc, ◌-◌, Bool, true, false, List, 
 use Rattle.std.specs.Prelude.{Ok, Err, if◌then◌else◌}
 use Rattle.std.specs.List.{starts_with, slice_split, onto_first}
 use Rattle.support.specs.Limits.{items}
-use Rattle.values.specs.declared.refusal.Refusal.{Refusal}
-use Rattle.values.specs.declared.refusal.Refusal.TheVariants as refusal
+use Rattle.values.specs.declared.refusal.OperationRefusal.{OperationRefusal}
+use Rattle.values.specs.declared.refusal.OperationRefusal.TheVariants as refusal
 use Rattle.values.specs.texts.Strip.{is_blank}
 
 -- Returns the parts of a text after skipping `passed` bytes, which belong to a separator. A part ends where the next separator begins.
@@ -46,9 +46,9 @@ abbrev pub lines : List ℕ → List (List ℕ)
 lines text = lines_after false text
 
 -- Returns the pieces if a list can hold that many, and otherwise the refusal.
-abbrev pub within_items : List (List ℕ) → Result (List (List ℕ)) Refusal
+abbrev pub within_items : List (List ℕ) → Result (List (List ℕ)) OperationRefusal
 within_items pieces = if nat_le (length pieces) items then Ok pieces else Err refusal.Limit
 
 -- Returns the parts of a text between separators, or the refusal if the separator is empty or there are too many parts.
-abbrev pub split_at : List ℕ → List ℕ → Result (List (List ℕ)) Refusal
+abbrev pub split_at : List ℕ → List ℕ → Result (List (List ℕ)) OperationRefusal
 split_at text separator = if length separator == 0 then Err refusal.Arguments else within_items (parts separator text)

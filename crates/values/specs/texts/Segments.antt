@@ -4,10 +4,10 @@ use Rattle.std.specs.Prelude.{slice_index, nat_lt, codes, ◌==◌, if◌then◌
 use Rattle.std.specs.Char.{is_ascii_digit, is_ascii_alphabetic, is_ascii_alphanumeric}
 use Rattle.std.specs.List.{prefix_len, list_all}
 use Rattle.std.specs.Str.Parse.{digits_value}
-use Rattle.values.specs.declared.texts.placed.Places.{Places}
-use Rattle.values.specs.declared.texts.placed.Places.TheVariants as places
-use Rattle.values.specs.declared.texts.placed.Segment.{Segment as SegmentOfText}
-use Rattle.values.specs.declared.texts.placed.Segment.TheVariants as segment
+use Rattle.values.specs.declared.texts.placeholders.Places.{Places}
+use Rattle.values.specs.declared.texts.placeholders.Places.TheVariants as places
+use Rattle.values.specs.declared.texts.placeholders.Segment.{Segment as SegmentOfText}
+use Rattle.values.specs.declared.texts.placeholders.Segment.TheVariants as segment
 
 -- A segment is a stretch of text between placeholders, or the name between the two `@` of a placeholder.
 pub data Segment : Type 0 where
@@ -56,17 +56,17 @@ text_segments [] = []
 text_segments (b ∷ bs) = text (b ∷ bs) ∷ []
 
 -- Returns how a segment is spelled in the text.
-abbrev pub spelled : Segment → List ℕ
-spelled (text t) = t
-spelled (place name) = codes "@" ++ (name ++ codes "@")
+abbrev pub text_of_segment : Segment → List ℕ
+text_of_segment (text t) = t
+text_of_segment (place name) = codes "@" ++ (name ++ codes "@")
 
 -- Holds if a name is at least one digit and nothing else.
 abbrev pub is_number : List ℕ → Bool
 is_number name = nat_lt 0 (length name) && list_all is_ascii_digit name
 
 -- Returns the number that digits spell, if a `usize` can hold it.
-abbrev pub number_of : List ℕ → Option ℕ
-number_of name = if is_number name && nat_lt (digits_value 10 name) (2 ^ 64) then Some (digits_value 10 name) else None
+abbrev pub place_number : List ℕ → Option ℕ
+place_number name = if is_number name && nat_lt (digits_value 10 name) (2 ^ 64) then Some (digits_value 10 name) else None
 
 -- ---- segments that the code makes
 

@@ -29,5 +29,5 @@ abbrev pub without_last : (ℕ → Bool) → List ℕ → List ℕ
 without_last passes cs = reverse (without_first passes (reverse cs))
 
 -- Returns a text without the characters at its two ends that pass.
-abbrev pub stripped : (ℕ → Bool) → List ℕ → List ℕ
-stripped passes text = encode_utf8_all (without_last passes (without_first passes (chars text)))
+abbrev pub stripped_text : (ℕ → Bool) → List ℕ → List ℕ
+stripped_text passes text = encode_utf8_all (without_last passes (without_first passes (chars text)))

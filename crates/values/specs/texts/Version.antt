@@ -40,13 +40,13 @@ abbrev pub runs : List ℕ → List Run
 runs version = present (parts version)
 
 -- Returns the integer that decimal digits spell, of any length.
-abbrev pub spelled : List ℕ → ℕ
-spelled [] = 0
-spelled (d ∷ ds) = (d - 48) * 10 ^ length ds + spelled ds
+abbrev pub integer_of_digits : List ℕ → ℕ
+integer_of_digits [] = 0
+integer_of_digits (d ∷ ds) = (d - 48) * 10 ^ length ds + integer_of_digits ds
 
 -- Compares two runs: numbers by value, words by bytes; a number is greater than a word.
 abbrev pub run_order : Run → Run → Ordering
-run_order (number xs) (number ys) = nat_cmp (spelled xs) (spelled ys)
+run_order (number xs) (number ys) = nat_cmp (integer_of_digits xs) (integer_of_digits ys)
 run_order (number xs) (word ys) = Greater
 run_order (word xs) (number ys) = Less
 run_order (word xs) (word ys) = slice_cmp nat_cmp xs ys

@@ -7,7 +7,7 @@ use crate::Text;
 use crate::language_names::rows::named;
 use std::marker::Model;
 
-/// A function of the page "Reference manual".
+/// Names a function of the page "Reference manual".
 #[derive(Clone, Copy)]
 pub enum Function {
     Assert,
@@ -29,7 +29,7 @@ pub enum Function {
     Warning,
 }
 
-/// A function that declares something about the project: its targets and their arguments, its options, what is installed and what is
+/// Names a function that declares something about the project: its targets and their arguments, its options, what is installed and what is
 /// tested.
 #[derive(Clone, Copy)]
 pub enum ProjectFunction {
@@ -102,8 +102,8 @@ const PROJECT_FUNCTIONS: [(&str, ProjectFunction); 19] = [
     ("test", ProjectFunction::Test),
 ];
 
-/// The name by which a build file calls a function. The function is looked up once, when the name is made. The view of a name is its text
-/// alone.
+/// Holds the name by which a definition file calls a function. The function is looked up once, when the name is made. The view of a name is
+/// its text alone.
 #[derive(Drop)]
 pub struct FunctionName {
     text: Text,

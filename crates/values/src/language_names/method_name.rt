@@ -83,8 +83,8 @@ impl ObjectMethods {
     }
 }
 
-/// The name by which a build file calls a method. The method for each type of receiver is looked up once, when the name is made. The view
-/// of a name is its text alone.
+/// Holds the name by which a definition file calls a method. The method for each type of receiver is looked up once, when the name is made.
+/// The view of a name is its text alone.
 #[derive(Drop)]
 pub struct MethodName {
     text: Text,

@@ -1,7 +1,8 @@
 //! Decides which texts are names, and which names the language gives a meaning to.
 ghost use Rattle.std.specs.Prelude.{◌≡◌, IfOk};
 ghost use Rattle.std.specs.List.{list_all};
-ghost use Rattle.values.specs.language_names.Names.{begins_name, is_left_out, is_name, is_name_byte, is_predefined, predefined};
+ghost use Rattle.values.specs.language_names.Names.{begins_name, is_left_out, is_variable_name, is_name_byte, is_predefined};
+ghost use Rattle.values.specs.language_names.Names.{predefined_value};
 ghost use Rattle.values.specs.Prelude.{data_of};
 
 use crate::{Object, Value};
@@ -68,7 +69,7 @@ pub fn is_predefined(name: &str) -> bool
 /// Returns the value of a predefined variable: the object `meson`, or the machine. The methods of the machine object read the machine file
 /// later.
 pub fn predefined_value(alloc: Global, name: &str) -> Result<Value, AllocError>
-    ensures { IfOk result (λ value. data_of value ≡ predefined name.now) }
+    ensures { IfOk result (λ value. data_of value ≡ predefined_value name.now) }
 {
     if name == "meson" {
         Value::of_object(alloc, Object::Meson)
@@ -106,8 +107,8 @@ fn are_name_bytes(text: &[u8]) -> bool
 }
 
 /// Returns whether a text is a name: letters, digits and underscores, not beginning with a digit, and no keyword.
-pub fn is_name(text: &str) -> bool
-    ensures { result ≡ is_name text.now }
+pub fn is_variable_name(text: &str) -> bool
+    ensures { result ≡ is_variable_name text.now }
 {
     begins_name(text.as_bytes()) && are_name_bytes(text.as_bytes()) && !is_among(&KEYWORDS, text)
 }

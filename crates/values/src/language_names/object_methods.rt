@@ -7,7 +7,7 @@ ghost use Rattle.values.specs.language_names.ObjectMethods.{program_method_named
 
 use crate::language_names::rows::named;
 
-/// A method of a compiler, by what it returns.
+/// Names a method of a compiler, by what it returns.
 #[derive(Clone, Copy)]
 pub enum CompilerMethod {
     /// A check of one text, such as `has_function`, which returns a boolean.
@@ -56,7 +56,7 @@ impl CompilerMethod {
     }
 }
 
-/// A method of a configuration data object.
+/// Names a method of a configuration data object.
 #[derive(Clone, Copy)]
 pub enum ConfigurationMethod {
     Get,
@@ -90,7 +90,7 @@ impl ConfigurationMethod {
     }
 }
 
-/// A method of a dependency.
+/// Names a method of a dependency.
 #[derive(Clone, Copy)]
 pub enum DependencyMethod {
     Found,
@@ -112,7 +112,7 @@ impl DependencyMethod {
     }
 }
 
-/// A method of a feature.
+/// Names a method of a feature.
 #[derive(Clone, Copy)]
 pub enum FeatureMethod {
     Allowed,
@@ -136,7 +136,7 @@ impl FeatureMethod {
     }
 }
 
-/// A method of a machine.
+/// Names a method of a machine.
 #[derive(Clone, Copy)]
 pub enum MachineMethod {
     Cpu,
@@ -160,7 +160,7 @@ impl MachineMethod {
     }
 }
 
-/// A method of `meson`.
+/// Names a method of `meson`.
 #[derive(Clone, Copy)]
 pub enum MesonMethod {
     Backend,
@@ -204,7 +204,7 @@ impl MesonMethod {
     }
 }
 
-/// A method of a program.
+/// Names a method of a program.
 #[derive(Clone, Copy)]
 pub enum ProgramMethod {
     Found,
@@ -226,7 +226,7 @@ impl ProgramMethod {
     }
 }
 
-/// A method of a target.
+/// Names a method of a target.
 #[derive(Clone, Copy)]
 pub enum TargetMethod {
     FullPath,

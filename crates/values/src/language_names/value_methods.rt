@@ -5,7 +5,7 @@ ghost use Rattle.values.specs.language_names.ValueMethods.{list_method_named, te
 
 use crate::language_names::rows::named;
 
-/// A method of a boolean.
+/// Names a method of a boolean.
 #[derive(Clone, Copy)]
 pub enum BooleanMethod {
     ToInt,
@@ -25,7 +25,7 @@ impl BooleanMethod {
     }
 }
 
-/// A method of an integer.
+/// Names a method of an integer.
 #[derive(Clone, Copy)]
 pub enum IntegerMethod {
     IsEven,
@@ -47,7 +47,7 @@ impl IntegerMethod {
     }
 }
 
-/// A method of a text.
+/// Names a method of a text.
 #[derive(Clone, Copy)]
 pub enum TextMethod {
     Contains,
@@ -95,7 +95,7 @@ impl TextMethod {
     }
 }
 
-/// A method of a list.
+/// Names a method of a list.
 #[derive(Clone, Copy)]
 pub enum ListMethod {
     Contains,
@@ -117,7 +117,7 @@ impl ListMethod {
     }
 }
 
-/// A method of a dictionary.
+/// Names a method of a dictionary.
 #[derive(Clone, Copy)]
 pub enum DictionaryMethod {
     Get,

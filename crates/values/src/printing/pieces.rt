@@ -2,7 +2,7 @@
 
 ghost use Rattle.std.specs.Prelude.{◌≡◌, ◌++◌, ◌∷◌, [], codes, OnOk, IfOk, MatchOption};
 ghost use Rattle.values.specs.Prelude.{data_of, entries_of, items_of};
-ghost use Rattle.values.specs.printing.Printed.{shown};
+ghost use Rattle.values.specs.printing.Printed.{text_of_value};
 ghost use Rattle.values.specs.printing.Pieces.{pieces, inside_pieces, item_pieces, entry_pieces, whole};
 ghost use Rattle.values.specs.printing.Parts.{part_pieces, piece_bytes};
 
@@ -10,7 +10,7 @@ use crate::{Text, Value};
 use std::alloc::{AllocError, Global};
 use std::marker::Model;
 
-/// A piece of a printed value.
+/// Holds a piece of a printed value.
 #[derive(Clone, Copy)]
 pub enum Piece<'v> {
     /// A text, which may be empty.
@@ -19,7 +19,7 @@ pub enum Piece<'v> {
     Integer(i128),
 }
 
-/// The parts of a value that are still to be printed.
+/// Holds the parts of a value that are still to be printed.
 ///
 /// The pieces, one after another, are the text that [`crate::printing::print`] describes. That text may be longer than any value can be,
 /// and is never in memory as a whole. The work is linear in the size of the value.
@@ -50,18 +50,18 @@ enum Part<'v> {
 
 impl<'v> Model for Printer<'v> {
     ghost use Rattle.std.specs.Prelude.{List, ℕ};
-    ghost use Rattle.values.specs.printing.Parts.{left};
+    ghost use Rattle.values.specs.printing.Parts.{remaining_pieces};
 
     ghost Value = { List (List ℕ) };
 
-    ghost view = { λ p. left p.parts.items };
+    ghost view = { λ p. remaining_pieces p.parts.items };
 }
 
 impl<'v> Printer<'v> {
     /// Returns a printer of a value.
     pub fn new(alloc: Global, value: &'v Value) -> Result<Printer<'v>, AllocError>
         ensures pieces { IfOk result (λ p. p ≡ pieces (data_of value.entry.now)) }
-        ensures whole { IfOk result (λ p. whole p ≡ shown (data_of value.entry.now)) }
+        ensures whole { IfOk result (λ p. whole p ≡ text_of_value (data_of value.entry.now)) }
     {
         let mut printer = Printer {
             parts: Vec::new(alloc),

@@ -2,13 +2,13 @@
 
 ghost use Rattle.std.specs.Prelude.{◌≡◌, true, false, IfOk, MatchOption, Ok};
 ghost use Rattle.values.specs.Prelude.{Appends, data_of};
-ghost use Rattle.values.specs.printing.Printed.{is_plain, printed, shown};
+ghost use Rattle.values.specs.printing.Printed.{is_plain, printed_value, text_of_value};
 ghost use Rattle.values.specs.printing.Pieces.{whole};
 ghost use Rattle.values.specs.printing.Parts.{piece_bytes};
 
 use crate::printing::pieces::{Piece, Printer};
 use crate::printing::printable::is_printable;
-use crate::{Refusal, Text, Value};
+use crate::{OperationRefusal, Text, Value};
 use itoa::Buffer;
 use std::alloc::{AllocError, Global};
 
@@ -17,13 +17,13 @@ use std::alloc::{AllocError, Global};
 /// A text is printed as it is, a boolean as `true` or `false`, an integer in decimal. A list is `[a, b]` and a dictionary `{'k' : v}`;
 /// inside these a text is in single quotes, and nothing in it is escaped.
 ///
-/// Returns `Refusal::Arguments` if the value is an object or contains one, and otherwise `Refusal::Limit` if the text is longer than
-/// 16,777,216 bytes. No longer text is ever made.
-pub fn print(alloc: Global, value: &Value) -> Result<Result<Text, Refusal>, AllocError>
-    ensures { IfOk result (λ r. r ≡ printed (data_of value.now)) }
+/// Returns `OperationRefusal::Arguments` if the value is an object or contains one, and otherwise `OperationRefusal::Limit` if the text is
+/// longer than 16,777,216 bytes. No longer text is ever made.
+pub fn print(alloc: Global, value: &Value) -> Result<Result<Text, OperationRefusal>, AllocError>
+    ensures { IfOk result (λ r. r ≡ printed_value (data_of value.now)) }
 {
     if !is_printable(value) {
-        return Ok(Err(Refusal::Arguments));
+        return Ok(Err(OperationRefusal::Arguments));
     }
     let mut text = Text::empty();
     match write(alloc, &mut text, value)? {
@@ -35,8 +35,8 @@ pub fn print(alloc: Global, value: &Value) -> Result<Result<Text, Refusal>, Allo
 /// Returns the text of a boolean, an integer or a text, and `None` for any other value. The digits of an integer are written to the buffer.
 pub fn plain_text<'v>(value: &'v Value, digits: &'v mut Buffer) -> Option<&'v str>
     ensures { MatchOption result (is_plain (data_of value.entry.now) ≡ false)
-        (λ t. (is_plain (data_of value.entry.now) ≡ true) × (printed (data_of value.entry.now) ≡ Ok t.now)
-        × (shown (data_of value.entry.now) ≡ t.now)) }
+        (λ t. (is_plain (data_of value.entry.now) ≡ true) × (printed_value (data_of value.entry.now) ≡ Ok t.now)
+        × (text_of_value (data_of value.entry.now) ≡ t.now)) }
 {
     match value {
         Value::Boolean(true) => Some("true"),
@@ -47,15 +47,15 @@ pub fn plain_text<'v>(value: &'v Value, digits: &'v mut Buffer) -> Option<&'v st
     }
 }
 
-/// Appends the printed value to a text, or returns `Refusal::Limit` if the text would be longer than 16,777,216 bytes.
+/// Appends the printed value to a text, or returns `OperationRefusal::Limit` if the text would be longer than 16,777,216 bytes.
 ///
 /// An object prints as nothing.
 pub fn write(
     alloc: Global,
     text: &mut Text,
     value: &Value,
-) -> Result<Result<(), Refusal>, AllocError>
-    ensures { IfOk result (λ r. Appends text.old (shown (data_of value.now)) text.new r) }
+) -> Result<Result<(), OperationRefusal>, AllocError>
+    ensures { IfOk result (λ r. Appends text.old (text_of_value (data_of value.now)) text.new r) }
 {
     match plain_text(value, &mut Buffer::new()) {
         Some(piece) => text.push(alloc, piece),
@@ -68,8 +68,8 @@ fn write_pieces(
     alloc: Global,
     text: &mut Text,
     value: &Value,
-) -> Result<Result<(), Refusal>, AllocError>
-    ensures { IfOk result (λ r. Appends text.old (shown (data_of value.now)) text.new r) }
+) -> Result<Result<(), OperationRefusal>, AllocError>
+    ensures { IfOk result (λ r. Appends text.old (text_of_value (data_of value.now)) text.new r) }
 {
     let mut printer = Printer::new(alloc, value)?;
     write_left(alloc, text, &mut printer)
@@ -80,7 +80,7 @@ fn write_left(
     alloc: Global,
     text: &mut Text,
     printer: &mut Printer<'_>,
-) -> Result<Result<(), Refusal>, AllocError>
+) -> Result<Result<(), OperationRefusal>, AllocError>
     ensures { IfOk result (λ r. Appends text.old (whole printer.old) text.new r) }
 {
     let _within = text.as_str();
@@ -96,7 +96,7 @@ fn push_piece(
     alloc: Global,
     text: &mut Text,
     piece: Piece<'_>,
-) -> Result<Result<(), Refusal>, AllocError>
+) -> Result<Result<(), OperationRefusal>, AllocError>
     ensures { IfOk result (λ r. Appends text.old (piece_bytes piece.entry) text.new r) }
 {
     match piece {

@@ -3,7 +3,7 @@
 ghost use Rattle.std.specs.Prelude.{◌≡◌, IfOk, nat_eq};
 ghost use Rattle.std.specs.HashSet.{IsFromIterResult};
 ghost use Rattle.std.specs.Str.{chars};
-ghost use Rattle.values.specs.texts.Strip.{is_blank, is_among, is_in, stripped, without_first, without_last};
+ghost use Rattle.values.specs.texts.Strip.{is_blank, is_among, is_in, stripped_text, without_first, without_last};
 
 use std::alloc::{AllocError, Global};
 use std::collections::HashSet;
@@ -28,14 +28,14 @@ impl Set {
 
 /// Returns the text without the ASCII white space at its ends: spaces, tabs, newlines, vertical tabs, form feeds and carriage returns.
 pub fn strip(text: &str) -> &str
-    ensures { result.now ≡ stripped is_blank text.now }
+    ensures { result.now ≡ stripped_text is_blank text.now }
 {
     without_both(text, &Set::Blanks)
 }
 
 /// Returns the text without the characters of `set` at its ends.
 pub fn strip_of<'a>(alloc: Global, text: &'a str, set: &str) -> Result<&'a str, AllocError>
-    ensures { IfOk result (λ s. s.now ≡ stripped (is_among set.now) text.now) }
+    ensures { IfOk result (λ s. s.now ≡ stripped_text (is_among set.now) text.now) }
 {
     let given = set_of(alloc, set)?;
     Ok(without_both(text, &Set::Given(given)))
@@ -48,7 +48,7 @@ fn set_of(alloc: Global, text: &str) -> Result<HashSet<char>, AllocError>
 }
 
 fn without_both<'a>(text: &'a str, set: &Set) -> &'a str
-    ensures { result.now ≡ stripped (is_in set.now) text.now }
+    ensures { result.now ≡ stripped_text (is_in set.now) text.now }
 {
     without_last(without_first(text, set), set)
 }

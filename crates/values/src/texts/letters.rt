@@ -2,7 +2,7 @@
 
 ghost use Rattle.std.specs.Prelude.{◌≡◌, IfOk, map, string_bytes};
 ghost use Rattle.std.specs.Char.{to_ascii_lowercase, to_ascii_uppercase};
-ghost use Rattle.values.specs.texts.Letters.{underscored, underscorified};
+ghost use Rattle.values.specs.texts.Letters.{underscored_character, underscorified_text};
 
 use std::alloc::{AllocError, Global};
 
@@ -22,13 +22,13 @@ pub fn to_upper(alloc: Global, text: &str) -> Result<String, AllocError>
 
 /// Returns the text with one `_` in place of each character that is neither an ASCII letter nor an ASCII digit.
 pub fn underscorify(alloc: Global, text: &str) -> Result<String, AllocError>
-    ensures { IfOk result (λ s. string_bytes s ≡ underscorified text.now) }
+    ensures { IfOk result (λ s. string_bytes s ≡ underscorified_text text.now) }
 {
     text.chars().map(underscore).collect(alloc)
 }
 
 fn underscore(c: char) -> char
-    ensures { result ≡ underscored c }
+    ensures { result ≡ underscored_character c }
 {
     if c.is_ascii_alphanumeric() { c } else { '_' }
 }

@@ -6,20 +6,21 @@ ghost use Rattle.std.specs.List.{list_all};
 ghost use Rattle.std.specs.Str.Parse.{without_leading_sign};
 ghost use Rattle.values.specs.texts.Number.{integer_of, is_numeral};
 
-use crate::Refusal;
+use crate::OperationRefusal;
 
 /// Returns the integer that `text` spells: decimal digits after at most one sign.
 ///
-/// Returns `Refusal::Arguments` for any other text, and `Refusal::Range` if the integer is not in the range from -2^127 to 2^127-1.
-pub fn to_int(text: &str) -> Result<i128, Refusal>
+/// Returns `OperationRefusal::Arguments` for any other text, and `OperationRefusal::Range` if the integer is not in the range from -2^127
+/// to 2^127-1.
+pub fn to_int(text: &str) -> Result<i128, OperationRefusal>
     ensures { result ≡ integer_of text.now }
 {
     if !is_numeral(text.as_bytes()) {
-        return Err(Refusal::Arguments);
+        return Err(OperationRefusal::Arguments);
     }
     match text.parse::<i128>() {
         Ok(integer) => Ok(integer),
-        Err(_) => Err(Refusal::Range),
+        Err(_) => Err(OperationRefusal::Range),
     }
 }
 

@@ -4,39 +4,42 @@ ghost use Rattle.std.specs.Prelude.{◌≡◌, [], map, false, All, IfOk, MatchR
 ghost use Rattle.values.specs.texts.Pieces.{words, lines, split_at, within_items};
 ghost use Rattle.values.specs.texts.Cut.{pieces, CanCut};
 ghost use Rattle.values.specs.texts.Search.{contains};
-ghost use Rattle.values.specs.texts.Joined.{joined};
+ghost use Rattle.values.specs.texts.Joined.{joined_texts};
 ghost use Rattle.values.specs.texts.Answers.{pieces_in};
 
-use crate::Refusal;
-use crate::texts::cut::Cut;
+use crate::OperationRefusal;
+use crate::texts::first_piece::Cut;
 use std::alloc::{AllocError, Global};
 use support::limits::ITEMS;
 
 /// Returns the parts of `text` between separators, as the method `split` with an argument does.
 ///
-/// Separators are found from the left and never overlap. Empty parts are kept. Returns `Refusal::Arguments` if the separator is empty, and
-/// `Refusal::Limit` if there are more than 65,536 parts.
+/// Separators are found from the left and never overlap. Empty parts are kept. Returns `OperationRefusal::Arguments` if the separator is
+/// empty, and `OperationRefusal::Limit` if there are more than 65,536 parts.
 pub fn split_at<'a>(
     alloc: Global,
     text: &'a str,
     separator: &str,
-) -> Result<Result<Vec<&'a str>, Refusal>, AllocError>
+) -> Result<Result<Vec<&'a str>, OperationRefusal>, AllocError>
     ensures parts { IfOk result (λ r. pieces_in r ≡ split_at text.now separator.now) }
 
     // Laws of the definition: the joined parts are the text, and no part contains the separator.
-    ensures whole { IfOk result (λ r. IfOk (pieces_in r) (λ found. joined separator.now found ≡ text.now)) }
+    ensures whole { IfOk result (λ r. IfOk (pieces_in r) (λ found. joined_texts separator.now found ≡ text.now)) }
     ensures apart { IfOk result (λ r. IfOk (pieces_in r) (All (λ part. contains part separator.now ≡ false))) }
 {
     if separator.is_empty() {
-        return Ok(Err(Refusal::Arguments));
+        return Ok(Err(OperationRefusal::Arguments));
     }
     cut_up(alloc, text, Cut::At(separator))
 }
 
 /// Returns the words of `text` between its ASCII white space, as the method `split` without an argument does.
 ///
-/// Returns `Refusal::Limit` if there are more than 65,536 words.
-pub fn split_blank(alloc: Global, text: &str) -> Result<Result<Vec<&str>, Refusal>, AllocError>
+/// Returns `OperationRefusal::Limit` if there are more than 65,536 words.
+pub fn split_blank(
+    alloc: Global,
+    text: &str,
+) -> Result<Result<Vec<&str>, OperationRefusal>, AllocError>
     ensures { IfOk result (λ r. pieces_in r ≡ within_items (words text.now)) }
 {
     cut_up(alloc, text, Cut::Blanks)
@@ -45,8 +48,11 @@ pub fn split_blank(alloc: Global, text: &str) -> Result<Result<Vec<&str>, Refusa
 /// Returns the lines of `text`, as the method `splitlines` does.
 ///
 /// A line ends at a newline, a carriage return, or both in this order. There is no line after the last line ending. Returns
-/// `Refusal::Limit` if there are more than 65,536 lines.
-pub fn split_lines(alloc: Global, text: &str) -> Result<Result<Vec<&str>, Refusal>, AllocError>
+/// `OperationRefusal::Limit` if there are more than 65,536 lines.
+pub fn split_lines(
+    alloc: Global,
+    text: &str,
+) -> Result<Result<Vec<&str>, OperationRefusal>, AllocError>
     ensures { IfOk result (λ r. pieces_in r ≡ within_items (lines text.now)) }
 {
     cut_up(alloc, text, Cut::Lines)
@@ -56,7 +62,7 @@ fn cut_up<'a>(
     alloc: Global,
     text: &'a str,
     cut: Cut<'_>,
-) -> Result<Result<Vec<&'a str>, Refusal>, AllocError>
+) -> Result<Result<Vec<&'a str>, OperationRefusal>, AllocError>
     requires { CanCut cut }
     ensures { IfOk result (λ r. pieces_in r ≡ within_items (pieces cut.entry text.now)) }
 {
@@ -72,7 +78,7 @@ fn push_pieces<'a>(
     found: &mut Vec<&'a str>,
     text: &'a str,
     cut: Cut<'_>,
-) -> Result<Result<(), Refusal>, AllocError>
+) -> Result<Result<(), OperationRefusal>, AllocError>
     requires cut { CanCut cut }
     requires none { found.old.items ≡ [] }
     ensures { IfOk result (λ r. MatchResult r
@@ -82,7 +88,7 @@ fn push_pieces<'a>(
     let mut rest = text;
     while let Some((piece, after)) = cut.first(rest) {
         if found.len() == ITEMS {
-            return Ok(Err(Refusal::Limit));
+            return Ok(Err(OperationRefusal::Limit));
         }
         found.push(piece)?;
         let Some(after) = after else {

@@ -4,7 +4,7 @@ ghost use Rattle.std.specs.Prelude.{◌≡◌, ◌≢◌, Some, slice_get, ◌<�
 ghost use Rattle.std.specs.Ordering.{nat_cmp};
 ghost use Rattle.std.specs.List.{prefix_len, AllPass};
 ghost use Rattle.std.specs.Char.{is_ascii_digit, is_ascii_alphabetic};
-ghost use Rattle.values.specs.texts.Version.{runs, spelled, run_order, version_order};
+ghost use Rattle.values.specs.texts.Version.{runs, integer_of_digits, run_order, version_order};
 ghost use Rattle.values.specs.texts.Condition.{relation_of, sign_length, allows, meets};
 ghost use Rattle.values.specs.texts.Code.{run_in, IsWellFormed};
 
@@ -161,7 +161,7 @@ fn compare_runs(run: Run<'_>, other: Run<'_>) -> Ordering
 fn compare_numbers(digits: &[u8], other: &[u8]) -> Ordering
     requires digits { AllPass is_ascii_digit digits.now }
     requires other_digits { AllPass is_ascii_digit other.now }
-    ensures { result ≡ nat_cmp (spelled digits.now) (spelled other.now) }
+    ensures { result ≡ nat_cmp (integer_of_digits digits.now) (integer_of_digits other.now) }
 {
     let digits = without_zeros(digits);
     let other = without_zeros(other);
@@ -173,7 +173,7 @@ fn compare_numbers(digits: &[u8], other: &[u8]) -> Ordering
 
 fn without_zeros(digits: &[u8]) -> &[u8]
     requires { AllPass is_ascii_digit digits.now }
-    ensures same { spelled result.now ≡ spelled digits.now }
+    ensures same { integer_of_digits result.now ≡ integer_of_digits digits.now }
     ensures digits { AllPass is_ascii_digit result.now }
     ensures no_zero { slice_get result.now 0 ≢ Some 48 }
 {

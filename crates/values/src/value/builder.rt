@@ -3,20 +3,20 @@
 ghost use Rattle.std.specs.Prelude.{◌≡◌, IfSome, option_map, max, ◌<◌, ◌≤◌, ◌+◌, ◌^◌, length, OnOk, IfOk, is_some, Ok, Err};
 ghost use Rattle.std.specs.Prelude.{option_and_then, if◌then◌else◌};
 ghost use Rattle.values.specs.Builder.{replaced_depth};
-ghost use Rattle.values.specs.Data.{no_entries, find, put, merged};
+ghost use Rattle.values.specs.Data.{no_entries, find, entries_with, merged_entries};
 ghost use Rattle.values.specs.Weight.{weight, depth, items_depth, entries_weight};
 ghost use Rattle.values.specs.Limits.{entries_fit};
 ghost use Rattle.values.specs.View.{data_of, items_of};
-ghost use Rattle.values.specs.declared.refusal.Refusal.TheVariants as refusal;
+ghost use Rattle.values.specs.declared.refusal.OperationRefusal.TheVariants as refusal;
 
 use super::{Dictionary, Value, deepest, is_within};
-use crate::keys::Keys;
-use crate::refusal::Refusal;
+use crate::dictionary_keys::Keys;
+use crate::refusal::OperationRefusal;
 use crate::text::Text;
 use std::alloc::{AllocError, Global};
 use std::marker::Model;
 
-/// A dictionary that may pass the limits while it is built. `finish` checks them once.
+/// Holds a dictionary that may pass the limits while it is built. `finish` checks them once.
 #[derive(Drop)]
 pub struct DictionaryBuilder {
     keys: Keys,
@@ -104,7 +104,7 @@ impl DictionaryBuilder {
     /// Sets a key to a value. A key that is present keeps its place; a new key goes last.
     pub fn put(&mut self, key: Text, value: Value) -> Result<(), AllocError>
         requires { entries_weight self.old + (length key + 1) + weight (data_of value) < 2 ^ 126 }
-        ensures { OnOk result (self.new ≡ put key (data_of value) self.old) }
+        ensures { OnOk result (self.new ≡ entries_with key (data_of value) self.old) }
     {
         let key_weight = key.as_str().len() as u128 + 1;
         let weight = value.weight() as u128;
@@ -130,7 +130,7 @@ impl DictionaryBuilder {
     #[inline(always)]
     pub fn put_all(&mut self, dictionary: &Dictionary) -> Result<(), AllocError>
         requires { entries_weight self.old < 2 ^ 125 }
-        ensures merged { OnOk result (self.new ≡ merged self.old dictionary.now) }
+        ensures merged { OnOk result (self.new ≡ merged_entries self.old dictionary.now) }
         ensures within { OnOk result (entries_weight dictionary.now + 1 ≤ 33554432) }
         ensures copied { OnOk result (self.old ≡ no_entries → self.new ≡ dictionary.now) }
     {
@@ -142,9 +142,9 @@ impl DictionaryBuilder {
         Ok(())
     }
 
-    /// Returns the dictionary, or `Refusal::Limit` if it is too large.
+    /// Returns the dictionary, or `OperationRefusal::Limit` if it is too large.
     #[inline(always)]
-    pub fn finish(self) -> Result<Dictionary, Refusal>
+    pub fn finish(self) -> Result<Dictionary, OperationRefusal>
         ensures { result ≡ (if entries_fit self then Ok self else Err refusal.Limit) }
     {
         let DictionaryBuilder {
@@ -155,7 +155,7 @@ impl DictionaryBuilder {
         } = self;
         let depth = counted_depth(depth, &values);
         if !is_within(values.len(), weight + 1, depth + 1) {
-            return Err(Refusal::Limit);
+            return Err(OperationRefusal::Limit);
         }
         Ok(Dictionary {
             keys,

@@ -6,7 +6,7 @@ use crate::text::Text;
 use crate::value::{Dictionary, List, Value};
 use std::rc::Rc;
 
-/// What is taken out of a value: its text, its list or its dictionary.
+/// Holds what is moved out of a value: its text, its list or its dictionary.
 #[derive(Drop)]
 pub enum Content {
     Text(Text),

@@ -1,9 +1,9 @@
 use Rattle.std.proofs.Common.{arith, Bool, ◌≡◌, ◌<◌, List, ◌∷◌, [], ◌++◌, map, sym, ap, ◌∙◌, subst}
 use Rattle.std.specs.Prelude.{flat_map}
 use Rattle.build.specs.Libraries.{with_its_own}
-use Rattle.build.specs.LinkedViews.{linked_views}
+use Rattle.build.specs.DeclaredTargetViews.{declared_target_views}
 use Rattle.build.specs.Marks.{AreMarks}
-use Rattle.build.specs.Sources.{listed}
+use Rattle.build.specs.Sources.{list_with_dependencies}
 use Rattle.build.specs.View.{target_view, build_view}
 use Rattle.build.specs.Walk.{steps_for}
 use Rattle.build.specs.declared.walk.Step.{Step}
@@ -13,8 +13,8 @@ use Rattle.build.proofs.walk.libraries_of.Goals as goal
 
 pub loop-step-init : goal.loop-step-init
 loop-step-init c =
-    let ls = linked_views c.args.earlier.now in
-    let ns = listed (λ k. k.link_with) (build_view c.args.target.now) in
+    let ls = declared_target_views c.args.earlier.now in
+    let ns = list_with_dependencies (λ k. k.link_with) (build_view c.args.target.now) in
     let all = flat_map (with_its_own ls) ns in
     let steps : c.push_all.new.steps.items ≡ map Enter ns = c.in_ok-push_all.ensures ∙ ap (λ l. l ++ map Enter ns) c.new-steps.ensures.items in
     record {
@@ -26,7 +26,7 @@ loop-step-init c =
 pub loop-step-smaller : goal.loop-step-smaller
 loop-step-smaller c =
     let ts = map (λ l. target_view l.target) c.args.earlier.now in
-    let ls = linked_views c.args.earlier.now in
+    let ls = declared_target_views c.args.earlier.now in
     let rest = c.pop.new.self.items in
     let step = c.in-Some.step in
     subst (λ (x : List Step). weights ls c.take_step.new.steps.items < weights ls x) (sym c.in-Some.ensures.items)
@@ -35,8 +35,8 @@ loop-step-smaller c =
 pub loop-step-preserved : goal.loop-step-preserved
 loop-step-preserved c =
     let ts = map (λ l. target_view l.target) c.args.earlier.now in
-    let ls = linked_views c.args.earlier.now in
-    let all = flat_map (with_its_own ls) (listed (λ k. k.link_with) (build_view c.args.target.now)) in
+    let ls = declared_target_views c.args.earlier.now in
+    let all = flat_map (with_its_own ls) (list_with_dependencies (λ k. k.link_with) (build_view c.args.target.now)) in
     let rest = c.pop.new.self.items in
     let step = c.in-Some.step in
     let kept = c.loop-step.kept.items in

@@ -1,7 +1,7 @@
 use Rattle.std.proofs.Common.{◌∙◌, ap, map, string_bytes, subst}
 use Rattle.std.proofs.lemmas.Bool.{false≢true}
 use Rattle.ports.proofs.Sending.{sends_none}
-use Rattle.outputs.specs.build_file.Concluding.{Agrees}
+use Rattle.backend.specs.Concluding.{Agrees}
 use Rattle.meson.specs.Tasks.{run_by}
 use Rattle.world.specs.MakingSettings.{settings_of}
 use Rattle.world.specs.Settings.{SettingsData}

@@ -1,7 +1,7 @@
 use Rattle.std.proofs.Common.{Ok, Err, subst, sym, ap, ◌∙◌}
 use Rattle.std.specs.Global.{Global}
 use Rattle.std.specs.Rc.{rc_value}
-use Rattle.machine.specs.machine_file.View.{machine_in, read_in}
+use Rattle.machine_file.specs.View.{machine_in, read_in}
 use Rattle.world.specs.declared.stop.Stop.TheVariants as stops
 use Rattle.interp.specs.FirstStatement.{Reads}
 use Rattle.interp.proofs.evaluation.read_machine.Goals as goal

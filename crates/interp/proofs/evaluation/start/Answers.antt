@@ -1,7 +1,7 @@
 use Rattle.std.proofs.Common.{ap, ◌∙◌}
 use Rattle.std.specs.Global.{Global}
 use Rattle.std.specs.Rc.{rc_value}
-use Rattle.machine.specs.machine_file.View.{machine_in}
+use Rattle.machine_file.specs.View.{machine_in}
 use Rattle.world.specs.SettingsView.{settings_view}
 use Rattle.world.specs.Start.{first_world}
 use Rattle.interp.proofs.Starting.{not_read, was_read}

@@ -1,6 +1,6 @@
 use Rattle.std.proofs.Common.{◌≡◌, ◌++◌, map, take}
-use Rattle.machine.specs.machine_file.QuestionsView.{asides_in}
-use Rattle.machine.specs.machine_file.View.{machine_in, strings_in}
+use Rattle.machine_file.specs.QuestionsView.{asides_in}
+use Rattle.machine_file.specs.View.{machine_in, strings_in}
 use Rattle.introspection.specs.Questions.{option_line}
 use Rattle.introspection.specs.QuestionsView.{line_in}
 use Rattle.introspection.proofs.questions.add_options.Given as goal

@@ -1,8 +1,8 @@
 use Rattle.std.proofs.Common.{◌∙◌, ◌++◌, ap, ap₂, codes, map, refl, sym}
 use Rattle.std.proofs.lemmas.Result.{IfOk-weaker}
-use Rattle.machine.specs.machine_file.Questions.{answer_to}
-use Rattle.machine.specs.machine_file.QuestionsView.{asides_in, topic_in}
-use Rattle.machine.specs.machine_file.View.{machine_in, strings_in}
+use Rattle.machine_file.specs.Questions.{answer_to}
+use Rattle.machine_file.specs.QuestionsView.{asides_in, topic_in}
+use Rattle.machine_file.specs.View.{machine_in, strings_in}
 use Rattle.introspection.specs.Questions.{option_line, topic_lines}
 use Rattle.introspection.proofs.Asking.{options_said}
 use Rattle.introspection.proofs.questions.question_lines.Goals as goal

@@ -6,8 +6,8 @@ use Rattle.serde.specs.Event.{Logs, WritesEach, field_key}
 use Rattle.serde.specs.declared.name.Case.TheVariants.{AsIs}
 use Rattle.serde.proofs.Events.{WritesEach-more}
 use Rattle.serde_json.specs.Events.{SendsValue}
-use Rattle.machine.specs.machine_file.QuestionsView.{aside_in}
-use Rattle.introspection.specs.Questions.{aside_member, ordered}
+use Rattle.machine_file.specs.QuestionsView.{aside_in}
+use Rattle.introspection.specs.Questions.{aside_member, ordered_object}
 use Rattle.introspection.proofs.Sent.{SendsMember, ordered_sent, texts_sent}
 use Rattle.introspection.proofs.questions.send_beside.Goals as goal
 
@@ -30,7 +30,7 @@ returns g c =
     let asides = c.args.asides.now in
     let all : length asides ≤ c.loop-aside.aside-index = search rules in
     on_ok_weaker c.end_map.result (λ ended.
-    subst (λ ms. SendsValue (ordered ms) (log c.args.out.now) (log c.end_map.new.self)) (sym (map-map aside_member aside_in asides))
+    subst (λ ms. SendsValue (ordered_object ms) (log c.args.out.now) (log c.end_map.new.self)) (sym (map-map aside_member aside_in asides))
     (ordered_sent (λ a. aside_member (aside_in a)) asides (length asides) (log c.args.out.now) (log c.begin_map.new.self) (log c.loop-aside.out)
     (log c.end_map.new.self) refl c.in_ok-begin_map.ensures
     (subst (λ xs. WritesEach (λ a. SendsMember (aside_member (aside_in a))) xs (log c.begin_map.new.self) (log c.loop-aside.out))

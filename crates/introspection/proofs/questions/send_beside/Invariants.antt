@@ -1,6 +1,6 @@
 use Rattle.std.proofs.Common.{take}
 use Rattle.serde.specs.Event.{WritesEach}
-use Rattle.machine.specs.machine_file.QuestionsView.{aside_in}
+use Rattle.machine_file.specs.QuestionsView.{aside_in}
 use Rattle.introspection.specs.Questions.{aside_member}
 use Rattle.introspection.proofs.Sent.{SendsMember}
 use Rattle.introspection.proofs.questions.send_beside.Given as goal

@@ -5,7 +5,7 @@ use Rattle.std.proofs.lemmas.Option.{get_or_from_slice_get, slice_get_within}
 use Rattle.std.proofs.lemmas.Result.{on_ok_weaker}
 use Rattle.serde.specs.Event.{WritesEach}
 use Rattle.serde.proofs.Events.{WritesEach-more}
-use Rattle.machine.specs.machine_file.View.{entries_of, shown_in}
+use Rattle.machine_file.specs.View.{entries_of, shown_in}
 use Rattle.introspection.specs.Questions.{entry_member}
 use Rattle.introspection.proofs.Sent.{SendsMember, ordered_sent}
 use Rattle.introspection.proofs.questions.send_section.Goals as goal

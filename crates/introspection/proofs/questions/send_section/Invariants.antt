@@ -1,6 +1,6 @@
 use Rattle.std.proofs.Common.{take}
 use Rattle.serde.specs.Event.{WritesEach}
-use Rattle.machine.specs.machine_file.View.{entries_of}
+use Rattle.machine_file.specs.View.{entries_of}
 use Rattle.introspection.specs.Questions.{entry_member}
 use Rattle.introspection.proofs.Sent.{SendsMember}
 use Rattle.introspection.proofs.questions.send_section.Given as goal

@@ -6,8 +6,8 @@ use Rattle.serde_json.specs.Data.{Data, number}
 use Rattle.serde_json.specs.Find.{of_integer}
 use Rattle.serde_json.specs.View.{view}
 use Rattle.serde_json.specs.Events.{SendsValue}
-use Rattle.machine.specs.declared.machine_file.value.MachineValue.{MachineValue}
-use Rattle.machine.specs.machine_file.View.{value_in}
+use Rattle.machine_file.specs.declared.value.MachineValue.{MachineValue}
+use Rattle.machine_file.specs.View.{value_in}
 use Rattle.introspection.specs.Questions.{shown_value}
 use Rattle.introspection.proofs.Sent.{texts_sent}
 use Rattle.introspection.proofs.questions.send_value.Goals as goal

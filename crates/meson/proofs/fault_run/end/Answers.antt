@@ -1,7 +1,7 @@
 use Rattle.std.proofs.Common.{subst, sym}
 use Rattle.std.specs.Prelude.{option_map}
 use Rattle.support.specs.View.{fault_view}
-use Rattle.outputs.specs.declared.build_file.concluding.Status.TheVariants as statuses
+use Rattle.backend.specs.declared.run_end.Status.TheVariants as statuses
 use Rattle.meson.specs.FaultRun.{ending_told}
 use Rattle.meson.specs.Setup.{Concludes}
 use Rattle.meson.proofs.Endings.{nothing_told}

@@ -1,7 +1,7 @@
 use Rattle.std.proofs.Common.{map, take, ap, ◌∙◌}
 use Rattle.std.proofs.lemmas.List.{take_all}
 use Rattle.std.specs.List.{flat_map}
-use Rattle.machine.specs.machine_file.View.{machine_in}
+use Rattle.machine_file.specs.View.{machine_in}
 use Rattle.world.specs.AskedView.{asked_in}
 use Rattle.meson.specs.Questions.{lines_asked, questions_text}
 use Rattle.meson.proofs.Lines.{began_all, began_more}

@@ -1,6 +1,6 @@
 use Rattle.std.proofs.Common.{map, take}
 use Rattle.std.specs.List.{flat_map}
-use Rattle.machine.specs.machine_file.View.{machine_in}
+use Rattle.machine_file.specs.View.{machine_in}
 use Rattle.world.specs.AskedView.{asked_in}
 use Rattle.meson.specs.Questions.{lines_asked}
 use Rattle.meson.proofs.Lines.{Began}

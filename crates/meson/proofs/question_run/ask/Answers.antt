@@ -1,6 +1,6 @@
 use Rattle.std.specs.Global.{Global}
 use Rattle.std.specs.Rc.{rc_value}
-use Rattle.machine.specs.machine_file.View.{machine_in}
+use Rattle.machine_file.specs.View.{machine_in}
 use Rattle.world.specs.SettingsView.{settings_view}
 use Rattle.meson.proofs.Asked.{asks_read, asks_unread, fails_unread}
 use Rattle.meson.proofs.question_run.ask.Goals as goal

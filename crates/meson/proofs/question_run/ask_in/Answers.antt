@@ -1,6 +1,6 @@
 use Rattle.std.proofs.Common.{ap, subst, ◌∙◌, ◌+◌}
 use Rattle.ports.specs.Outputs.{OutputState}
-use Rattle.machine.specs.machine_file.View.{machine_in}
+use Rattle.machine_file.specs.View.{machine_in}
 use Rattle.world.specs.Gives.{failures_after}
 use Rattle.world.specs.Plan.{carry}
 use Rattle.world.specs.Store.{world_of}

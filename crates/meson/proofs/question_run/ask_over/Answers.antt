@@ -1,5 +1,5 @@
 use Rattle.std.proofs.Common.{ap, ◌∙◌}
-use Rattle.machine.specs.machine_file.View.{machine_in}
+use Rattle.machine_file.specs.View.{machine_in}
 use Rattle.world.specs.SettingsView.{settings_view}
 use Rattle.world.specs.Start.{first_world}
 use Rattle.world.specs.Store.{world_of}

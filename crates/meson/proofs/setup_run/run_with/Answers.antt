@@ -1,7 +1,7 @@
 use Rattle.std.proofs.Common.{[]}
 use Rattle.world.specs.SettingsView.{settings_view}
-use Rattle.world.specs.Trace.{seen}
-use Rattle.interp.specs.Evaluation.{evaluated}
+use Rattle.world.specs.Trace.{seen_from_parts}
+use Rattle.interp.specs.Evaluation.{evaluated_files}
 use Rattle.meson.proofs.Runs.{agrees, failures_settled, means, rises, rises_then, room_after}
 use Rattle.meson.proofs.setup_run.run_with.Goals as goal
 
@@ -13,20 +13,20 @@ settle-requires g c =
 
 pub returns-clause-run : goal.returns-clause-run
 returns-clause-run g c = λ files said holds is.
-    agrees (evaluated files (settings_view c.args.inputs.now.settings.now) said) c.evaluate-answer.result c.settle.result
-    (seen (g.O.Outputs.seen c.args.out.now) c.new_steps-steps.result []) (seen (g.O.Outputs.seen c.evaluate-answer.new.out) c.evaluate-answer.new.steps []) (g.O.Outputs.seen c.settle.new.out)
+    agrees (evaluated_files files (settings_view c.args.inputs.now.settings.now) said) c.evaluate-answer.result c.settle.result
+    (seen_from_parts (g.O.Outputs.seen c.args.out.now) c.new_steps-steps.result []) (seen_from_parts (g.O.Outputs.seen c.evaluate-answer.new.out) c.evaluate-answer.new.steps []) (g.O.Outputs.seen c.settle.new.out)
     (c.evaluate-answer.ensures.gives files said holds is) c.settle.ensures.settles
 
 pub returns-clause-meaning : goal.returns-clause-meaning
 returns-clause-meaning g c = λ files said holds is.
-    means (evaluated files (settings_view c.args.inputs.now.settings.now) said) c.evaluate-answer.result c.settle.result
-    (seen (g.O.Outputs.seen c.args.out.now) c.new_steps-steps.result []) (seen (g.O.Outputs.seen c.evaluate-answer.new.out) c.evaluate-answer.new.steps []) (g.O.Outputs.seen c.settle.new.out)
+    means (evaluated_files files (settings_view c.args.inputs.now.settings.now) said) c.evaluate-answer.result c.settle.result
+    (seen_from_parts (g.O.Outputs.seen c.args.out.now) c.new_steps-steps.result []) (seen_from_parts (g.O.Outputs.seen c.evaluate-answer.new.out) c.evaluate-answer.new.steps []) (g.O.Outputs.seen c.settle.new.out)
     (c.evaluate-answer.ensures.gives files said holds is) c.settle.ensures.settles c.settle.ensures.meaning (λ done meant. meant)
 
 pub returns-clause-there : goal.returns-clause-there
 returns-clause-there g c = λ files said holds is.
-    means (evaluated files (settings_view c.args.inputs.now.settings.now) said) c.evaluate-answer.result c.settle.result
-    (seen (g.O.Outputs.seen c.args.out.now) c.new_steps-steps.result []) (seen (g.O.Outputs.seen c.evaluate-answer.new.out) c.evaluate-answer.new.steps []) (g.O.Outputs.seen c.settle.new.out)
+    means (evaluated_files files (settings_view c.args.inputs.now.settings.now) said) c.evaluate-answer.result c.settle.result
+    (seen_from_parts (g.O.Outputs.seen c.args.out.now) c.new_steps-steps.result []) (seen_from_parts (g.O.Outputs.seen c.evaluate-answer.new.out) c.evaluate-answer.new.steps []) (g.O.Outputs.seen c.settle.new.out)
     (c.evaluate-answer.ensures.gives files said holds is) c.settle.ensures.settles c.settle.ensures.meaning
     (λ done meant. c.needs_are_there.ensures files (settings_view c.args.inputs.now.settings.now) said done meant)
 

@@ -1,7 +1,7 @@
 use Rattle.std.proofs.Common.{subst, sym}
 use Rattle.ports.specs.Endings.{HasRoom}
-use Rattle.outputs.specs.build_file.Means.{Means}
-use Rattle.outputs.specs.build_file.Concluding.{Agrees, done_with}
+use Rattle.backend.specs.Means.{Means}
+use Rattle.backend.specs.Concluding.{Agrees, done_with}
 use Rattle.meson.specs.Setup.{OnEnd, OnProject, Settles}
 use Rattle.meson.proofs.setup_run.settle.Goals as goal
 

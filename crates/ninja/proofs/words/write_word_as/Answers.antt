@@ -2,7 +2,7 @@ use Rattle.std.proofs.Common.{sym, ap, ◌∙◌}
 use Rattle.ports.specs.Outputs.{puts}
 use Rattle.ninja.specs.Escapes.{value_rest_text}
 use Rattle.ninja.specs.Steps.{quoted_steps}
-use Rattle.ninja.specs.Words.{quoted}
+use Rattle.ninja.specs.Words.{single_quoted_word}
 use Rattle.ninja.proofs.Puts.{writes_over}
 use Rattle.ninja.proofs.WordSteps.{quoted_is}
 use Rattle.ninja.proofs.WordTexts.{bare_value}
@@ -18,4 +18,4 @@ returns-then-bare g c =
 pub returns-else-bare : goal.returns-else-bare
 returns-else-bare g c =
     let word = c.args.word.now in
-    rw c.if-bare.false (writes_over (quoted_steps word) (puts (value_rest_text (quoted word))) (quoted_is word) c.write_quoted.ensures)
+    rw c.if-bare.false (writes_over (quoted_steps word) (puts (value_rest_text (single_quoted_word word))) (quoted_is word) c.write_quoted.ensures)

@@ -1,10 +1,10 @@
 use Rattle.std.proofs.Common.{◌∙◌, ap, [], List, map, arith}
 use Rattle.std.specs.List.{fold}
 use Rattle.std.proofs.lemmas.List.{take_all}
-use Rattle.machine.specs.declared.option_values.built_in.BuiltIn.{BuiltIn}
-use Rattle.machine.specs.option_values.Settings.{add_setting}
-use Rattle.machine.specs.option_values.View.{row_in}
-use Rattle.machine.specs.option_values.SettingsView.{settings_in}
+use Rattle.option_values.specs.declared.built_in.BuiltIn.{BuiltIn}
+use Rattle.option_values.specs.Settings.{add_setting}
+use Rattle.option_values.specs.View.{row_in}
+use Rattle.option_values.specs.SettingsView.{settings_in}
 use Rattle.options.proofs.Folds.{step_more}
 use Rattle.options.proofs.Puts.{all_settings, seventeen}
 use Rattle.options.proofs.built_in.built_in_settings.Goals as goal

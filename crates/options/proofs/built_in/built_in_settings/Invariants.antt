@@ -1,8 +1,8 @@
 use Rattle.std.proofs.Common.{◌≡◌, [], take, map}
 use Rattle.std.specs.List.{fold}
-use Rattle.machine.specs.option_values.View.{row_in}
-use Rattle.machine.specs.option_values.SettingsView.{settings_in}
-use Rattle.machine.specs.option_values.Settings.{add_setting}
+use Rattle.option_values.specs.View.{row_in}
+use Rattle.option_values.specs.SettingsView.{settings_in}
+use Rattle.option_values.specs.Settings.{add_setting}
 use Rattle.options.proofs.built_in.built_in_settings.Given as goal
 
 abbrev pub invariant-loop-row : goal.invariant-loop-row

@@ -1,6 +1,6 @@
 use Rattle.std.proofs.Common.{◌∙◌, ap}
 use Rattle.options.specs.FillIns.{with_state, by_auto_features}
-use Rattle.machine.specs.option_values.SettingsView.{settings_in}
+use Rattle.option_values.specs.SettingsView.{settings_in}
 use Rattle.options.proofs.fill_in.by_auto_features.Goals as goal
 
 pub returns-in-Some : goal.returns-in-Some

@@ -1,9 +1,9 @@
 use Rattle.std.proofs.Common.{◌∙◌, ap, codes, List, ℕ}
 use Rattle.std.specs.Option.{option_and_then}
-use Rattle.machine.specs.option_values.Values.{Combo}
-use Rattle.machine.specs.option_values.Settings.{fill}
+use Rattle.option_values.specs.Values.{Combo}
+use Rattle.option_values.specs.Settings.{fill}
 use Rattle.options.specs.FillIns.{build_types, type_among, with_type, by_buildtype}
-use Rattle.machine.specs.option_values.SettingsView.{settings_in}
+use Rattle.option_values.specs.SettingsView.{settings_in}
 use Rattle.options.proofs.fill_in.by_buildtype.Goals as goal
 
 pub returns-in_default : goal.returns-in_default

@@ -1,8 +1,8 @@
 use Rattle.std.proofs.Common.{◌∙◌, ap, codes, List, ℕ, Bool, if◌then◌else◌}
-use Rattle.machine.specs.option_values.Values.{Text}
-use Rattle.machine.specs.option_values.Settings.{fill}
+use Rattle.option_values.specs.Values.{Text}
+use Rattle.option_values.specs.Settings.{fill}
 use Rattle.options.specs.FillIns.{by_prefix}
-use Rattle.machine.specs.option_values.SettingsView.{settings_in}
+use Rattle.option_values.specs.SettingsView.{settings_in}
 use Rattle.options.proofs.fill_in.by_prefix.Goals as goal
 
 pub returns-then-not-is_usr : goal.returns-then-not-is_usr

@@ -1,6 +1,6 @@
 use Rattle.std.proofs.Common.{◌∙◌, ap, sym, refl}
-use Rattle.machine.specs.option_values.View.{value_in}
-use Rattle.machine.specs.option_values.SettingsView.{settings_in}
+use Rattle.option_values.specs.View.{value_in}
+use Rattle.option_values.specs.SettingsView.{settings_in}
 use Rattle.options.proofs.Fills.{takes, filled, kept, not_filled}
 use Rattle.options.proofs.fill_in.fill.Goals as goal
 

@@ -1,5 +1,5 @@
 use Rattle.std.proofs.Common.{◌≡◌, ◌∙◌, IfOk, ap, subst}
-use Rattle.machine.specs.machine_file.Values as written
+use Rattle.machine_file.specs.Values as written
 use Rattle.options.specs.option_file.View.{options_in}
 use Rattle.options.specs.Verdicts.{of_named, of_parts, of_assignment}
 use Rattle.options.specs.View.{verdict_in}

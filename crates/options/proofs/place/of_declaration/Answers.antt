@@ -1,7 +1,7 @@
 use Rattle.std.proofs.Common.{◌≡◌, ◌∙◌, IfOk, sym, ap, subst}
 use Rattle.std.specs.Option.{option_map}
 use Rattle.options.specs.option_file.View.{option_in}
-use Rattle.machine.specs.option_values.View.{value_in}
+use Rattle.option_values.specs.View.{value_in}
 use Rattle.options.specs.Verdicts.{of_default, of_declaration}
 use Rattle.options.specs.View.{verdict_in}
 use Rattle.options.proofs.place.of_declaration.Goals as goal

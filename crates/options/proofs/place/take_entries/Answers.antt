@@ -1,8 +1,8 @@
 use Rattle.std.proofs.Common.{◌∙◌, sym, ap, arith}
-use Rattle.machine.specs.machine_file.View.{entries_of, value_in}
+use Rattle.machine_file.specs.View.{entries_of, value_in}
 use Rattle.options.specs.option_file.View.{options_in}
 use Rattle.options.specs.Resolves.{State, next}
-use Rattle.options.specs.declared.fault.Place.TheVariants.{MachineFile}
+use Rattle.options.specs.declared.fault.Origin.TheVariants.{MachineFile}
 use Rattle.options.specs.Verdicts.{of_named, of_entry}
 use Rattle.options.specs.View.{state_in, key_in}
 use Rattle.options.proofs.Folds.{fold_got, is_there, rest_of_map}

@@ -1,6 +1,6 @@
 use Rattle.std.proofs.Common.{◌≡◌, take, map}
 use Rattle.std.specs.List.{fold}
-use Rattle.machine.specs.machine_file.View.{entries_of}
+use Rattle.machine_file.specs.View.{entries_of}
 use Rattle.options.specs.option_file.View.{options_in}
 use Rattle.options.specs.Resolves.{next}
 use Rattle.options.specs.Verdicts.{of_entry}

@@ -1,7 +1,7 @@
 use Rattle.std.proofs.Common.{◌∙◌, sym, ap, arith}
 use Rattle.std.specs.List.{fold}
-use Rattle.machine.specs.machine_file.Files as machine
-use Rattle.machine.specs.machine_file.View.{machine_in, entries_of}
+use Rattle.machine_file.specs.Files as machine
+use Rattle.machine_file.specs.View.{machine_in, entries_of}
 use Rattle.options.specs.option_file.View.{options_in}
 use Rattle.options.specs.Resolves.{State, next}
 use Rattle.options.specs.Verdicts.{of_section}

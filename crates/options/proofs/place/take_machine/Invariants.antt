@@ -1,6 +1,6 @@
 use Rattle.std.proofs.Common.{◌≡◌, take}
 use Rattle.std.specs.List.{fold, flat_map}
-use Rattle.machine.specs.machine_file.View.{machine_in}
+use Rattle.machine_file.specs.View.{machine_in}
 use Rattle.options.specs.option_file.View.{options_in}
 use Rattle.options.specs.Resolves.{next}
 use Rattle.options.specs.Verdicts.{of_section}

@@ -1,7 +1,7 @@
 use Rattle.std.proofs.Common.{◌∙◌, ◌+◌, sym, ap, string_bytes}
 use Rattle.options.specs.option_file.View.{options_in}
 use Rattle.options.specs.Resolves.{State, next}
-use Rattle.options.specs.declared.fault.Place.TheVariants.{CommandLine}
+use Rattle.options.specs.declared.fault.Origin.TheVariants.{CommandLine}
 use Rattle.options.specs.Verdicts.{of_assignment}
 use Rattle.options.specs.View.{state_in}
 use Rattle.options.proofs.Folds.{fold_word_at, rest_of_words}

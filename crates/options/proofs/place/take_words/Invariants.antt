@@ -1,7 +1,7 @@
 use Rattle.std.proofs.Common.{◌≡◌, take}
 use Rattle.std.specs.List.{fold}
 use Rattle.options.specs.option_file.View.{options_in}
-use Rattle.machine.specs.option_values.View.{strings_in}
+use Rattle.option_values.specs.View.{strings_in}
 use Rattle.options.specs.Resolves.{next}
 use Rattle.options.specs.Verdicts.{of_words}
 use Rattle.options.specs.View.{state_in}

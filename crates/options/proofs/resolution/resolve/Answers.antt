@@ -1,11 +1,11 @@
 use Rattle.std.proofs.Common.{◌≡◌, ◌∙◌, ◌++◌, IfOk, sym, ap, subst, map, List}
 use Rattle.std.specs.List.{fold, flat_map}
-use Rattle.machine.specs.machine_file.Questions.{options_at}
-use Rattle.machine.specs.machine_file.View.{machine_in}
+use Rattle.machine_file.specs.Questions.{options_at}
+use Rattle.machine_file.specs.View.{machine_in}
 use Rattle.options.specs.option_file.View.{options_in}
-use Rattle.machine.specs.option_values.View.{strings_in}
+use Rattle.option_values.specs.View.{strings_in}
 use Rattle.options.specs.declared.option_file.declaration.Declared.{Declared}
-use Rattle.options.specs.Resolves.{State, next, at_first, resolution_of, resolved}
+use Rattle.options.specs.Resolves.{State, next, at_first, resolution_of, resolved_options}
 use Rattle.options.specs.Verdicts.{Verdict, of_declaration, of_project_default, of_section, of_words}
 use Rattle.options.specs.View.{defaults_in, resolved_in, state_in}
 use Rattle.options.proofs.Folds.{in_turn}
@@ -13,7 +13,7 @@ use Rattle.options.proofs.OptionSections.{of_options}
 use Rattle.options.proofs.resolution.resolve.Goals as goal
 
 pub returns : goal.returns
-unfolding resolved
+unfolding resolved_options
 returns c =
     let ds = options_in c.in_ok-known.known.declared.now in
     let l = map of_declaration ds in
@@ -31,5 +31,5 @@ returns c =
     ∙ ap (λ (s : State). fold next s l) c.in_ok-state.ensures)))
     ∙ sym (in_turn at_first l d m w))
     ∙ ap (λ (vs : List Verdict). resolution_of (fold next at_first (l ++ (d ++ (vs ++ w))))) (sym (of_options ds (machine_in c.args.machine.now)))
-    ∙ ap (λ (x : Declared). resolved (options_in x) (defaults_in c.args.defaults.now) (options_at (machine_in c.args.machine.now))
+    ∙ ap (λ (x : Declared). resolved_options (options_in x) (defaults_in c.args.defaults.now) (options_at (machine_in c.args.machine.now))
     (strings_in c.args.words.now)) same) c.end.ensures

@@ -1,9 +1,9 @@
 use Rattle.std.proofs.Common.{ap, refl, sym, ◌∙◌}
 use Rattle.arguments.specs.Arguments.{arguments_data}
-use Rattle.machine.specs.machine_file.Questions.{answer_to, dependency_topic}
-use Rattle.machine.specs.machine_file.View.{strings_in}
-use Rattle.named_sources.specs.resources.Beside.{call_question}
-use Rattle.named_sources.specs.resources.Fitting.{dependency_that_fits}
+use Rattle.machine_file.specs.Questions.{answer_to, dependency_topic}
+use Rattle.machine_file.specs.View.{strings_in}
+use Rattle.resources.specs.Beside.{call_question}
+use Rattle.resources.specs.Fitting.{dependency_that_fits}
 use Rattle.world.proofs.Answering.{carries_as, carries_give, carries_none, carries_stop, carries_then}
 use Rattle.resource_calls.specs.Dependency.{ask_dependency}
 use Rattle.resource_calls.proofs.Looking.{named_none, named_some}

@@ -1,7 +1,7 @@
 use Rattle.std.proofs.Common.{ap, refl, sym, ◌∙◌}
 use Rattle.arguments.specs.Arguments.{arguments_data}
 use Rattle.support.specs.declared.faults.refusal.Refusal.TheVariants as refusals
-use Rattle.named_sources.specs.resources.Found.{missing}
+use Rattle.resources.specs.Found.{missing_dependency}
 use Rattle.world.specs.Deed.{refuse}
 use Rattle.world.proofs.Answering.{carries_as, carries_none, carries_refuse}
 use Rattle.world.proofs.Values.{two}
@@ -24,5 +24,5 @@ returns-in_ok-missing-in-Optional g c =
     let a = arguments_data c.args.arguments.now in
     carries_as (sym (ap (λ r. none_fits r a) (sym c.read_required.ensures)
     ∙ either_way (λ r. none_fits r a) (give_missing a) refl refl c.in-Optional.is))
-    (carries_as (two give_noted (c.in_ok-missing-in-Optional.ensures ∙ ap missing c.text_at-in-Optional.ensures) c.gives_disabler.ensures)
+    (carries_as (two give_noted (c.in_ok-missing-in-Optional.ensures ∙ ap missing_dependency c.text_at-in-Optional.ensures) c.gives_disabler.ensures)
     c.give_noted.ensures)

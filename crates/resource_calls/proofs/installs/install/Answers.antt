@@ -1,5 +1,5 @@
 use Rattle.std.proofs.Common.{map, ap, refl}
-use Rattle.named_sources.specs.SourcesView.{named_view}
+use Rattle.sources.specs.SourcesView.{named_view}
 use Rattle.world.proofs.Answering.{carries_as, carries_give, carries_none, carries_stop, carries_then}
 use Rattle.arguments.specs.Arguments.{arguments_data}
 use Rattle.resource_calls.specs.Destinations.{folders_in, said_of}

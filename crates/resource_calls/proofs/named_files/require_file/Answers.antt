@@ -1,6 +1,6 @@
 use Rattle.std.proofs.Common.{ap, refl, sym}
-use Rattle.named_sources.specs.SourcesView.{named_view}
-use Rattle.world.specs.Deed.{required}
+use Rattle.sources.specs.SourcesView.{named_view}
+use Rattle.world.specs.Deed.{required_file}
 use Rattle.world.proofs.Answering.{carries_as, carries_give}
 use Rattle.resource_calls.specs.NamedFiles.{file_required}
 use Rattle.resource_calls.proofs.named_files.require_file.Goals as goal
@@ -8,7 +8,7 @@ use Rattle.resource_calls.proofs.named_files.require_file.Goals as goal
 pub returns-in-Tree : goal.returns-in-Tree
 unfolding file_required
 returns-in-Tree g c =
-    carries_as (ap (λ n. file_required (named_view n)) (sym c.in-Tree.is)) (carries_as (ap required c.as_str.ensures.value) c.require_file.ensures)
+    carries_as (ap (λ n. file_required (named_view n)) (sym c.in-Tree.is)) (carries_as (ap required_file c.as_str.ensures.value) c.require_file.ensures)
 
 pub returns-in-Built : goal.returns-in-Built
 unfolding file_required

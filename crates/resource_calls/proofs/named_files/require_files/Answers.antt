@@ -1,6 +1,6 @@
 use Rattle.std.proofs.Common.{map, ap, refl}
 use Rattle.std.proofs.lemmas.List.{drop_all}
-use Rattle.named_sources.specs.SourcesView.{named_view}
+use Rattle.sources.specs.SourcesView.{named_view}
 use Rattle.world.proofs.Answering.{carries_give}
 use Rattle.world.proofs.Leading.{leads_start, leads_on, leads_end, leads_stop, leads_as, room_on}
 use Rattle.resource_calls.specs.NamedFiles.{files_required}

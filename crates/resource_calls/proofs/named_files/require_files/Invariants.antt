@@ -1,5 +1,5 @@
 use Rattle.std.proofs.Common.{map, drop}
-use Rattle.named_sources.specs.SourcesView.{named_view}
+use Rattle.sources.specs.SourcesView.{named_view}
 use Rattle.world.specs.Answering.{Leads}
 use Rattle.world.specs.Caller.{state_of}
 use Rattle.resource_calls.specs.NamedFiles.{files_required}

@@ -1,8 +1,8 @@
 use Rattle.std.proofs.Common.{option_map, ap, refl, sym, ◌∙◌}
 use Rattle.std.specs.Prelude.{codes}
-use Rattle.machine.specs.machine_file.Questions.{Key, answer_to}
-use Rattle.named_sources.specs.resources.Fitting.{program_words}
-use Rattle.named_sources.specs.resources.Found.{within_texts}
+use Rattle.machine_file.specs.Questions.{Key, answer_to}
+use Rattle.resources.specs.Fitting.{program_words}
+use Rattle.values.specs.Copies.{within_texts}
 use Rattle.world.proofs.Answering.{carries_as, carries_give, carries_none, carries_stop, carries_then, room_later}
 use Rattle.resource_calls.specs.Programs.{program_named, program_of_words, words_or_file}
 use Rattle.resource_calls.proofs.Exactly.{carries_exactly}

@@ -1,6 +1,6 @@
 use Rattle.std.proofs.Common.{◌≡◌, map, drop}
 use Rattle.values.specs.View.{data_of}
-use Rattle.named_sources.specs.HolesView.{place_view}
+use Rattle.sources.specs.HolesView.{place_view}
 use Rattle.target_calls.specs.Commands.{no_part, parts_behind}
 use Rattle.target_calls.specs.CommandsView.{part_view}
 use Rattle.world.specs.HereView.{here_view}

@@ -1,5 +1,5 @@
 use Rattle.std.proofs.Common.{◌≡◌, ◌++◌, map, drop}
-use Rattle.named_sources.specs.SourcesView.{named_view}
+use Rattle.sources.specs.SourcesView.{named_view}
 use Rattle.target_calls.specs.Dependencies.{named_of}
 use Rattle.target_calls.proofs.dependencies.all_named.Given as goal
 

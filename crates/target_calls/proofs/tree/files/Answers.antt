@@ -1,7 +1,7 @@
 use Rattle.std.proofs.Common.{map, string_bytes, ap, refl}
-use Rattle.world.specs.Deed.{answered}
+use Rattle.world.specs.Deed.{answer_or_refusal}
 use Rattle.world.proofs.Answering.{carries_as, carries_then, carries_stop, carries_none, carries_give, carries_value}
-use Rattle.named_sources.specs.Values.{files_at}
+use Rattle.sources.specs.Values.{files_at}
 use Rattle.target_calls.specs.Files.{files}
 use Rattle.target_calls.proofs.tree.files.Goals as goal
 
@@ -26,11 +26,11 @@ unfolding files
 returns-in_err-list g c =
     carries_then c.in_ok-paths.ensures
     (carries_then c.in_ok-require_all.ensures
-    (carries_stop (carries_as (ap (λ ps. answered (files_at (map string_bytes ps))) c.deref.ensures.value) (carries_value _ _ c.in_ok-listed.ensures c.in_err-list.ensures)) c.from_residual-in_err-list.ensures.1))
+    (carries_stop (carries_as (ap (λ ps. answer_or_refusal (files_at (map string_bytes ps))) c.deref.ensures.value) (carries_value _ _ c.in_ok-listed.ensures c.in_err-list.ensures)) c.from_residual-in_err-list.ensures.1))
 
 pub returns : goal.returns
 unfolding files
 returns g c =
     carries_then c.in_ok-paths.ensures
     (carries_then c.in_ok-require_all.ensures
-    (carries_then {x = c.in_ok-list.list} (carries_as (ap (λ ps. answered (files_at (map string_bytes ps))) c.deref.ensures.value) (carries_value _ _ c.in_ok-listed.ensures c.in_ok-list.ensures)) (carries_give refl)))
+    (carries_then {x = c.in_ok-list.list} (carries_as (ap (λ ps. answer_or_refusal (files_at (map string_bytes ps))) c.deref.ensures.value) (carries_value _ _ c.in_ok-listed.ensures c.in_ok-list.ensures)) (carries_give refl)))

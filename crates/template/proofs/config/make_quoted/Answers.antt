@@ -1,7 +1,7 @@
 use Rattle.std.proofs.Common.{arith}
 use Rattle.std.proofs.lemmas.Grind.{common_steps}
 use Rattle.template.proofs.Settings.{quoting_other}
-use Rattle.template.specs.Config.{quoted, escaped}
+use Rattle.template.specs.Config.{double_quoted_text, escaped_quotes}
 use Rattle.template.proofs.config.make_quoted.Goals as goal
 
 pub loop-c-preserved : goal.loop-c-preserved
@@ -11,9 +11,9 @@ pub loop-c-init : goal.loop-c-init
 loop-c-init c = grind (arith, common_steps)
 
 pub loop-c-preserved-in-Continue-branch-2 : goal.loop-c-preserved-in-Continue-branch-2
-unfolding quoted escaped
+unfolding double_quoted_text escaped_quotes
 loop-c-preserved-in-Continue-branch-2 c = grind (arith, common_steps)
 
 pub returns : goal.returns
-unfolding quoted escaped
+unfolding double_quoted_text escaped_quotes
 returns c = grind (arith, common_steps)

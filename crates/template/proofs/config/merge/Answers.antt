@@ -1,7 +1,7 @@
 use Rattle.std.proofs.Common.{◌≡◌, ◌∷◌, ◌++◌, [], sym, ap, subst, ◌∙◌, refl, rules, option_map, string_bytes, arith}
 use Rattle.std.proofs.lemmas.Grind.{common_steps}
 use Rattle.template.specs.ConfigData.{content_of, entries_of}
-use Rattle.template.specs.Config.{merged}
+use Rattle.template.specs.Config.{entries_with_others}
 use Rattle.template.specs.Undo.{AreSet, IsSet, changes_of}
 use Rattle.template.proofs.Settings.{merged-more, names_ascend}
 use Rattle.template.proofs.Undoing.{set_more, changes_of-more}
@@ -12,7 +12,7 @@ loop-name-init c =
     let all : c.into_iter-name-iterator.result ≡ c.args.others.now.entries = search rules in
     let start = entries_of c.args.entries.now.entries in
     record {
-      merged = ap (λ o. merged start (entries_of o)) all;
+      merged = ap (λ o. entries_with_others start (entries_of o)) all;
       changes = subst (λ items. AreSet (changes_of items) start start) (sym c.requires) refl;
     }
 

@@ -2,7 +2,7 @@ use Rattle.std.proofs.Common.{◌≡◌, ◌⊎◌, inl, inr, true, false, ℕ, 
 use Rattle.std.specs.Prelude.{codes}
 use Rattle.ports.specs.Outputs.{puts}
 use Rattle.ports.proofs.Sending.{open_after, writes_exit, writes_stop, writes_then}
-use Rattle.template.specs.Config.{printed}
+use Rattle.template.specs.Config.{printed_content}
 use Rattle.template.specs.ConfigData.{content_of}
 use Rattle.template.specs.Line.{definition}
 use Rattle.template.specs.declared.config.ConfigValue.TheVariants.{Integer, Text, the_data}
@@ -10,12 +10,12 @@ use Rattle.template.proofs.replace.put_key.Goals as goal
 
 -- the line of a key whose value is no truth value
 worth : (name : List ℕ) (v : the_data) → ((z : ℤ) × v ≡ Integer z) ⊎ ((text : String Global) × v ≡ Text text)
-    → definition name (content_of v) ≡ (puts (codes "#define ") ++ puts name) ++ (puts (codes " ") ++ puts (printed (content_of v)))
+    → definition name (content_of v) ≡ (puts (codes "#define ") ++ puts name) ++ (puts (codes " ") ++ puts (printed_content (content_of v)))
 unfolding definition
 worth name v (inl n) =
-    rw n.1 (sym (append_assoc (puts (codes "#define ")) (puts name) (puts (codes " ") ++ puts (printed (content_of (Integer n.0))))))
+    rw n.1 (sym (append_assoc (puts (codes "#define ")) (puts name) (puts (codes " ") ++ puts (printed_content (content_of (Integer n.0))))))
 worth name v (inr t) =
-    rw t.1 (sym (append_assoc (puts (codes "#define ")) (puts name) (puts (codes " ") ++ puts (printed (content_of (Text t.0))))))
+    rw t.1 (sym (append_assoc (puts (codes "#define ")) (puts name) (puts (codes " ") ++ puts (printed_content (content_of (Text t.0))))))
 
 pub returns-in-Boolean-true : goal.returns-in-Boolean-true
 unfolding definition

@@ -1,12 +1,12 @@
 use Rattle.std.proofs.Common.{◌≤◌, ◌-◌, drop, length}
-use Rattle.template.specs.Line.{replaced}
+use Rattle.template.specs.Line.{replaced_line}
 use Rattle.ports.proofs.Going.{Going}
 use Rattle.template.proofs.replace.put_replaced.Given as goal
 
 abbrev pub invariant-loop-sign : goal.invariant-loop-sign
 invariant-loop-sign g l = record {
   in_range : l.from ≤ length l.line;
-  going : Going (g.O.Outputs.seen l.fn.out) (g.O.Outputs.seen l.out) (replaced l.config.entries l.path l.number 0 0 l.line) (replaced l.config.entries l.path l.number 0 0 (drop l.from l.line));
+  going : Going (g.O.Outputs.seen l.fn.out) (g.O.Outputs.seen l.out) (replaced_line l.config.entries l.path l.number 0 0 l.line) (replaced_line l.config.entries l.path l.number 0 0 (drop l.from l.line));
 }
 
 abbrev pub decreases-loop-sign : goal.decreases-loop-sign

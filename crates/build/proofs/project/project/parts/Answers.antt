@@ -1,10 +1,10 @@
 use Rattle.std.proofs.Common.{◌≡◌, List, length, take, get_or, nat_lt, sym, ap, ◌∙◌}
 use Rattle.std.proofs.lemmas.Result.{IfOk-weaker}
 use Rattle.build.specs.edge.Texts.{texts}
-use Rattle.build.specs.Libraries.{linked, linked_of}
-use Rattle.build.specs.LinkedViews.{linked_views}
+use Rattle.build.specs.Libraries.{declared_target, linked_of}
+use Rattle.build.specs.DeclaredTargetViews.{declared_target_views}
 use Rattle.build.specs.View.{surroundings_view, target_view}
-use Rattle.build.specs.declared.linked_target.Linked.{Linked}
+use Rattle.build.specs.declared.declared_target.DeclaredTarget.{DeclaredTarget}
 use Rattle.build.specs.target_edges.Edges.{edges_of}
 use Rattle.build.specs.target_edges.PartsView.{parts_edges}
 use Rattle.build.specs.project.World.{WorldData}
@@ -32,14 +32,14 @@ returns-in-Some c =
     (ap (λ (x : WorldData). x.surroundings) c.project.view_is)
     (c.project.invariant.libraries ∙ ap (λ (x : WorldData). linked_of x.targets) c.project.view_is)
     (ap (take n) c.deref-in-Some.ensures.value)
-    (c.in-Some.ensures.lookup.0 ∙ ap (λ (l : List Linked). nat_lt n (length l)) c.deref.ensures.value)
-    (c.in-Some.ensures.lookup.1 ∙ ap (λ (l : List Linked). get_or l n one) c.deref.ensures.value) in
-    IfOk-weaker c.parts_behind.result (λ p. parts_edges p ≡ edges_of s (linked_views earlier) (linked (linked_views earlier) (target_view one.target))) (λ p. parts_edges p ≡ edges_at w n) (λ p e. e ∙ is) c.parts_behind.ensures
+    (c.in-Some.ensures.lookup.0 ∙ ap (λ (l : List DeclaredTarget). nat_lt n (length l)) c.deref.ensures.value)
+    (c.in-Some.ensures.lookup.1 ∙ ap (λ (l : List DeclaredTarget). get_or l n one) c.deref.ensures.value) in
+    IfOk-weaker c.parts_behind.result (λ p. parts_edges p ≡ edges_of s (declared_target_views earlier) (declared_target (declared_target_views earlier) (target_view one.target))) (λ p. parts_edges p ≡ edges_at w n) (λ p e. e ∙ is) c.parts_behind.ensures
 
 pub returns-in-None : goal.returns-in-None
 returns-in-None c =
-    let all : linked_views c.project.inside.linked.items ≡ linked_of c.args.project.now.targets =
+    let all : declared_target_views c.project.inside.linked.items ≡ linked_of c.args.project.now.targets =
     c.project.invariant.libraries ∙ ap (λ (x : WorldData). linked_of x.targets) c.project.view_is in
     c.no_parts.ensures
     ∙ sym (edges_missed c.args.project.now c.project.inside.linked.items c.args.target all
-    (c.in-None.ensures.lookup.0 ∙ ap (λ (l : List Linked). nat_lt c.args.target (length l)) c.deref.ensures.value))
+    (c.in-None.ensures.lookup.0 ∙ ap (λ (l : List DeclaredTarget). nat_lt c.args.target (length l)) c.deref.ensures.value))

@@ -1,6 +1,6 @@
 use Rattle.std.proofs.Common.{refl}
 use Rattle.ports.specs.Outputs.{faults}
-use Rattle.byte_devices.specs.declared.piece.Kind.TheVariants.{Fault}
+use Rattle.byte_devices.specs.declared.piece.PieceKind.TheVariants.{Fault}
 use Rattle.byte_devices.proofs.KeptPieces.{bytes_joined, kept_or_same, nothing_kept, faults_kept}
 use Rattle.byte_devices.proofs.outputs.KeptOutputsOutputs.fault.Goals as goal
 

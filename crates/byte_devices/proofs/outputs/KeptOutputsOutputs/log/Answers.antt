@@ -1,6 +1,6 @@
 use Rattle.std.proofs.Common.{refl}
 use Rattle.ports.specs.Outputs.{logs}
-use Rattle.byte_devices.specs.declared.piece.Kind.TheVariants.{Log}
+use Rattle.byte_devices.specs.declared.piece.PieceKind.TheVariants.{Log}
 use Rattle.byte_devices.proofs.KeptPieces.{bytes_joined, kept_or_same, nothing_kept, logs_kept}
 use Rattle.byte_devices.proofs.outputs.KeptOutputsOutputs.log.Goals as goal
 

@@ -1,6 +1,6 @@
 use Rattle.std.proofs.Common.{refl}
 use Rattle.ports.specs.Outputs.{puts}
-use Rattle.byte_devices.specs.declared.piece.Kind.TheVariants.{Bytes}
+use Rattle.byte_devices.specs.declared.piece.PieceKind.TheVariants.{Bytes}
 use Rattle.byte_devices.proofs.KeptPieces.{bytes_joined, kept_or_same, nothing_kept, puts_kept}
 use Rattle.byte_devices.proofs.outputs.KeptOutputsOutputs.put.Goals as goal
 

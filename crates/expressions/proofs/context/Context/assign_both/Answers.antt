@@ -1,7 +1,7 @@
 use Rattle.std.proofs.Common.{ap}
 use Rattle.values.specs.View.{data_of}
 use Rattle.code.proofs.Trees.{less}
-use Rattle.expressions.specs.Assignments.{assigned}
+use Rattle.expressions.specs.Assignments.{variable_assignment}
 use Rattle.expressions.proofs.Assigning.{name_stays}
 use Rattle.expressions.proofs.Evaluating.{given_as, given_stop, given_then}
 use Rattle.expressions.proofs.context.Context.assign_both.Goals as goal
@@ -13,4 +13,4 @@ pub returns-clause-gives : goal.returns-clause-gives
 returns-clause-gives g c = λ one two files h.
     let first = c.in_ok-assign.ensures.gives one files h in
     let stays = name_stays first.gives.written.names c.args.other.0 (less c.args.other.0 _ two) in
-    given_then first (given_as (ap (λ n. assigned c.args.line n (data_of c.args.other.1)) stays.1) (c.assign-answer.ensures.gives stays.0 files first.holds))
+    given_then first (given_as (ap (λ n. variable_assignment c.args.line n (data_of c.args.other.1)) stays.1) (c.assign-answer.ensures.gives stays.0 files first.holds))

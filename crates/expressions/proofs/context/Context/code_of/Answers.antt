@@ -1,5 +1,5 @@
 use Rattle.std.proofs.Common.{ap, ◌∙◌}
-use Rattle.syntax.specs.Parsed.{parsed}
+use Rattle.syntax.specs.Parsed.{parsed_file}
 use Rattle.support.specs.declared.faults.refusal.Refusal.TheVariants as refusals
 use Rattle.world.specs.Plan.{deed}
 use Rattle.world.specs.DefinitionFiles.{line_at, refuse_line, tree_or_fault}
@@ -9,7 +9,7 @@ use Rattle.expressions.proofs.context.Context.code_of.Goals as goal
 
 pub returns-in-Ok-clause-gives : goal.returns-in-Ok-clause-gives
 returns-in-Ok-clause-gives g c = λ files h.
-    given_as (ap (λ bytes. deed (tree_or_fault (parsed bytes))) c.in-Ok.ensures.cases.0 ∙ ap deed (is_text c.args.bytes.now c.in-Ok.ensures.cases.1))
+    given_as (ap (λ bytes. deed (tree_or_fault (parsed_file bytes))) c.in-Ok.ensures.cases.0 ∙ ap deed (is_text c.args.bytes.now c.in-Ok.ensures.cases.1))
     (c.code_of_text.ensures.gives files h)
 
 pub returns-in-Err-clause-gives : goal.returns-in-Err-clause-gives

@@ -1,5 +1,5 @@
 use Rattle.std.proofs.Common.{◌≡◌, Err, refl, subst}
-use Rattle.syntax.specs.Parsed.{parsed}
+use Rattle.syntax.specs.Parsed.{parsed_file}
 use Rattle.syntax.specs.Tree.{file_of}
 use Rattle.syntax.specs.lexer.Answers.{Refuses}
 use Rattle.expressions.proofs.Evaluating.{given_as, given_none}
@@ -15,5 +15,5 @@ returns-in-Err-Memory-clause-gives g c = λ files h. given_none h refl
 
 pub returns-in-Err-Fault-clause-gives : goal.returns-in-Err-Fault-clause-gives
 returns-in-Err-Fault-clause-gives g c = λ files h.
-    let reads : parsed c.args.text.now ≡ Err c.in-Err-Fault.fault = subst (λ e. Refuses e (parsed c.args.text.now)) c.in-Err-Fault.field-0-is c.in-Err-Fault.ensures.reads in
+    let reads : parsed_file c.args.text.now ≡ Err c.in-Err-Fault.fault = subst (λ e. Refuses e (parsed_file c.args.text.now)) c.in-Err-Fault.field-0-is c.in-Err-Fault.ensures.reads in
     given_as (source_refused c.args.text.now c.in-Err-Fault.fault c.refusal_of.result reads c.refusal_of.ensures) (given_line _ _ h c.refuse.ensures)

@@ -5,7 +5,7 @@ use Rattle.world.specs.Costs.{definition_file}
 use Rattle.world.specs.Deed.{refuse}
 use Rattle.world.specs.Plan.{deed}
 use Rattle.world.specs.Store.{world_of}
-use Rattle.world.specs.World.{looking}
+use Rattle.world.specs.World.{world_after_look}
 use Rattle.world.specs.declared.stop.Stop.TheVariants as stops
 use Rattle.world.proofs.Holding.{holds_later}
 use Rattle.expressions.specs.Folders.{opened_by}
@@ -30,9 +30,9 @@ returns-in-Some-clause-gives g c = λ files h.
     let before = world_of c.args.self.now.store.now in
     let sized : c.in_ok-size.size ≡ option_map length (file_at files path) =
     c.in_ok-size.ensures.size h.steady ∙ ap (λ fs. option_map length (file_at fs c.deref.result.now)) h.files ∙ ap (λ p. option_map length (file_at files p)) (c.deref.ensures ∙ c.in_ok-file.ensures) in
-    let looked : world_of c.note_look.new.self ≡ looking before path (is_some (file_at files path)) =
-    c.in_ok-note_look.ensures.world ∙ ap (λ p. looking before p c.is_some.result) (c.deref-2.ensures ∙ c.in_ok-file.ensures)
-    ∙ ap (looking before path) (c.is_some.ensures ∙ found_length (file_at files path) c.in_ok-size.size sized) in
+    let looked : world_of c.note_look.new.self ≡ world_after_look before path (is_some (file_at files path)) =
+    c.in_ok-note_look.ensures.world ∙ ap (λ p. world_after_look before p c.is_some.result) (c.deref-2.ensures ∙ c.in_ok-file.ensures)
+    ∙ ap (world_after_look before path) (c.is_some.ensures ∙ found_length (file_at files path) c.in_ok-size.size sized) in
     let there = some_length (file_at files path) c.in-Some.size (sym c.in-Some.is ∙ sized) in
     given_ask looked c.in_ok-note_look.ensures.names
     (given_as (ap (opened_by c.args.folder.now) (sym there.1)) (c.enter_folder.ensures.gives files there.0 (holds_later c.in_ok-size.ensures.asks.stays h) there.1 there.2))
@@ -43,9 +43,9 @@ returns-in-None-clause-gives g c = λ files h.
     let before = world_of c.args.self.now.store.now in
     let sized : c.in_ok-size.size ≡ option_map length (file_at files path) =
     c.in_ok-size.ensures.size h.steady ∙ ap (λ fs. option_map length (file_at fs c.deref.result.now)) h.files ∙ ap (λ p. option_map length (file_at files p)) (c.deref.ensures ∙ c.in_ok-file.ensures) in
-    let looked : world_of c.note_look.new.self ≡ looking before path (is_some (file_at files path)) =
-    c.in_ok-note_look.ensures.world ∙ ap (λ p. looking before p c.is_some.result) (c.deref-2.ensures ∙ c.in_ok-file.ensures)
-    ∙ ap (looking before path) (c.is_some.ensures ∙ found_length (file_at files path) c.in_ok-size.size sized) in
+    let looked : world_of c.note_look.new.self ≡ world_after_look before path (is_some (file_at files path)) =
+    c.in_ok-note_look.ensures.world ∙ ap (λ p. world_after_look before p c.is_some.result) (c.deref-2.ensures ∙ c.in_ok-file.ensures)
+    ∙ ap (world_after_look before path) (c.is_some.ensures ∙ found_length (file_at files path) c.in_ok-size.size sized) in
     given_ask looked c.in_ok-note_look.ensures.names
     (given_as (ap (opened_by c.args.folder.now) (sym (none_length (file_at files path) (sym c.in-None.is ∙ sized))))
     (given_as (ap (λ p. deed (refuse refusals.FileMissing p)) (c.deref-in-None.ensures ∙ c.in_ok-file.ensures))

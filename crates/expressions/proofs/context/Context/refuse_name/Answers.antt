@@ -1,5 +1,5 @@
 use Rattle.std.proofs.Common.{List, ℕ, ap, subst, ◌∙◌}
-use Rattle.arguments.specs.Rules.{broken}
+use Rattle.arguments.specs.Rules.{breach_message}
 use Rattle.arguments.specs.declared.rule.Rule.TheVariants as rules
 use Rattle.support.specs.declared.faults.refusal.Refusal.TheVariants as refusals
 use Rattle.world.specs.Answering.{Refuses}
@@ -13,4 +13,4 @@ returns-in_err-detail-clause-refuses g c = λ within. refuses_none _ _ c.from_re
 pub returns-clause-refuses : goal.returns-clause-refuses
 returns-clause-refuses g c = λ within.
     subst (λ (d : List ℕ). Refuses (fault_on c.args.self.now c.args.line refusals.Arguments d) c.refuse.result)
-    (c.as_str.ensures.value ∙ c.in_ok-detail.ensures ∙ ap (broken rules.IsSettable) (c.name-name.ensures within)) c.refuse.ensures
+    (c.as_str.ensures.value ∙ c.in_ok-detail.ensures ∙ ap (breach_message rules.IsSettable) (c.name-name.ensures within)) c.refuse.ensures

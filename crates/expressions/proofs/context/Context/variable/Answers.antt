@@ -1,6 +1,6 @@
 use Rattle.std.proofs.Common.{ap, sym, ◌∙◌}
 use Rattle.world.specs.Store.{kept_variables}
-use Rattle.expressions.specs.Forms.{known, variable, variable_by}
+use Rattle.expressions.specs.Forms.{known_value, variable, variable_by}
 use Rattle.expressions.proofs.Evaluating.{given_as, given_none, given_read, given_same}
 use Rattle.expressions.proofs.context.Context.variable.Goals as goal
 
@@ -26,4 +26,4 @@ returns-clause-gives g c = λ within files h.
     let same = ap (kept_variables c.args.self.now.store.now.names c.args.self.now.store.now.slots) (sym (c.name-name.ensures within)) in
     given_as (ap (variable c.args.line) (c.name-name.ensures within))
     (given_as (ap (λ b. variable_by b c.args.line name) (sym c.if-is_predefined.false ∙ c.is_predefined.ensures))
-    (given_read (given_as (ap (known c.args.line name) (c.in_ok-value.ensures within ∙ same)) (c.require_known.ensures.gives files h))))
+    (given_read (given_as (ap (known_value c.args.line name) (c.in_ok-value.ensures within ∙ same)) (c.require_known.ensures.gives files h))))

@@ -1,5 +1,5 @@
 use Rattle.std.proofs.Common.{ap, sym, ◌∙◌}
-use Rattle.expressions.specs.Forms.{known, variable_by}
+use Rattle.expressions.specs.Forms.{known_value, variable_by}
 use Rattle.expressions.proofs.Evaluating.{given_as, given_none, given_read}
 use Rattle.expressions.proofs.context.Context.variable_at.Goals as goal
 
@@ -15,4 +15,4 @@ returns-in_err-value-clause-gives g c = λ files h.
 pub returns-clause-gives : goal.returns-clause-gives
 returns-clause-gives g c = λ files h.
     given_as (ap (λ b. variable_by b c.args.line c.args.name.now) (sym c.if-is_predefined.false ∙ c.is_predefined.ensures))
-    (given_read (given_as (ap (known c.args.line c.args.name.now) c.in_ok-value.ensures) (c.require_known.ensures.gives files h)))
+    (given_read (given_as (ap (known_value c.args.line c.args.name.now) c.in_ok-value.ensures) (c.require_known.ensures.gives files h)))

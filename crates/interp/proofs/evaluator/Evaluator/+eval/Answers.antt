@@ -18,8 +18,8 @@ use Rattle.arguments.specs.Arguments.{arguments_data, no_arguments}
 use Rattle.world.specs.Plan.{ruled, next}
 use Rattle.interp.specs.Expressions.{arguments_of, chain_of, entries_of, link_of, links_of, method_of, value_of, values_of}
 use Rattle.operations.specs.declared.operators.logic.Left.{Left}
-use Rattle.expressions.specs.Forms.{chosen, combined, listed, paired, unless_decided, variable}
-use Rattle.expressions.specs.declared.meaning.Meaning.{Meaning}
+use Rattle.expressions.specs.Forms.{ternary_value, operator_value, list_value, dictionary_value, unless_decided, variable}
+use Rattle.expressions.specs.declared.meaning.InfixOperator.{InfixOperator}
 use Rattle.interp.specs.Operations.{left_view}
 use Rattle.interp.specs.declared.halt.Halt.TheVariants as halts
 use Rattle.interp.specs.Parts.{above, above_number, above_entry, above_argument, above_operand, above_link}
@@ -159,7 +159,7 @@ eval_other-returns-in-Some-true-clause-gives g t' c = λ files left ts hold read
     let value = (c.in_ok-value-in-Ternary.ensures.gives files left ts hold reads).comes in
     comes_as (ap (value_of (folder left)) (sym (opened reads c.args.node c.index.result.now (flat.Ternary t.test t.yes t.no t.line) c.requires.here c.index.ensures t.is)))
     (comes_then value
-    (comes_as (ap (λ (o : Option Bool). chosen t.line o (is_disabler (data_of c.in_ok-value-in-Ternary.value)) (ruled (value_of (folder left) (tree_at ts t.yes))) (ruled (value_of (folder left) (tree_at ts t.no)))) (sym (sym c.in-Some-true.ensures ∙ ap Some c.in-Some-true.field-0-test)))
+    (comes_as (ap (λ (o : Option Bool). ternary_value t.line o (is_disabler (data_of c.in_ok-value-in-Ternary.value)) (ruled (value_of (folder left) (tree_at ts t.yes))) (ruled (value_of (folder left) (tree_at ts t.no)))) (sym (sym c.in-Some-true.ensures ∙ ap Some c.in-Some-true.field-0-test)))
     (c.eval-in-Some-true.ensures.gives files left ts value.holds (reads_on reads value.gives.written.names))))
 
 pub eval_other-returns-in-Some-false-clause-gives : goal.eval_other-returns-in-Some-false-clause-gives
@@ -168,7 +168,7 @@ eval_other-returns-in-Some-false-clause-gives g t' c = λ files left ts hold rea
     let value = (c.in_ok-value-in-Ternary.ensures.gives files left ts hold reads).comes in
     comes_as (ap (value_of (folder left)) (sym (opened reads c.args.node c.index.result.now (flat.Ternary t.test t.yes t.no t.line) c.requires.here c.index.ensures t.is)))
     (comes_then value
-    (comes_as (ap (λ (o : Option Bool). chosen t.line o (is_disabler (data_of c.in_ok-value-in-Ternary.value)) (ruled (value_of (folder left) (tree_at ts t.yes))) (ruled (value_of (folder left) (tree_at ts t.no)))) (sym (sym c.in-Some-false.ensures ∙ ap Some c.in-Some-false.field-0-test)))
+    (comes_as (ap (λ (o : Option Bool). ternary_value t.line o (is_disabler (data_of c.in_ok-value-in-Ternary.value)) (ruled (value_of (folder left) (tree_at ts t.yes))) (ruled (value_of (folder left) (tree_at ts t.no)))) (sym (sym c.in-Some-false.ensures ∙ ap Some c.in-Some-false.field-0-test)))
     (c.eval-in-Some-false.ensures.gives files left ts value.holds (reads_on reads value.gives.written.names))))
 
 pub eval_other-returns-in_err-refuse_choice-in-None-clause-gives : goal.eval_other-returns-in_err-refuse_choice-in-None-clause-gives
@@ -176,7 +176,7 @@ eval_other-returns-in_err-refuse_choice-in-None-clause-gives g t' c = λ files l
     let t = c.in-Ternary in
     let value = (c.in_ok-value-in-Ternary.ensures.gives files left ts hold reads).comes in
     comes_as (ap (value_of (folder left)) (sym (opened reads c.args.node c.index.result.now (flat.Ternary t.test t.yes t.no t.line) c.requires.here c.index.ensures t.is)))
-    (comes_then value (comes_as (ap (λ (o : Option Bool). chosen t.line o (is_disabler (data_of c.in_ok-value-in-Ternary.value)) (ruled (value_of (folder left) (tree_at ts t.yes))) (ruled (value_of (folder left) (tree_at ts t.no)))) c.in-None.ensures)
+    (comes_then value (comes_as (ap (λ (o : Option Bool). ternary_value t.line o (is_disabler (data_of c.in_ok-value-in-Ternary.value)) (ruled (value_of (folder left) (tree_at ts t.yes))) (ruled (value_of (folder left) (tree_at ts t.no)))) c.in-None.ensures)
     (comes_last (c.in_err-refuse_choice-in-None.ensures.gives files value.holds) c.from_residual-in_err-refuse_choice-in-None.ensures.1)))
 
 pub eval_other-returns-in-Ternary-clause-gives : goal.eval_other-returns-in-Ternary-clause-gives
@@ -184,7 +184,7 @@ eval_other-returns-in-Ternary-clause-gives g t' c = λ files left ts hold reads.
     let t = c.in-Ternary in
     let value = (c.in_ok-value-in-Ternary.ensures.gives files left ts hold reads).comes in
     comes_given (given_as (ap (value_of (folder left)) (sym (opened reads c.args.node c.index.result.now (flat.Ternary t.test t.yes t.no t.line) c.requires.here c.index.ensures t.is)))
-    (given_then value (given_as (ap (λ (o : Option Bool). chosen t.line o (is_disabler (data_of c.in_ok-value-in-Ternary.value)) (ruled (value_of (folder left) (tree_at ts t.yes))) (ruled (value_of (folder left) (tree_at ts t.no)))) c.in-None.ensures) (c.in_ok-refuse_choice-in-None.ensures.gives files value.holds))))
+    (given_then value (given_as (ap (λ (o : Option Bool). ternary_value t.line o (is_disabler (data_of c.in_ok-value-in-Ternary.value)) (ruled (value_of (folder left) (tree_at ts t.yes))) (ruled (value_of (folder left) (tree_at ts t.no)))) c.in-None.ensures) (c.in_ok-refuse_choice-in-None.ensures.gives files value.holds))))
 
 pub eval_node-returns-in_err-variable-in-Name-clause-gives : goal.eval_node-returns-in_err-variable-in-Name-clause-gives
 eval_node-returns-in_err-variable-in-Name-clause-gives g t c = λ files left ts hold reads. let number = (name_of reads c.in-Name.number (parts_at c.args.code.now c.args.node c.index.result.now (flat.Name c.in-Name.number c.in-Name.line) c.requires.here c.index.ensures c.in-Name.is)) in comes_as (ap (value_of (folder left)) (sym (opened reads c.args.node c.index.result.now (flat.Name c.in-Name.number c.in-Name.line) c.requires.here c.index.ensures c.in-Name.is))) (comes_as (ap (variable c.in-Name.line) number.1) (comes_last (c.in_err-variable-in-Name.ensures.gives number.0 files hold) c.from_residual.ensures.1))
@@ -203,12 +203,12 @@ list-loop-item-init g t c = record { same = (refl, (refl, (refl, refl))); tree =
 
 pub list-returns-in_err-value-clause-gives : goal.list-returns-in_err-value-clause-gives
 list-returns-in_err-value-clause-gives g t c = λ files left ts hold reads.
-    let led = leads_as (ap (λ ys. next (values_of (folder left) (items_of c.loop-item.values.items) (expressions ys)) (listed c.args.line)) (next_item (tree_at ts) c.args.items.now c.loop-item.item-index 0 c.loop-item-test.true)) (c.loop-item.invariant.done files left ts hold reads) in
+    let led = leads_as (ap (λ ys. next (values_of (folder left) (items_of c.loop-item.values.items) (expressions ys)) (list_value c.args.line)) (next_item (tree_at ts) c.args.items.now c.loop-item.item-index 0 c.loop-item-test.true)) (c.loop-item.invariant.done files left ts hold reads) in
     comes_end led (comes_halt_inside (c.in_err-value.ensures.gives files left ts led.holds (reads_on reads led.continues.written.names)) c.from_residual.ensures.1)
 
 pub list-returns-in_err-push-clause-gives : goal.list-returns-in_err-push-clause-gives
 list-returns-in_err-push-clause-gives g t c = λ files left ts hold reads.
-    let led = leads_as (ap (λ ys. next (values_of (folder left) (items_of c.loop-item.values.items) (expressions ys)) (listed c.args.line)) (next_item (tree_at ts) c.args.items.now c.loop-item.item-index 0 c.loop-item-test.true)) (c.loop-item.invariant.done files left ts hold reads) in
+    let led = leads_as (ap (λ ys. next (values_of (folder left) (items_of c.loop-item.values.items) (expressions ys)) (list_value c.args.line)) (next_item (tree_at ts) c.args.items.now c.loop-item.item-index 0 c.loop-item-test.true)) (c.loop-item.invariant.done files left ts hold reads) in
     let more = leads_inside led (c.in_ok-value.ensures.gives files left ts led.holds (reads_on reads led.continues.written.names)).comes in
     comes_end more (comes_none more.holds c.from_residual-in_err-push.ensures.1)
 
@@ -218,19 +218,19 @@ list-loop-item-preserved g t c = record {
   tree = search rules;
   out = search rules;
   done = λ files left ts hold reads.
-      let led = leads_as (ap (λ ys. next (values_of (folder left) (items_of c.loop-item.values.items) (expressions ys)) (listed c.args.line)) (next_item (tree_at ts) c.args.items.now c.loop-item.item-index 0 c.loop-item-test.true)) (c.loop-item.invariant.done files left ts hold reads) in
+      let led = leads_as (ap (λ ys. next (values_of (folder left) (items_of c.loop-item.values.items) (expressions ys)) (list_value c.args.line)) (next_item (tree_at ts) c.args.items.now c.loop-item.item-index 0 c.loop-item-test.true)) (c.loop-item.invariant.done files left ts hold reads) in
       let more = ap items_of c.in_ok-push.ensures.items ∙ items_of-append c.loop-item.values.items (c.in_ok-value.value ∷ []) in
       rw more (leads_inside led (c.in_ok-value.ensures.gives files left ts led.holds (reads_on reads led.continues.written.names)).comes);
 }
 
 pub list-returns-in_err-list-clause-gives : goal.list-returns-in_err-list-clause-gives
 list-returns-in_err-list-clause-gives g t c = λ files left ts hold reads.
-    let led = leads_as (ap (λ ys. next (values_of (folder left) (items_of c.loop-item.values.items) (expressions ys)) (listed c.args.line)) (no_item (tree_at ts) c.args.items.now c.loop-item.item-index c.loop-item-test.false)) (c.loop-item.invariant.done files left ts hold reads) in
+    let led = leads_as (ap (λ ys. next (values_of (folder left) (items_of c.loop-item.values.items) (expressions ys)) (list_value c.args.line)) (no_item (tree_at ts) c.args.items.now c.loop-item.item-index c.loop-item-test.false)) (c.loop-item.invariant.done files left ts hold reads) in
     comes_end led (comes_then {view = λ (ds : Items). ds} {x = items_of c.loop-item.values.items} (given_give led.holds refl) (comes_last (c.in_err-list.ensures.gives files led.holds) c.from_residual-in_err-list.ensures.1))
 
 pub list-returns-clause-gives : goal.list-returns-clause-gives
 list-returns-clause-gives g t c = λ files left ts hold reads.
-    let led = leads_as (ap (λ ys. next (values_of (folder left) (items_of c.loop-item.values.items) (expressions ys)) (listed c.args.line)) (no_item (tree_at ts) c.args.items.now c.loop-item.item-index c.loop-item-test.false)) (c.loop-item.invariant.done files left ts hold reads) in
+    let led = leads_as (ap (λ ys. next (values_of (folder left) (items_of c.loop-item.values.items) (expressions ys)) (list_value c.args.line)) (no_item (tree_at ts) c.args.items.now c.loop-item.item-index c.loop-item-test.false)) (c.loop-item.invariant.done files left ts hold reads) in
     comes_given (leads_end led (given_then {view = λ (ds : Items). ds} {x = items_of c.loop-item.values.items} (given_give led.holds refl) (c.in_ok-list.ensures.gives files led.holds)))
 
 pub dictionary-loop-entry-init : goal.dictionary-loop-entry-init
@@ -238,18 +238,18 @@ dictionary-loop-entry-init g t c = record { same = (refl, (refl, (refl, refl)));
 
 pub dictionary-returns-in_err-key-clause-gives : goal.dictionary-returns-in_err-key-clause-gives
 dictionary-returns-in_err-key-clause-gives g t c = λ files left ts hold reads.
-    let led = leads_as (ap (λ ys. next (entries_of (folder left) (pairs_of c.loop-entry.pairs.items) (entries ys)) (paired c.args.line)) (next_item (entry_at ts) c.args.entries.now c.loop-entry.entry-index (record { key = 0; value = 0 }) c.loop-entry-test.true)) (c.loop-entry.invariant.done files left ts hold reads) in
+    let led = leads_as (ap (λ ys. next (entries_of (folder left) (pairs_of c.loop-entry.pairs.items) (entries ys)) (dictionary_value c.args.line)) (next_item (entry_at ts) c.args.entries.now c.loop-entry.entry-index (record { key = 0; value = 0 }) c.loop-entry-test.true)) (c.loop-entry.invariant.done files left ts hold reads) in
     comes_end led (comes_halt_inside (c.in_err-key.ensures.gives files left ts led.holds (reads_on reads led.continues.written.names)) c.from_residual.ensures.1)
 
 pub dictionary-returns-in_err-value-clause-gives : goal.dictionary-returns-in_err-value-clause-gives
 dictionary-returns-in_err-value-clause-gives g t c = λ files left ts hold reads.
-    let led = leads_as (ap (λ ys. next (entries_of (folder left) (pairs_of c.loop-entry.pairs.items) (entries ys)) (paired c.args.line)) (next_item (entry_at ts) c.args.entries.now c.loop-entry.entry-index (record { key = 0; value = 0 }) c.loop-entry-test.true)) (c.loop-entry.invariant.done files left ts hold reads) in
+    let led = leads_as (ap (λ ys. next (entries_of (folder left) (pairs_of c.loop-entry.pairs.items) (entries ys)) (dictionary_value c.args.line)) (next_item (entry_at ts) c.args.entries.now c.loop-entry.entry-index (record { key = 0; value = 0 }) c.loop-entry-test.true)) (c.loop-entry.invariant.done files left ts hold reads) in
     let keyed = leads_inside led (c.in_ok-key.ensures.gives files left ts led.holds (reads_on reads led.continues.written.names)).comes in
     comes_end keyed (comes_halt_inside (c.in_err-value.ensures.gives files left ts keyed.holds (reads_on reads keyed.continues.written.names)) c.from_residual-in_err-value.ensures.1)
 
 pub dictionary-returns-in_err-push-clause-gives : goal.dictionary-returns-in_err-push-clause-gives
 dictionary-returns-in_err-push-clause-gives g t c = λ files left ts hold reads.
-    let led = leads_as (ap (λ ys. next (entries_of (folder left) (pairs_of c.loop-entry.pairs.items) (entries ys)) (paired c.args.line)) (next_item (entry_at ts) c.args.entries.now c.loop-entry.entry-index (record { key = 0; value = 0 }) c.loop-entry-test.true)) (c.loop-entry.invariant.done files left ts hold reads) in
+    let led = leads_as (ap (λ ys. next (entries_of (folder left) (pairs_of c.loop-entry.pairs.items) (entries ys)) (dictionary_value c.args.line)) (next_item (entry_at ts) c.args.entries.now c.loop-entry.entry-index (record { key = 0; value = 0 }) c.loop-entry-test.true)) (c.loop-entry.invariant.done files left ts hold reads) in
     let keyed = leads_inside led (c.in_ok-key.ensures.gives files left ts led.holds (reads_on reads led.continues.written.names)).comes in
     let more = leads_inside keyed (c.in_ok-value.ensures.gives files left ts keyed.holds (reads_on reads keyed.continues.written.names)).comes in
     comes_end more (comes_none more.holds c.from_residual-in_err-push.ensures.1)
@@ -260,7 +260,7 @@ dictionary-loop-entry-preserved g t c = record {
   tree = search rules;
   out = search rules;
   done = λ files left ts hold reads.
-      let led = leads_as (ap (λ ys. next (entries_of (folder left) (pairs_of c.loop-entry.pairs.items) (entries ys)) (paired c.args.line)) (next_item (entry_at ts) c.args.entries.now c.loop-entry.entry-index (record { key = 0; value = 0 }) c.loop-entry-test.true)) (c.loop-entry.invariant.done files left ts hold reads) in
+      let led = leads_as (ap (λ ys. next (entries_of (folder left) (pairs_of c.loop-entry.pairs.items) (entries ys)) (dictionary_value c.args.line)) (next_item (entry_at ts) c.args.entries.now c.loop-entry.entry-index (record { key = 0; value = 0 }) c.loop-entry-test.true)) (c.loop-entry.invariant.done files left ts hold reads) in
       let keyed = leads_inside led (c.in_ok-key.ensures.gives files left ts led.holds (reads_on reads led.continues.written.names)).comes in
       let more = ap pairs_of c.in_ok-push.ensures.items ∙ pairs_of-push c.loop-entry.pairs.items c.in_ok-key.key c.in_ok-value.value in
       rw more (leads_inside keyed (c.in_ok-value.ensures.gives files left ts keyed.holds (reads_on reads keyed.continues.written.names)).comes);
@@ -268,12 +268,12 @@ dictionary-loop-entry-preserved g t c = record {
 
 pub dictionary-returns-in_err-pair-clause-gives : goal.dictionary-returns-in_err-pair-clause-gives
 dictionary-returns-in_err-pair-clause-gives g t c = λ files left ts hold reads.
-    let led = leads_as (ap (λ ys. next (entries_of (folder left) (pairs_of c.loop-entry.pairs.items) (entries ys)) (paired c.args.line)) (no_item (entry_at ts) c.args.entries.now c.loop-entry.entry-index c.loop-entry-test.false)) (c.loop-entry.invariant.done files left ts hold reads) in
+    let led = leads_as (ap (λ ys. next (entries_of (folder left) (pairs_of c.loop-entry.pairs.items) (entries ys)) (dictionary_value c.args.line)) (no_item (entry_at ts) c.args.entries.now c.loop-entry.entry-index c.loop-entry-test.false)) (c.loop-entry.invariant.done files left ts hold reads) in
     comes_end led (comes_then {view = λ (ps : List (Data × Data)). ps} {x = pairs_of c.loop-entry.pairs.items} (given_give led.holds refl) (comes_last (c.in_err-pair.ensures.gives files led.holds) c.from_residual-in_err-pair.ensures.1))
 
 pub dictionary-returns-clause-gives : goal.dictionary-returns-clause-gives
 dictionary-returns-clause-gives g t c = λ files left ts hold reads.
-    let led = leads_as (ap (λ ys. next (entries_of (folder left) (pairs_of c.loop-entry.pairs.items) (entries ys)) (paired c.args.line)) (no_item (entry_at ts) c.args.entries.now c.loop-entry.entry-index c.loop-entry-test.false)) (c.loop-entry.invariant.done files left ts hold reads) in
+    let led = leads_as (ap (λ ys. next (entries_of (folder left) (pairs_of c.loop-entry.pairs.items) (entries ys)) (dictionary_value c.args.line)) (no_item (entry_at ts) c.args.entries.now c.loop-entry.entry-index c.loop-entry-test.false)) (c.loop-entry.invariant.done files left ts hold reads) in
     comes_given (leads_end led (given_then {view = λ (ps : List (Data × Data)). ps} {x = pairs_of c.loop-entry.pairs.items} (given_give led.holds refl) (c.in_ok-pair.ensures.gives files led.holds)))
 
 pub chain-returns-in_err-value-clause-gives : goal.chain-returns-in_err-value-clause-gives
@@ -285,13 +285,13 @@ chain-loop-operand-init g t c = record { same = search rules; tree = search rule
 pub chain-returns-in_err-right-in-Combines-clause-gives : goal.chain-returns-in_err-right-in-Combines-clause-gives
 chain-returns-in_err-right-in-Combines-clause-gives g t c = λ files left ts hold reads.
     let led = leads_as (ap (λ ys. chain_of (folder left) c.args.line (data_of c.loop-operand.value) (operands ys)) (next_item (operand_at ts) c.args.others.now c.loop-operand.operand-index (record { operator = flatop.Or; value = 0 }) c.loop-operand-test.true)) (c.loop-operand.invariant.done files left ts hold reads) in
-    let half = leads_as (ap (λ (m : Meaning). next (combined c.args.line m (data_of c.loop-operand.value) (ruled (value_of (folder left) (tree_at ts (get_or c.args.others.now c.loop-operand.operand-index (record { operator = flatop.Or; value = 0 })).value)))) (λ d. chain_of (folder left) c.args.line d (operands (map (operand_at ts) (drop (c.loop-operand.operand-index + 1) c.args.others.now))))) (sym c.in-Combines.ensures)) led in
+    let half = leads_as (ap (λ (m : InfixOperator). next (operator_value c.args.line m (data_of c.loop-operand.value) (ruled (value_of (folder left) (tree_at ts (get_or c.args.others.now c.loop-operand.operand-index (record { operator = flatop.Or; value = 0 })).value)))) (λ d. chain_of (folder left) c.args.line d (operands (map (operand_at ts) (drop (c.loop-operand.operand-index + 1) c.args.others.now))))) (sym c.in-Combines.ensures)) led in
     comes_end half (comes_halt_inside (c.in_err-right-in-Combines.ensures.gives files left ts half.holds (reads_on reads half.continues.written.names)) c.from_residual-in_err-right-in-Combines.ensures.1)
 
 pub chain-returns-in_err-value-in-Combines-clause-gives : goal.chain-returns-in_err-value-in-Combines-clause-gives
 chain-returns-in_err-value-in-Combines-clause-gives g t c = λ files left ts hold reads.
     let led = leads_as (ap (λ ys. chain_of (folder left) c.args.line (data_of c.loop-operand.value) (operands ys)) (next_item (operand_at ts) c.args.others.now c.loop-operand.operand-index (record { operator = flatop.Or; value = 0 }) c.loop-operand-test.true)) (c.loop-operand.invariant.done files left ts hold reads) in
-    let half = leads_as (ap (λ (m : Meaning). next (combined c.args.line m (data_of c.loop-operand.value) (ruled (value_of (folder left) (tree_at ts (get_or c.args.others.now c.loop-operand.operand-index (record { operator = flatop.Or; value = 0 })).value)))) (λ d. chain_of (folder left) c.args.line d (operands (map (operand_at ts) (drop (c.loop-operand.operand-index + 1) c.args.others.now))))) (sym c.in-Combines.ensures)) led in
+    let half = leads_as (ap (λ (m : InfixOperator). next (operator_value c.args.line m (data_of c.loop-operand.value) (ruled (value_of (folder left) (tree_at ts (get_or c.args.others.now c.loop-operand.operand-index (record { operator = flatop.Or; value = 0 })).value)))) (λ d. chain_of (folder left) c.args.line d (operands (map (operand_at ts) (drop (c.loop-operand.operand-index + 1) c.args.others.now))))) (sym c.in-Combines.ensures)) led in
     let whole = leads_inside half (c.in_ok-right-in-Combines.ensures.gives files left ts half.holds (reads_on reads half.continues.written.names)).comes in
     comes_end whole (comes_stop (c.in_err-value-in-Combines.ensures.gives files whole.holds) c.from_residual-in_err-value-in-Combines.ensures.1)
 
@@ -302,7 +302,7 @@ chain-loop-operand-preserved-in-Combines g t c = record {
   out = search rules;
   done = λ files left ts hold reads.
       let led = leads_as (ap (λ ys. chain_of (folder left) c.args.line (data_of c.loop-operand.value) (operands ys)) (next_item (operand_at ts) c.args.others.now c.loop-operand.operand-index (record { operator = flatop.Or; value = 0 }) c.loop-operand-test.true)) (c.loop-operand.invariant.done files left ts hold reads) in
-      let half = leads_as (ap (λ (m : Meaning). next (combined c.args.line m (data_of c.loop-operand.value) (ruled (value_of (folder left) (tree_at ts (get_or c.args.others.now c.loop-operand.operand-index (record { operator = flatop.Or; value = 0 })).value)))) (λ d. chain_of (folder left) c.args.line d (operands (map (operand_at ts) (drop (c.loop-operand.operand-index + 1) c.args.others.now))))) (sym c.in-Combines.ensures)) led in
+      let half = leads_as (ap (λ (m : InfixOperator). next (operator_value c.args.line m (data_of c.loop-operand.value) (ruled (value_of (folder left) (tree_at ts (get_or c.args.others.now c.loop-operand.operand-index (record { operator = flatop.Or; value = 0 })).value)))) (λ d. chain_of (folder left) c.args.line d (operands (map (operand_at ts) (drop (c.loop-operand.operand-index + 1) c.args.others.now))))) (sym c.in-Combines.ensures)) led in
       let whole = leads_inside half (c.in_ok-right-in-Combines.ensures.gives files left ts half.holds (reads_on reads half.continues.written.names)).comes in
       leads_on whole (c.in_ok-value-in-Combines.ensures.gives files whole.holds);
 }
@@ -310,7 +310,7 @@ chain-loop-operand-preserved-in-Combines g t c = record {
 pub chain-returns-in_err-said-clause-gives : goal.chain-returns-in_err-said-clause-gives
 chain-returns-in_err-said-clause-gives g t c = λ files left ts hold reads.
     let led = leads_as (ap (λ ys. chain_of (folder left) c.args.line (data_of c.loop-operand.value) (operands ys)) (next_item (operand_at ts) c.args.others.now c.loop-operand.operand-index (record { operator = flatop.Or; value = 0 }) c.loop-operand-test.true)) (c.loop-operand.invariant.done files left ts hold reads) in
-    let half = leads_as (ap (λ (m : Meaning). next (combined c.args.line m (data_of c.loop-operand.value) (ruled (value_of (folder left) (tree_at ts (get_or c.args.others.now c.loop-operand.operand-index (record { operator = flatop.Or; value = 0 })).value)))) (λ d. chain_of (folder left) c.args.line d (operands (map (operand_at ts) (drop (c.loop-operand.operand-index + 1) c.args.others.now))))) (sym c.in-Connects.ensures)) led in
+    let half = leads_as (ap (λ (m : InfixOperator). next (operator_value c.args.line m (data_of c.loop-operand.value) (ruled (value_of (folder left) (tree_at ts (get_or c.args.others.now c.loop-operand.operand-index (record { operator = flatop.Or; value = 0 })).value)))) (λ d. chain_of (folder left) c.args.line d (operands (map (operand_at ts) (drop (c.loop-operand.operand-index + 1) c.args.others.now))))) (sym c.in-Connects.ensures)) led in
     comes_end half (comes_halt_inside {view = left_view} (comes_last {result = Err (halts.Stops c.in_err-said.field-0.0)} (c.in_err-said.ensures.gives files half.holds) refl) c.from_residual-in_err-said.ensures.1)
 
 pub chain-loop-operand-preserved-in-Decides : goal.chain-loop-operand-preserved-in-Decides
@@ -320,7 +320,7 @@ chain-loop-operand-preserved-in-Decides g t c = record {
   out = search rules;
   done = λ files left ts hold reads.
       let led = leads_as (ap (λ ys. chain_of (folder left) c.args.line (data_of c.loop-operand.value) (operands ys)) (next_item (operand_at ts) c.args.others.now c.loop-operand.operand-index (record { operator = flatop.Or; value = 0 }) c.loop-operand-test.true)) (c.loop-operand.invariant.done files left ts hold reads) in
-      let half = leads_as (ap (λ (m : Meaning). next (combined c.args.line m (data_of c.loop-operand.value) (ruled (value_of (folder left) (tree_at ts (get_or c.args.others.now c.loop-operand.operand-index (record { operator = flatop.Or; value = 0 })).value)))) (λ d. chain_of (folder left) c.args.line d (operands (map (operand_at ts) (drop (c.loop-operand.operand-index + 1) c.args.others.now))))) (sym c.in-Connects.ensures)) led in
+      let half = leads_as (ap (λ (m : InfixOperator). next (operator_value c.args.line m (data_of c.loop-operand.value) (ruled (value_of (folder left) (tree_at ts (get_or c.args.others.now c.loop-operand.operand-index (record { operator = flatop.Or; value = 0 })).value)))) (λ d. chain_of (folder left) c.args.line d (operands (map (operand_at ts) (drop (c.loop-operand.operand-index + 1) c.args.others.now))))) (sym c.in-Connects.ensures)) led in
       let one = leads_inside half (c.in_ok-said.ensures.gives files half.holds) in
       let said = leads_as (ap (λ (l : Left). next (unless_decided c.args.line (left_view l) (ruled (value_of (folder left) (tree_at ts (get_or c.args.others.now c.loop-operand.operand-index (record { operator = flatop.Or; value = 0 })).value)))) (λ d. chain_of (folder left) c.args.line d (operands (map (operand_at ts) (drop (c.loop-operand.operand-index + 1) c.args.others.now))))) c.in-Decides.is) one in
       leads_on said (given_give {view = λ (d : Data). d} one.holds refl);
@@ -329,7 +329,7 @@ chain-loop-operand-preserved-in-Decides g t c = record {
 pub chain-returns-in_err-right-clause-gives : goal.chain-returns-in_err-right-clause-gives
 chain-returns-in_err-right-clause-gives g t c = λ files left ts hold reads.
     let led = leads_as (ap (λ ys. chain_of (folder left) c.args.line (data_of c.loop-operand.value) (operands ys)) (next_item (operand_at ts) c.args.others.now c.loop-operand.operand-index (record { operator = flatop.Or; value = 0 }) c.loop-operand-test.true)) (c.loop-operand.invariant.done files left ts hold reads) in
-    let half = leads_as (ap (λ (m : Meaning). next (combined c.args.line m (data_of c.loop-operand.value) (ruled (value_of (folder left) (tree_at ts (get_or c.args.others.now c.loop-operand.operand-index (record { operator = flatop.Or; value = 0 })).value)))) (λ d. chain_of (folder left) c.args.line d (operands (map (operand_at ts) (drop (c.loop-operand.operand-index + 1) c.args.others.now))))) (sym c.in-Connects.ensures)) led in
+    let half = leads_as (ap (λ (m : InfixOperator). next (operator_value c.args.line m (data_of c.loop-operand.value) (ruled (value_of (folder left) (tree_at ts (get_or c.args.others.now c.loop-operand.operand-index (record { operator = flatop.Or; value = 0 })).value)))) (λ d. chain_of (folder left) c.args.line d (operands (map (operand_at ts) (drop (c.loop-operand.operand-index + 1) c.args.others.now))))) (sym c.in-Connects.ensures)) led in
     let one = leads_inside half (c.in_ok-said.ensures.gives files half.holds) in
     let said = leads_as (ap (λ (l : Left). next (unless_decided c.args.line (left_view l) (ruled (value_of (folder left) (tree_at ts (get_or c.args.others.now c.loop-operand.operand-index (record { operator = flatop.Or; value = 0 })).value)))) (λ d. chain_of (folder left) c.args.line d (operands (map (operand_at ts) (drop (c.loop-operand.operand-index + 1) c.args.others.now))))) c.in-Open.is) one in
     comes_end said (comes_halt_inside (c.in_err-right.ensures.gives files left ts said.holds (reads_on reads said.continues.written.names)) c.from_residual-in_err-right.ensures.1)
@@ -337,7 +337,7 @@ chain-returns-in_err-right-clause-gives g t c = λ files left ts hold reads.
 pub chain-returns-in_err-value-2-clause-gives : goal.chain-returns-in_err-value-2-clause-gives
 chain-returns-in_err-value-2-clause-gives g t c = λ files left ts hold reads.
     let led = leads_as (ap (λ ys. chain_of (folder left) c.args.line (data_of c.loop-operand.value) (operands ys)) (next_item (operand_at ts) c.args.others.now c.loop-operand.operand-index (record { operator = flatop.Or; value = 0 }) c.loop-operand-test.true)) (c.loop-operand.invariant.done files left ts hold reads) in
-    let half = leads_as (ap (λ (m : Meaning). next (combined c.args.line m (data_of c.loop-operand.value) (ruled (value_of (folder left) (tree_at ts (get_or c.args.others.now c.loop-operand.operand-index (record { operator = flatop.Or; value = 0 })).value)))) (λ d. chain_of (folder left) c.args.line d (operands (map (operand_at ts) (drop (c.loop-operand.operand-index + 1) c.args.others.now))))) (sym c.in-Connects.ensures)) led in
+    let half = leads_as (ap (λ (m : InfixOperator). next (operator_value c.args.line m (data_of c.loop-operand.value) (ruled (value_of (folder left) (tree_at ts (get_or c.args.others.now c.loop-operand.operand-index (record { operator = flatop.Or; value = 0 })).value)))) (λ d. chain_of (folder left) c.args.line d (operands (map (operand_at ts) (drop (c.loop-operand.operand-index + 1) c.args.others.now))))) (sym c.in-Connects.ensures)) led in
     let one = leads_inside half (c.in_ok-said.ensures.gives files half.holds) in
     let said = leads_as (ap (λ (l : Left). next (unless_decided c.args.line (left_view l) (ruled (value_of (folder left) (tree_at ts (get_or c.args.others.now c.loop-operand.operand-index (record { operator = flatop.Or; value = 0 })).value)))) (λ d. chain_of (folder left) c.args.line d (operands (map (operand_at ts) (drop (c.loop-operand.operand-index + 1) c.args.others.now))))) c.in-Open.is) one in
     let whole = leads_inside said (c.in_ok-right.ensures.gives files left ts said.holds (reads_on reads said.continues.written.names)).comes in
@@ -350,7 +350,7 @@ chain-loop-operand-preserved g t c = record {
   out = search rules;
   done = λ files left ts hold reads.
       let led = leads_as (ap (λ ys. chain_of (folder left) c.args.line (data_of c.loop-operand.value) (operands ys)) (next_item (operand_at ts) c.args.others.now c.loop-operand.operand-index (record { operator = flatop.Or; value = 0 }) c.loop-operand-test.true)) (c.loop-operand.invariant.done files left ts hold reads) in
-      let half = leads_as (ap (λ (m : Meaning). next (combined c.args.line m (data_of c.loop-operand.value) (ruled (value_of (folder left) (tree_at ts (get_or c.args.others.now c.loop-operand.operand-index (record { operator = flatop.Or; value = 0 })).value)))) (λ d. chain_of (folder left) c.args.line d (operands (map (operand_at ts) (drop (c.loop-operand.operand-index + 1) c.args.others.now))))) (sym c.in-Connects.ensures)) led in
+      let half = leads_as (ap (λ (m : InfixOperator). next (operator_value c.args.line m (data_of c.loop-operand.value) (ruled (value_of (folder left) (tree_at ts (get_or c.args.others.now c.loop-operand.operand-index (record { operator = flatop.Or; value = 0 })).value)))) (λ d. chain_of (folder left) c.args.line d (operands (map (operand_at ts) (drop (c.loop-operand.operand-index + 1) c.args.others.now))))) (sym c.in-Connects.ensures)) led in
       let one = leads_inside half (c.in_ok-said.ensures.gives files half.holds) in
       let said = leads_as (ap (λ (l : Left). next (unless_decided c.args.line (left_view l) (ruled (value_of (folder left) (tree_at ts (get_or c.args.others.now c.loop-operand.operand-index (record { operator = flatop.Or; value = 0 })).value)))) (λ d. chain_of (folder left) c.args.line d (operands (map (operand_at ts) (drop (c.loop-operand.operand-index + 1) c.args.others.now))))) c.in-Open.is) one in
       let whole = leads_inside said (c.in_ok-right.ensures.gives files left ts said.holds (reads_on reads said.continues.written.names)).comes in

@@ -12,7 +12,7 @@ use Rattle.expressions.specs.Contexts.{Leads, Same, stand_of}
 use Rattle.interp.specs.Bounds.{Bounds}
 use Rattle.interp.specs.Evaluates.{Reads}
 use Rattle.interp.specs.Expressions.{value_of, values_of, entries_of, arguments_of, links_of, chain_of}
-use Rattle.expressions.specs.Forms.{listed, paired}
+use Rattle.expressions.specs.Forms.{list_value, dictionary_value}
 use Rattle.interp.specs.Folders.{folder}
 use Rattle.interp.specs.Parts.{above, above_number, above_entry, above_argument, above_operand, above_link}
 use Rattle.interp.proofs.evaluator.Evaluator.+eval.Given as goal
@@ -61,7 +61,7 @@ invariant-list-loop-item g l =
       out : (heard l.self.context.out.now).failures ≡ (heard l.fn.self.context.out.now).failures;
       done : (files : Files) (left : Bounds) (ts : List ExpressionTree) → Holds (see l.fn.self.context.tree.now) files → Reads ts l.code l.fn.self.context.store.now.names
           → Leads files (value_of (folder left) (ListTree (expressions (map (tree_at ts) l.fn.items)) l.fn.line)) (stand_of see heard l.fn.self.context)
-          (next (values_of (folder left) (items_of l.values.items) (expressions (map (tree_at ts) (drop l.item-index l.items)))) (listed l.line)) (stand_of see heard l.self.context);
+          (next (values_of (folder left) (items_of l.values.items) (expressions (map (tree_at ts) (drop l.item-index l.items)))) (list_value l.line)) (stand_of see heard l.self.context);
     }
 
 abbrev pub invariant-dictionary-loop-entry : goal.invariant-dictionary-loop-entry
@@ -74,7 +74,7 @@ invariant-dictionary-loop-entry g l =
       out : (heard l.self.context.out.now).failures ≡ (heard l.fn.self.context.out.now).failures;
       done : (files : Files) (left : Bounds) (ts : List ExpressionTree) → Holds (see l.fn.self.context.tree.now) files → Reads ts l.code l.fn.self.context.store.now.names
           → Leads files (value_of (folder left) (DictionaryTree (entries (map (entry_at ts) l.fn.entries)) l.fn.line)) (stand_of see heard l.fn.self.context)
-          (next (entries_of (folder left) (pairs_of l.pairs.items) (entries (map (entry_at ts) (drop l.entry-index l.entries)))) (paired l.line)) (stand_of see heard l.self.context);
+          (next (entries_of (folder left) (pairs_of l.pairs.items) (entries (map (entry_at ts) (drop l.entry-index l.entries)))) (dictionary_value l.line)) (stand_of see heard l.self.context);
     }
 
 abbrev pub invariant-arguments-loop-argument : goal.invariant-arguments-loop-argument

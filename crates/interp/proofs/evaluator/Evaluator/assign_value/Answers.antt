@@ -1,6 +1,6 @@
 use Rattle.std.proofs.Common.{ap, refl, ◌∙◌}
 use Rattle.values.specs.View.{data_of}
-use Rattle.expressions.specs.Assignments.{assigned}
+use Rattle.expressions.specs.Assignments.{variable_assignment}
 use Rattle.interp.proofs.Coming.{comes_given, comes_halt, comes_stop, comes_then}
 use Rattle.expressions.proofs.Evaluating.{given_as, given_give, given_then}
 use Rattle.interp.proofs.Spelling.{name_kept}
@@ -21,7 +21,7 @@ returns-in_err-assign-clause-gives g c = λ within files left ts hold reads.
     let o = c.in_ok-own.ensures.gives files e.holds in
     let k = name_kept e.gives.written.names c.args.name within in
     let n = name_kept o.gives.written.names c.args.name k.0 in
-    comes_then e (comes_then o (comes_stop (given_as (ap (λ n. assigned c.args.line n (data_of c.in_ok-own.own)) (n.1 ∙ k.1)) (c.in_err-assign.ensures.gives n.0 files o.holds)) c.from_residual-in_err-assign.ensures.1))
+    comes_then e (comes_then o (comes_stop (given_as (ap (λ n. variable_assignment c.args.line n (data_of c.in_ok-own.own)) (n.1 ∙ k.1)) (c.in_err-assign.ensures.gives n.0 files o.holds)) c.from_residual-in_err-assign.ensures.1))
 
 pub returns-clause-gives : goal.returns-clause-gives
 returns-clause-gives g c = λ within files left ts hold reads.
@@ -30,4 +30,4 @@ returns-clause-gives g c = λ within files left ts hold reads.
     let k = name_kept e.gives.written.names c.args.name within in
     let n = name_kept o.gives.written.names c.args.name k.0 in
     let a = c.in_ok-assign.ensures.gives n.0 files o.holds in
-    comes_given (given_then e (given_then o (given_then (given_as (ap (λ n. assigned c.args.line n (data_of c.in_ok-own.own)) (n.1 ∙ k.1)) a) (given_give a.holds refl))))
+    comes_given (given_then e (given_then o (given_then (given_as (ap (λ n. variable_assignment c.args.line n (data_of c.in_ok-own.own)) (n.1 ∙ k.1)) a) (given_give a.holds refl))))

@@ -20,7 +20,7 @@ use Rattle.interp.specs.Folders.{folder}
 use Rattle.interp.specs.Frames.{above_branch, behind_all, one_round, round_by}
 use Rattle.interp.specs.Parts.{above}
 use Rattle.interp.specs.Statements.{branches_of, do_all, does, expression_statement, rounds_within}
-use Rattle.expressions.specs.Rounds.{looped}
+use Rattle.expressions.specs.Rounds.{loop_rounds}
 use Rattle.interp.specs.declared.block.Block.TheVariants.{Part}
 use Rattle.interp.proofs.Spelling.{branches_reach, node_is, parts_of, spelled}
 use Rattle.interp.proofs.Halting.{begun_as}
@@ -126,9 +126,9 @@ returns-in-Foreach-clause-gives g c = λ few files rests table hold stacked made
     let l = c.in-Foreach.node.value in
     begun_as (ap (λ (x : ForeachNode). behind_all rests (next (ruled (value_of (folder (bounds few c.args.left)) (tree_at (expressions_by table code) x.list)))
     (λ d. rounds_within few x.line (round_by table code (bounds few c.args.left) record { line = x.line; first = x.first; second = x.second; body = Part c.args.number 0 })
-    (looped (option_map (name_at table) x.second) d)))) c.deref-node-in-Foreach.ensures
+    (loop_rounds (option_map (name_at table) x.second) d)))) c.deref-node-in-Foreach.ensures
     ∙ ap (λ (ns : List ℕ). behind_all rests (next (ruled (value_of (folder (bounds few c.args.left)) (tree_at (expressions_by table code) l.list)))
-    (λ d. rounds_within few l.line (one_round (bounds few c.args.left) l.line (name_at table l.first) (option_map (name_at table) l.second) (block_by table code ns)) (looped (option_map (name_at table) l.second) d)))) (ap (λ (x : StatementNode). part_of x 0) is) ∙ whole)
+    (λ d. rounds_within few l.line (one_round (bounds few c.args.left) l.line (name_at table l.first) (option_map (name_at table) l.second) (block_by table code ns)) (loop_rounds (option_map (name_at table) l.second) d)))) (ap (λ (x : StatementNode). part_of x 0) is) ∙ whole)
     (c.begin_loop.ensures.gives few files rests table hold stacked made)
 
 pub unreachable-requires : goal.unreachable-requires

@@ -6,7 +6,7 @@ use Rattle.code.proofs.Trees.{both_true, less}
 use Rattle.values.specs.Data.{Data}
 use Rattle.syntax.specs.Tree.{StatementTree}
 use Rattle.world.specs.Plan.{give, next, ruled}
-use Rattle.expressions.specs.Assignments.{appended, assigned, own}
+use Rattle.expressions.specs.Assignments.{plus_assignment, variable_assignment, own}
 use Rattle.expressions.specs.Codes.{expressions_by}
 use Rattle.interp.specs.Expressions.{value_of}
 use Rattle.interp.specs.Folders.{folder}
@@ -43,7 +43,7 @@ returns-in_err-assign_value-in-Assign-clause-gives g c = λ files left table hol
     let parts = parts_of code c.args.number c.index.result.now node c.requires.there c.index.ensures c.in-Assign.is in
     let m = length code.nodes.items in
     let name = named made c.in-Assign.name (both_true (nat_lt c.in-Assign.name code.names) (nat_lt c.in-Assign.value m) parts).0 in
-    let same = ap (λ (n : List ℕ). next (ruled (value_of (folder left) (tree_at (expressions_by table code) c.in-Assign.value))) (λ (d : Data). next (own d) (λ (e : Data). next (assigned c.in-Assign.line n e) (λ _. give flows.Next)))) name.1 in
+    let same = ap (λ (n : List ℕ). next (ruled (value_of (folder left) (tree_at (expressions_by table code) c.in-Assign.value))) (λ (d : Data). next (own d) (λ (e : Data). next (variable_assignment c.in-Assign.line n e) (λ _. give flows.Next)))) name.1 in
     comes_same {view = λ (f : Flow). f} (comes_as (same ∙ plan) (c.in_err-assign_value-in-Assign.ensures.gives name.0 files left (expressions_by table code) hold (reads_at refl made)))
     c.from_residual.ensures.1
 
@@ -56,7 +56,7 @@ returns-in_ok-assign_value-in-Assign-clause-gives g c = λ files left table hold
     let parts = parts_of code c.args.number c.index.result.now node c.requires.there c.index.ensures c.in-Assign.is in
     let m = length code.nodes.items in
     let name = named made c.in-Assign.name (both_true (nat_lt c.in-Assign.name code.names) (nat_lt c.in-Assign.value m) parts).0 in
-    let same = ap (λ (n : List ℕ). next (ruled (value_of (folder left) (tree_at (expressions_by table code) c.in-Assign.value))) (λ (d : Data). next (own d) (λ (e : Data). next (assigned c.in-Assign.line n e) (λ _. give flows.Next)))) name.1 in
+    let same = ap (λ (n : List ℕ). next (ruled (value_of (folder left) (tree_at (expressions_by table code) c.in-Assign.value))) (λ (d : Data). next (own d) (λ (e : Data). next (variable_assignment c.in-Assign.line n e) (λ _. give flows.Next)))) name.1 in
     record { comes = given_as (same ∙ plan) (c.in_ok-assign_value-in-Assign.ensures.gives name.0 files left (expressions_by table code) hold (reads_at refl made)).comes }
 
 pub returns-in_err-append_value-in-Append-clause-gives : goal.returns-in_err-append_value-in-Append-clause-gives
@@ -68,7 +68,7 @@ returns-in_err-append_value-in-Append-clause-gives g c = λ files left table hol
     let parts = parts_of code c.args.number c.index.result.now node c.requires.there c.index.ensures c.in-Append.is in
     let m = length code.nodes.items in
     let name = named made c.in-Append.name (both_true (nat_lt c.in-Append.name code.names) (nat_lt c.in-Append.value m) parts).0 in
-    let same = ap (λ (n : List ℕ). next (appended c.in-Append.line n (ruled (value_of (folder left) (tree_at (expressions_by table code) c.in-Append.value)))) (λ _. give flows.Next)) name.1 in
+    let same = ap (λ (n : List ℕ). next (plus_assignment c.in-Append.line n (ruled (value_of (folder left) (tree_at (expressions_by table code) c.in-Append.value)))) (λ _. give flows.Next)) name.1 in
     comes_same {view = λ (f : Flow). f} (comes_as (same ∙ plan) (c.in_err-append_value-in-Append.ensures.gives name.0 files left (expressions_by table code) hold (reads_at refl made)))
     c.from_residual-in_err-append_value-in-Append.ensures.1
 
@@ -81,7 +81,7 @@ returns-in_ok-append_value-in-Append-clause-gives g c = λ files left table hold
     let parts = parts_of code c.args.number c.index.result.now node c.requires.there c.index.ensures c.in-Append.is in
     let m = length code.nodes.items in
     let name = named made c.in-Append.name (both_true (nat_lt c.in-Append.name code.names) (nat_lt c.in-Append.value m) parts).0 in
-    let same = ap (λ (n : List ℕ). next (appended c.in-Append.line n (ruled (value_of (folder left) (tree_at (expressions_by table code) c.in-Append.value)))) (λ _. give flows.Next)) name.1 in
+    let same = ap (λ (n : List ℕ). next (plus_assignment c.in-Append.line n (ruled (value_of (folder left) (tree_at (expressions_by table code) c.in-Append.value)))) (λ _. give flows.Next)) name.1 in
     record { comes = given_as (same ∙ plan) (c.in_ok-append_value-in-Append.ensures.gives name.0 files left (expressions_by table code) hold (reads_at refl made)).comes }
 
 pub returns-in-Break-clause-gives : goal.returns-in-Break-clause-gives

@@ -5,7 +5,7 @@ use Rattle.world.specs.Plan.{next}
 use Rattle.expressions.specs.Codes.{file_by}
 use Rattle.expressions.specs.Contexts.{stand_of}
 use Rattle.interp.specs.Folders.{folder_by}
-use Rattle.expressions.specs.Folders.{fresh, opened}
+use Rattle.expressions.specs.Folders.{fresh, statements_of_folder}
 use Rattle.interp.specs.Frames.{Rest, End, Left, behind, behind_all}
 use Rattle.interp.specs.Statements.{do_all}
 use Rattle.interp.specs.declared.frames.Frame.{Frame}
@@ -39,7 +39,7 @@ returns-in_err-opened-clause-gives g c = λ few files rests hold stacked.
     let f = leads_fresh few c.args.text.now more (c.in_ok-path.ensures.gives files hold) in
     let path : c.deref.result.now ≡ string_bytes c.in_ok-path.path = c.deref.ensures in
     moves_then c.from_residual-in_err-opened.result (leads_under rests f)
-    (moves_given c.args.stack.now.items rests c.from_residual-in_err-opened.result stacked (given_stop (given_as (ap opened path) (c.in_err-opened.ensures.gives files f.holds)) c.from_residual-in_err-opened.ensures.1))
+    (moves_given c.args.stack.now.items rests c.from_residual-in_err-opened.result stacked (given_stop (given_as (ap statements_of_folder path) (c.in_err-opened.ensures.gives files f.holds)) c.from_residual-in_err-opened.ensures.1))
 
 pub returns-clause-gives : goal.returns-clause-gives
 returns-clause-gives g c = λ few files rests hold stacked.
@@ -47,7 +47,7 @@ returns-clause-gives g c = λ few files rests hold stacked.
     let more : suc k ≡ c.args.left = omega arith in
     let f = leads_fresh few c.args.text.now more (c.in_ok-path.ensures.gives files hold) in
     let path : c.deref.result.now ≡ string_bytes c.in_ok-path.path = c.deref.ensures in
-    let o = given_as (ap opened path) (c.in_ok-opened.ensures.gives files f.holds) in
+    let o = given_as (ap statements_of_folder path) (c.in_ok-opened.ensures.gives files f.holds) in
     let names = c.open.new.self.store.now.names in
     let here = c.args.self.now.context.store.now in
     let outer : Rest = Left here.file here.folder here.line in
@@ -67,7 +67,7 @@ returns-in_err-code-clause-gives g c = λ few files rests hold stacked.
     let more : suc (c.args.left - 1) ≡ c.args.left = omega arith in
     let f = leads_fresh few c.args.text.now more (c.in_ok-path.ensures.gives files hold) in
     let path : c.deref.result.now ≡ string_bytes c.in_ok-path.path = c.deref.ensures in
-    let o = given_as (ap opened path) (c.in_ok-opened.ensures.gives files f.holds) in
+    let o = given_as (ap statements_of_folder path) (c.in_ok-opened.ensures.gives files f.holds) in
     moves_none c.from_residual-in_err-code.result c.args.stack.now.items (leads_under rests (leads_further f (leads_next o))) c.from_residual-in_err-code.ensures.1
 
 pub returns-in_err-push_folder-clause-gives : goal.returns-in_err-push_folder-clause-gives
@@ -75,6 +75,6 @@ returns-in_err-push_folder-clause-gives g c = λ few files rests hold stacked.
     let more : suc (c.args.left - 1) ≡ c.args.left = omega arith in
     let f = leads_fresh few c.args.text.now more (c.in_ok-path.ensures.gives files hold) in
     let path : c.deref.result.now ≡ string_bytes c.in_ok-path.path = c.deref.ensures in
-    let o = given_as (ap opened path) (c.in_ok-opened.ensures.gives files f.holds) in
+    let o = given_as (ap statements_of_folder path) (c.in_ok-opened.ensures.gives files f.holds) in
     moves_none c.from_residual-in_err-push_folder.result c.push_folder.new.stack.items (leads_under rests (leads_further f (leads_next o)))
     (memory_is c.from_residual-in_err-push_folder.result c.in_err-push_folder.ensures.lays c.from_residual-in_err-push_folder.ensures.1)

@@ -4,7 +4,7 @@ use Rattle.world.specs.Plan.{next, refuse}
 use Rattle.interp.specs.Bounds.{bounds}
 use Rattle.interp.specs.Folders.{folder}
 use Rattle.interp.specs.Frames.{Refuses, behind_all}
-use Rattle.interp.specs.FolderEntries.{ended_all, inside}
+use Rattle.interp.specs.FolderEntries.{ended_all, folder_in_expression}
 use Rattle.interp.specs.declared.halt.FolderEntry.{FolderEntry}
 use Rattle.interp.specs.declared.frames.Frame.{Frame}
 use Rattle.interp.specs.declared.frames.Frame.TheVariants as frames
@@ -38,5 +38,5 @@ returns-clause-gives g c = λ few files rests hold stacked.
     (c.in_ok-push-2.ensures.items ∙ ap (λ (gs : List Frame). gs ++ frames.Refuses c.into_inner-text.result.line ∷ []) all) ends refl in
     moves_as (behind_top (under_ends rests n) (Refuses c.into_inner-text.result.line) _ ∙ behind_ends rests n _
     ∙ ap (λ (t : List ℕ). behind_all rests (ended_all n (next (folder (bounds few c.args.left) t) (λ _. refuse c.into_inner-text.result.line refusals.Type [])))) c.deref.ensures
-    ∙ ap (λ (e : FolderEntry). behind_all rests (inside (bounds few c.args.left) e)) c.into_inner-text.ensures)
+    ∙ ap (λ (e : FolderEntry). behind_all rests (folder_in_expression (bounds few c.args.left) e)) c.into_inner-text.ensures)
     (c.enter_folder.ensures.gives few files (under_ends rests n ++ Refuses c.into_inner-text.result.line ∷ []) hold top)

@@ -7,7 +7,7 @@ use Rattle.interp.specs.StatementCalls.{after_call_view}
 use Rattle.interp.specs.Subdir.{on_call_end}
 use Rattle.interp.specs.Expressions.{entered_inside}
 use Rattle.interp.specs.Folders.{folder}
-use Rattle.interp.specs.FolderEntries.{inside}
+use Rattle.interp.specs.FolderEntries.{folder_in_expression}
 use Rattle.interp.specs.declared.statement_calls.AfterCall.{AfterCall}
 use Rattle.interp.specs.declared.flow.Flow.{Flow}
 use Rattle.interp.specs.declared.halt.FolderEntry.{FolderEntry}
@@ -47,6 +47,6 @@ pub returns-in_ok-new-in-Enters-clause-gives : goal.returns-in_ok-new-in-Enters-
 returns-in_ok-new-in-Enters-clause-gives g c = λ files left h.
     let off = ap (λ b. entered_inside (folder left) b c.args.line (arguments_data c.args.arguments.now)) (sym c.if-gives_disabler.false ∙ c.gives_disabler.ensures) in
     record {
-      comes = leads_as (ap (λ (e : FolderEntry). inside {A = Data} left e) (sym c.in_ok-new-in-Enters.ensures.ok))
+      comes = leads_as (ap (λ (e : FolderEntry). folder_in_expression {A = Data} left e) (sym c.in_ok-new-in-Enters.ensures.ok))
           (leads_other off (leads_as (ap (λ (x : AfterCall). next (on_call_end (folder left) (after_call_view x)) (λ _. refuse {A = Data} c.args.line refusals.Type [])) c.in-Enters.is) (leads_next (c.in_ok-subdir.ensures.gives files h))));
     }

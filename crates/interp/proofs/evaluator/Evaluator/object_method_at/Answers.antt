@@ -1,7 +1,7 @@
 use Rattle.std.proofs.Common.{ap, sym, ◌∙◌}
 use Rattle.interp.specs.Expressions.{known_object_method}
 use Rattle.expressions.specs.Forms.{refused_name}
-use Rattle.objects.specs.Left.{is_left_out}
+use Rattle.methods.specs.Left.{is_left_out}
 use Rattle.expressions.proofs.Evaluating.{given_as, given_refuse}
 use Rattle.interp.proofs.evaluator.Evaluator.object_method_at.Goals as goal
 

@@ -4,7 +4,7 @@ use Rattle.interp.specs.Bounds.{bounds}
 use Rattle.expressions.specs.Codes.{statements_by}
 use Rattle.interp.specs.Folders.{folder}
 use Rattle.interp.specs.Frames.{behind_all, parts_by, walk_left}
-use Rattle.interp.specs.FolderEntries.{inside}
+use Rattle.interp.specs.FolderEntries.{folder_in_expression}
 use Rattle.interp.specs.Statements.{does}
 use Rattle.interp.specs.declared.block_statements.BlockProgress.{BlockProgress}
 use Rattle.expressions.proofs.Evaluating.{given_give, leads_start}
@@ -70,6 +70,6 @@ returns-clause-gives g c = λ few files rests table hold stacked made.
     let left = bounds few c.args.left in
     let fs = c.args.stack.now.items in
     moves_as (ap (λ (w : BlockProgress). behind_all rests (walk_left (parts_by table c.args.code.value left c.args.block) left w)) (sym c.in-Enters.is))
-    (moves_statement few fs _ c.push_frame-in-Enters.new.stack.items rests _ (inside left c.in-Enters.entry.value) table
+    (moves_statement few fs _ c.push_frame-in-Enters.new.stack.items rests _ (folder_in_expression left c.in-Enters.entry.value) table
     refl refl c.in_ok-push_frame-in-Enters.ensures.lays stacked made
     (λ rs s. c.enter_from_expression-in-Enters.ensures.gives few files rs hold s))

@@ -3,7 +3,7 @@ use Rattle.std.proofs.lemmas.Result.{on_ok_weaker}
 use Rattle.build.proofs.LinkedLists.{kept_targets}
 use Rattle.build.specs.Data.{FactsData}
 use Rattle.build.specs.View.{option_entry_view, target_view}
-use Rattle.build.specs.declared.linked_target.Linked.{Linked}
+use Rattle.build.specs.declared.declared_target.DeclaredTarget.{DeclaredTarget}
 use Rattle.build.specs.project.View.{answer_view, install_view, test_view}
 use Rattle.serde_json.specs.Data.{no_members, object}
 use Rattle.introspection.specs.Document.{build_options, dependencies, dependency_entry, document_of, files_read, installed_files, option_entry}
@@ -37,7 +37,7 @@ returns g c =
     let answers = list_sends dependency_entry answer_view c.dependencies.result.now w.dependencies l3 m3 c.dependencies.ensures c.in_ok-send_list-2.ensures in
     let installed = installs_send _ w.installs l4 m4 c.installs.ensures c.in_ok-send.ensures in
     let info = one_sends project_entry _ w.surroundings.facts l5 m5 c.facts-2.ensures c.in_ok-send-2.ensures in
-    let made = list_sends target_entry (λ (l : Linked). target_view l.target) c.targets.result.now w.targets l6 m6
+    let made = list_sends target_entry (λ (l : DeclaredTarget). target_view l.target) c.targets.result.now w.targets l6 m6
     (kept_targets c.targets.result.now w.targets c.targets.ensures) c.in_ok-send_list-3.ensures in
     let shown = list_sends test_entry test_view c.tests.result.now w.tests l7 m7 c.tests.ensures c.in_ok-send_list-4.ensures in
     on_ok_weaker c.end_map.result (λ ended. record {

@@ -1,6 +1,6 @@
 use Rattle.std.proofs.Common.{◌≡◌, [], map, drop}
 use Rattle.syntax.specs.ExpressionTree.{argument_of}
-use Rattle.machine.specs.option_values.View.{strings_in}
+use Rattle.option_values.specs.View.{strings_in}
 use Rattle.options.specs.option_file.Calls.{first_twice}
 use Rattle.options.proofs.option_file.call.first_twice.Given as goal
 

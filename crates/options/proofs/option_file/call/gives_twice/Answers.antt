@@ -1,4 +1,4 @@
-use Rattle.machine.specs.option_values.View.{strings_in}
+use Rattle.option_values.specs.View.{strings_in}
 use Rattle.options.proofs.Arguments.{twice_first, twice_found, twice_more, twice_none}
 use Rattle.options.proofs.option_file.call.gives_twice.Goals as goal
 

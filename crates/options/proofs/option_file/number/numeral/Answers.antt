@@ -1,6 +1,6 @@
 use Rattle.std.proofs.Common.{◌∙◌, Some, sym, ap, arith}
 use Rattle.std.specs.Option.{option_map}
-use Rattle.machine.specs.machine_file.Numbers.{integer_of}
+use Rattle.machine_file.specs.Numbers.{integer_of}
 use Rattle.options.specs.option_file.Given.{Given, integer}
 use Rattle.options.specs.option_file.View.{given_in}
 use Rattle.options.proofs.Ranges.{past_128, in_128}

@@ -1,11 +1,11 @@
 use Rattle.std.proofs.Common.{◌∙◌, sym, ap, Option, List, Ok}
 use Rattle.std.specs.Option.{option_map}
 use Rattle.options.specs.declared.fault.OptionFault.{OptionFault}
-use Rattle.machine.specs.option_values.Settings as plain
+use Rattle.option_values.specs.Settings as plain
 use Rattle.options.specs.Resolves.{Resolution, outcome_of}
-use Rattle.machine.specs.option_values.View.{strings_in}
+use Rattle.option_values.specs.View.{strings_in}
 use Rattle.options.specs.View.{fault_in}
-use Rattle.machine.specs.option_values.SettingsView.{settings_in}
+use Rattle.option_values.specs.SettingsView.{settings_in}
 use Rattle.options.proofs.state.State.end.Goals as goal
 
 pub returns-in-Some : goal.returns-in-Some

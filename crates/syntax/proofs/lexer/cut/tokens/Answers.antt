@@ -5,7 +5,7 @@ use Rattle.std.specs.Str.{IsUtf8}
 use Rattle.std.proofs.lemmas.Str.{IsUtf8-drop}
 use Rattle.syntax.specs.lexer.Bytes.{newlines}
 use Rattle.syntax.specs.lexer.Lexeme.{lexemes}
-use Rattle.syntax.specs.lexer.Lexing.{fault_at, gap, lexed, token_at}
+use Rattle.syntax.specs.lexer.Lexing.{fault_at, gap, lexed_tokens, token_at}
 use Rattle.syntax.specs.declared.lexer.token.Token.{Token}
 use Rattle.std.specs.Prelude.{List}
 use Rattle.syntax.proofs.Boundaries.{after_gap, gap_boundary, token_boundary}
@@ -27,7 +27,7 @@ loop-here-init c = record {
 pub split_at-requires : goal.split_at-requires
 split_at-requires c = gap_boundary c.loop-here.rest.now c.loop-here.depth c.gap_length.result c.loop-here.invariant.text (c.gap_length.ensures ∙ ap (gap c.loop-here.depth _) c.as_bytes.ensures.value)
 
-the_end : (c : Then-is_empty) → lexed c.args.source.now ≡ Ok (lexemes c.loop-here.tokens.items)
+the_end : (c : Then-is_empty) → lexed_tokens c.args.source.now ≡ Ok (lexemes c.loop-here.tokens.items)
 the_end c = still_end c.args.source.now (lexemes c.loop-here.tokens.items) c.loop-here.rest.now c.split_at.result.1.now c.loop-here.line c.loop-here.depth c.gap_length.result c.loop-here.invariant.still
     (c.gap_length.ensures ∙ ap (gap c.loop-here.depth _) c.as_bytes.ensures.value) c.split_at.ensures.back (eqb-true _ 0 (sym c.if-is_empty.ensures))
 
@@ -40,7 +40,7 @@ returns-then-is_empty-clause-listed c = lexed_sound c.args.source.now (lexemes c
 pub returns-then-is_empty-clause-only : goal.returns-then-is_empty-clause-only
 returns-then-is_empty-clause-only c = λ ts h. only_ok c.args.source.now (lexemes c.loop-here.tokens.items) ts (the_end c) h
 
-the_fault : (c : After-drop-tokens) → lexed c.args.source.now ≡ Err (fault_at (c.loop-here.line + c.newlines-line.result))
+the_fault : (c : After-drop-tokens) → lexed_tokens c.args.source.now ≡ Err (fault_at (c.loop-here.line + c.newlines-line.result))
 the_fault c = still_fault c.args.source.now (lexemes c.loop-here.tokens.items) c.loop-here.rest.now c.split_at.result.1.now c.loop-here.line c.loop-here.depth c.gap_length.result c.newlines-line.result c.loop-here.invariant.still
     (c.gap_length.ensures ∙ ap (gap c.loop-here.depth _) c.as_bytes.ensures.value) c.split_at.ensures.back (false-eqb _ 0 c.if-is_empty.ensures)
     (c.newlines-line.ensures ∙ ap newlines (c.as_bytes-in-loop-here.ensures.value ∙ c.split_at.ensures.front)) (sym c.in_default.ensures)

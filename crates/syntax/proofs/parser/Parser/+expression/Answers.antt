@@ -3,9 +3,9 @@ use Rattle.std.proofs.Common.{IfOk}
 use Rattle.std.proofs.lemmas.Result.{err_from_is_err_and}
 use Rattle.std.specs.Option.{option_map}
 use Rattle.syntax.specs.declared.stop.ReadError.{ReadError}
-use Rattle.syntax.specs.declared.stop.Stop.{Stop}
+use Rattle.syntax.specs.declared.stop.ParseStop.{ParseStop}
 use Rattle.syntax.specs.lexer.Lexeme.{Lexeme, lexemes}
-use Rattle.syntax.specs.declared.lexer.token.Kind.TheVariants as Kinds
+use Rattle.syntax.specs.declared.lexer.token.TokenKind.TheVariants as Kinds
 use Rattle.syntax.specs.declared.tree.Argument.{Argument}
 use Rattle.syntax.specs.declared.tree.Operand.{Operand}
 use Rattle.syntax.specs.ExpressionTree.{ArgumentTree, argument_of, entry_of, expression_of, link_of, operand_of}
@@ -35,7 +35,7 @@ use Rattle.syntax.proofs.parser.Parser.+expression.Goals.{postfix-then-is_err-vi
 use Rattle.syntax.proofs.parser.Parser.+expression.Goals.{postfix-then-is_err-via-else-is_err+then-not-links_on}
 
 -- what was read, as the tree of what is returned
-returned : {A : Type 0} (read : Result (A × List Lexeme) Stop) (a b : A) (rest : List Lexeme) → read ≡ Ok (a, rest) → a ≡ b → read ≡ Ok (b, rest)
+returned : {A : Type 0} (read : Result (A × List Lexeme) ParseStop) (a b : A) (rest : List Lexeme) → read ≡ Ok (a, rest) → a ≡ b → read ≡ Ok (b, rest)
 returned {A} read a b rest e same = e ∙ ap (λ (x : A). Ok (x, rest)) same
 
 -- ---- chains

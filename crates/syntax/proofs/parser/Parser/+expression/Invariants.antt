@@ -1,7 +1,7 @@
 use Rattle.std.proofs.Common.{◌+◌, ◌*◌, ◌≤◌, length, map}
 use Rattle.syntax.specs.lexer.Lexeme.{lexemes}
 use Rattle.syntax.specs.ExpressionTree.{argument_of, entry_of, expression_of, link_of, operand_of}
-use Rattle.syntax.specs.declared.lexer.token.Kind.TheVariants as Kinds
+use Rattle.syntax.specs.declared.lexer.token.TokenKind.TheVariants as Kinds
 use Rattle.syntax.specs.Expressions.{is_named}
 use Rattle.syntax.specs.Form.{same_state}
 use Rattle.syntax.specs.Parts.{stands_for}

@@ -2,7 +2,7 @@ use Rattle.std.proofs.Common.{sym, ap, ◌∙◌, subst}
 use Rattle.std.specs.List.Sorted.{IsStrictlySortedBy}
 use Rattle.std.specs.Cmp.Lexicographic.{slice_cmp}
 use Rattle.std.specs.Ordering.{nat_cmp}
-use Rattle.template.specs.Config.{merged, names, value_of}
+use Rattle.template.specs.Config.{entries_with_others, names, value_of}
 use Rattle.template.specs.ConfigData.{entries_of}
 use Rattle.template.proofs.Settings.{value_of-merged}
 use Rattle.template.proofs.Undoing.{of_ok}
@@ -16,5 +16,5 @@ returns-clause-found c = λ q.
     let all = of_ok c.merge.result no_err c.merge.ensures.entries in
     let ascending = of_ok c.merge.result no_err c.merge.ensures.ascending in
     ap (λ n. value_of n q) (all
-    ∙ ap (λ n. merged n (entries_of c.other.inside.entries.entries)) self_is ∙ ap (λ n. merged c.args.self.now.entries n) other_is)
+    ∙ ap (λ n. entries_with_others n (entries_of c.other.inside.entries.entries)) self_is ∙ ap (λ n. entries_with_others c.args.self.now.entries n) other_is)
     ∙ value_of-merged c.args.self.now.entries c.args.other.now.entries (subst (λ n. IsStrictlySortedBy (slice_cmp nat_cmp) (names n)) other_is ascending) q

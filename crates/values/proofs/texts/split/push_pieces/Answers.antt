@@ -1,7 +1,7 @@
 use Rattle.std.proofs.Common.{◌<◌, ◌++◌, ◌∷◌, [], ℕ, List, Bor, Option, map, length, rules, sym, ◌∙◌, ap, subst, arith}
 use Rattle.std.specs.Prelude.{IfSome}
 use Rattle.std.proofs.lemmas.List.{append-nil, length-map, length_push}
-use Rattle.values.specs.texts.Cut.{pieces, left}
+use Rattle.values.specs.texts.Cut.{pieces, pieces_of_rest}
 use Rattle.values.proofs.PiecesLemmas.{too_many, few_enough, one_more_piece}
 use Rattle.values.proofs.texts.split.push_pieces.Goals as goal
 
@@ -16,7 +16,7 @@ loop-piece-init c = (
 pub returns-then-len-eq-ITEMS : goal.returns-then-len-eq-ITEMS
 returns-then-len-eq-ITEMS c =
     too_many (pieces c.args.cut c.args.text.now) (map (λ piece. piece.now) c.loop-piece.found.items)
-    (left (pieces c.args.cut) c.in-Some.after) c.in-Some.piece.now
+    (pieces_of_rest (pieces c.args.cut) c.in-Some.after) c.in-Some.piece.now
     (c.loop-piece.invariant.1 ∙ ap (λ more. map (λ piece. piece.now) c.loop-piece.found.items ++ more) c.in-Some.ensures.first)
     (length-map c.loop-piece.found.items (λ piece. piece.now) ∙ omega (arith, c.loop-piece.found.ok.0))
 
@@ -32,7 +32,7 @@ loop-piece-preserved c = (
       (pieces c.args.cut c.loop-piece.rest.now) (pieces c.args.cut c.in-Some-after.after.now)
       c.loop-piece.invariant.1
       (c.in-Some.ensures.first
-      ∙ ap (λ o. c.in-Some.piece.now ∷ left (pieces c.args.cut) o) c.in-Some-after.is) c.in_ok-push.ensures.items,
+      ∙ ap (λ o. c.in-Some.piece.now ∷ pieces_of_rest (pieces c.args.cut) o) c.in-Some-after.is) c.in_ok-push.ensures.items,
   omega (arith, c.loop-piece.found.ok.0, ap length c.in_ok-push.ensures.items, length_push c.loop-piece.found.items c.in-Some.piece),
 )
 
@@ -43,7 +43,7 @@ returns-in_default-after c =
     (pieces c.args.cut c.loop-piece.rest.now) []
     c.loop-piece.invariant.1
     (c.in-Some.ensures.first
-    ∙ ap (λ o. c.in-Some.piece.now ∷ left (pieces c.args.cut) o) c.in_default-after.is) c.in_ok-push.ensures.items
+    ∙ ap (λ o. c.in-Some.piece.now ∷ pieces_of_rest (pieces c.args.cut) o) c.in_default-after.is) c.in_ok-push.ensures.items
     ∙ append-nil (map (λ piece. piece.now) c.push.new.self.items))
     (omega (
       arith,

@@ -3,7 +3,7 @@ use Rattle.std.specs.Prelude.{IfOk}
 use Rattle.std.proofs.lemmas.Bool.Decides.{nat_tests}
 use Rattle.std.proofs.lemmas.Result.{IfOk-weaker}
 use Rattle.values.specs.texts.Answers.{pieces_in}
-use Rattle.values.specs.texts.Joined.{joined}
+use Rattle.values.specs.texts.Joined.{joined_texts}
 use Rattle.values.specs.texts.Pieces.{parts, within_items}
 use Rattle.values.specs.texts.Search.{contains}
 use Rattle.values.proofs.PartsLaws.{whole_answer, apart_answer}
@@ -15,7 +15,7 @@ returns-clause-whole c =
     let text = c.args.text.now in
     let filled : 0 < length separator = grind (arith, nat_tests) in
     IfOk-weaker c.cut_up.result (λ r. pieces_in r ≡ within_items (parts separator text))
-    (λ r. IfOk (pieces_in r) (λ found. joined separator found ≡ text))
+    (λ r. IfOk (pieces_in r) (λ found. joined_texts separator found ≡ text))
     (λ r is. whole_answer separator text (pieces_in r) filled is) c.cut_up.ensures
 
 pub returns-clause-apart : goal.returns-clause-apart

@@ -1,11 +1,11 @@
 use Rattle.std.proofs.Common.{◌≡◌, length}
 use Rattle.std.specs.List.{AllPass}
 use Rattle.std.specs.Char.{is_ascii_digit}
-use Rattle.values.specs.texts.Version.{spelled}
+use Rattle.values.specs.texts.Version.{integer_of_digits}
 use Rattle.values.proofs.texts.versions.without_zeros.Given as goal
 
 abbrev pub invariant-loop-first : goal.invariant-loop-first
-invariant-loop-first l = record { same : spelled l.left ≡ spelled l.digits; digits : AllPass is_ascii_digit l.left }
+invariant-loop-first l = record { same : integer_of_digits l.left ≡ integer_of_digits l.digits; digits : AllPass is_ascii_digit l.left }
 
 abbrev pub decreases-loop-first : goal.decreases-loop-first
 decreases-loop-first l = length l.left

@@ -1,4 +1,4 @@
-use Rattle.machine.specs.machine_file.QuestionsView.{question_in}
+use Rattle.machine_file.specs.QuestionsView.{question_in}
 use Rattle.world.proofs.Answering.{carries_asked, carries_wanted}
 use Rattle.world.proofs.Marks.{front_as}
 use Rattle.world.proofs.caller.Caller.ask.Goals as goal

@@ -1,5 +1,5 @@
 use Rattle.std.proofs.Common.{ap, subst, ◌∙◌}
-use Rattle.machine.specs.machine_file.Questions.{Question, answer_to, plain}
+use Rattle.machine_file.specs.Questions.{Question, answer_to, plain}
 use Rattle.world.specs.Answering.{Carries}
 use Rattle.world.specs.Caller.{state_of}
 use Rattle.world.specs.Deed.{consult}

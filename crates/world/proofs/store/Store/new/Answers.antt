@@ -1,5 +1,5 @@
 use Rattle.std.proofs.Common.{refl, ap, ◌∙◌}
-use Rattle.machine.specs.machine_file.View.{machine_in}
+use Rattle.machine_file.specs.View.{machine_in}
 use Rattle.build.specs.project.World.{new_world}
 use Rattle.world.specs.AskedView.{all_asked_in}
 use Rattle.world.specs.SettingsView.{settings_view}

@@ -1,6 +1,6 @@
 use Rattle.std.proofs.Common.{◌<◌, length, [], get_or, Some, ap, arith, subst, sym, ◌∙◌}
 use Rattle.values.specs.View.{data_of}
-use Rattle.world.specs.Store.{changing, world_of}
+use Rattle.world.specs.Store.{world_after_change, world_of}
 use Rattle.world.specs.World.{with_variable}
 use Rattle.world.proofs.Setting.{slots_within, variables_at, world_with}
 use Rattle.world.proofs.store.Store.put.Goals as goal
@@ -19,4 +19,4 @@ returns-clause-world c = λ h.
     world_with _ s.names _ (get_or s.names n []) (Some (data_of c.args.value))
     (variables_at s.names s.slots.items c.reach.new.slots.items n (Some c.args.value) c.len-count.ensures.distinct here
     c.in_ok-reach.ensures.same c.in_ok-reach.ensures.room)
-    ∙ ap (λ k. changing (with_variable (get_or k.names n []) (Some (data_of c.args.value))) (world_of k)) c.self.view_is
+    ∙ ap (λ k. world_after_change (with_variable (get_or k.names n []) (Some (data_of c.args.value))) (world_of k)) c.self.view_is

@@ -3,7 +3,7 @@ use Rattle.std.proofs.lemmas.Grind.{common_steps}
 use Rattle.code.specs.Draft.{IsFront}
 use Rattle.code.proofs.NameLists.{begins_with_name}
 use Rattle.values.specs.View.{data_of}
-use Rattle.world.specs.Store.{changing, world_of}
+use Rattle.world.specs.Store.{world_after_change, world_of}
 use Rattle.world.specs.World.{with_variable}
 use Rattle.world.proofs.Setting.{slots_fit, variables_set, world_with}
 use Rattle.world.proofs.store.Store.set.Goals as goal
@@ -32,7 +32,7 @@ returns-clause-world c =
     world_with _ c.put.new.self _ c.args.name.now (Some (data_of c.args.value))
     (variables_set s.names c.put.new.self s.slots.items c.reach.new.slots.items c.args.name.now c.in_ok-number.number (Some c.args.value)
     c.in_ok-number.ensures.names c.in_ok-number.ensures.number c.in_ok-reach.ensures.same c.in_ok-reach.ensures.room)
-    ∙ ap (λ k. changing (with_variable c.args.name.now (Some (data_of c.args.value))) (world_of k)) c.self.view_is
+    ∙ ap (λ k. world_after_change (with_variable c.args.name.now (Some (data_of c.args.value))) (world_of k)) c.self.view_is
 
 pub invariant_of-self-in_err-reach : goal.invariant_of-self-in_err-reach
 invariant_of-self-in_err-reach c = grind (arith, common_steps)

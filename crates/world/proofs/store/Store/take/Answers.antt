@@ -1,5 +1,5 @@
 use Rattle.std.proofs.Common.{◌<◌, length, [], get_or, None, ap, subst, sym, ◌∙◌}
-use Rattle.world.specs.Store.{changing, kept_variables, world_of}
+use Rattle.world.specs.Store.{world_after_change, kept_variables, world_of}
 use Rattle.world.specs.World.{with_variable}
 use Rattle.world.proofs.Setting.{variable_at, variables_taken, world_with}
 use Rattle.world.proofs.store.Store.take.Goals as goal
@@ -18,4 +18,4 @@ returns-clause-world c = λ h.
     let here : n < length s.names = subst (λ k. n < length k.names) (sym c.self.view_is) h in
     world_with _ s.names c.take_value.new.slots.items (get_or s.names n []) None
     (variables_taken s.names s.slots.items c.take_value.new.slots.items n c.len-distinct.ensures.distinct here c.take_value.ensures.same c.take_value.ensures.none)
-    ∙ ap (λ k. changing (with_variable (get_or k.names n []) None) (world_of k)) c.self.view_is
+    ∙ ap (λ k. world_after_change (with_variable (get_or k.names n []) None) (world_of k)) c.self.view_is

@@ -3,15 +3,15 @@ use Rattle.std.specs.List.{list_any, list_all}
 use Rattle.std.proofs.lemmas.Result.{IfOk-weaker}
 use Rattle.build.specs.edge.Texts.{Text, texts}
 use Rattle.build.specs.edge.Holding.{value_held}
-use Rattle.build.specs.LinkedViews.{linked_views}
+use Rattle.build.specs.DeclaredTargetViews.{declared_target_views}
 use Rattle.build.specs.View.{surroundings_view, target_view}
-use Rattle.build.specs.declared.linked_target.Linked.{Linked}
+use Rattle.build.specs.declared.declared_target.DeclaredTarget.{DeclaredTarget}
 use Rattle.build.specs.project.World.{WorldData}
 use Rattle.build.specs.project.View.{world_of}
 use Rattle.build.specs.project.NotesView.{notes_view}
 use Rattle.build.specs.project.Adding.{is_build, first_build, arguments_answer, with_link_arguments}
-use Rattle.build.specs.project.Refused.{answer_data, refused}
-use Rattle.build.specs.declared.project.refusal.Refusal.TheVariants.{Late}
+use Rattle.build.specs.project.Refused.{answer_data, refusal_for_text}
+use Rattle.build.specs.declared.project.refusal.ProjectRefusal.TheVariants.{Late}
 use Rattle.build.proofs.Arguments.{with_words, whole_with_words, answer_late, answer_words, after_unit, after_refusal, first_is, some_is}
 use Rattle.build.proofs.Placing.{on_ok}
 use Rattle.build.proofs.project.project.Project.add_link_arguments.Goals as goal
@@ -23,12 +23,12 @@ returns-then-late-clause-answer c =
     let held : list_all value_held words ≡ true = sym c.can_hold_values-held.ensures ∙ c.if-not-held.false in
     let some : list_any is_build w.targets ≡ true =
     ap (λ (x : WorldData). list_any is_build x.targets) (sym c.self.view_is) ∙ some_is c.self.inside.linked.items
-    ∙ ap (list_any (λ (l : Linked). is_build (target_view l.target))) (sym c.deref.ensures.value) ∙ sym c.some_build-late.ensures ∙ c.if-late.true in
+    ∙ ap (list_any (λ (l : DeclaredTarget). is_build (target_view l.target))) (sym c.deref.ensures.value) ∙ sym c.some_build-late.ensures ∙ c.if-late.true in
     let first : c.first_build.result.now ≡ first_build w.targets =
-    c.first_build.ensures ∙ ap (λ (ls : List Linked). first_build (map (λ l. target_view l.target) ls)) c.deref-then-late.ensures.value
+    c.first_build.ensures ∙ ap (λ (ls : List DeclaredTarget). first_build (map (λ l. target_view l.target) ls)) c.deref-then-late.ensures.value
     ∙ first_is c.self.inside.linked.items ∙ ap (λ (x : WorldData). first_build x.targets) c.self.view_is in
-    IfOk-weaker c.refuse-then-late.result (λ r. answer_data r ≡ Err (refused Late c.first_build.result.now)) (λ r. answer_data r ≡ arguments_answer w words)
-    (λ r e. e ∙ ap (λ n. Err (refused Late n)) first ∙ sym (answer_late w words held some)) c.refuse-then-late.ensures
+    IfOk-weaker c.refuse-then-late.result (λ r. answer_data r ≡ Err (refusal_for_text Late c.first_build.result.now)) (λ r. answer_data r ≡ arguments_answer w words)
+    (λ r e. e ∙ ap (λ n. Err (refusal_for_text Late n)) first ∙ sym (answer_late w words held some)) c.refuse-then-late.ensures
 
 pub returns-then-late-clause-ok : goal.returns-then-late-clause-ok
 returns-then-late-clause-ok c =
@@ -37,26 +37,26 @@ returns-then-late-clause-ok c =
     let held : list_all value_held words ≡ true = sym c.can_hold_values-held.ensures ∙ c.if-not-held.false in
     let some : list_any is_build w.targets ≡ true =
     ap (λ (x : WorldData). list_any is_build x.targets) (sym c.self.view_is) ∙ some_is c.self.inside.linked.items
-    ∙ ap (list_any (λ (l : Linked). is_build (target_view l.target))) (sym c.deref.ensures.value) ∙ sym c.some_build-late.ensures ∙ c.if-late.true in
-    on_ok c.refuse-then-late.result (sym (after_refusal (arguments_answer w words) (refused Late (first_build w.targets)) (with_link_arguments w words) w (answer_late w words held some)))
+    ∙ ap (list_any (λ (l : DeclaredTarget). is_build (target_view l.target))) (sym c.deref.ensures.value) ∙ sym c.some_build-late.ensures ∙ c.if-late.true in
+    on_ok c.refuse-then-late.result (sym (after_refusal (arguments_answer w words) (refusal_for_text Late (first_build w.targets)) (with_link_arguments w words) w (answer_late w words held some)))
 
 pub invariant_of-self : goal.invariant_of-self
 invariant_of-self c =
     let s = surroundings_view c.self.inside.surroundings in
-    let ls = linked_views c.self.inside.linked.items in
+    let ls = declared_target_views c.self.inside.linked.items in
     let outputs = texts c.self.inside.outputs.items in
     let notes = notes_view c.self.inside.notes in
     whole_with_words s ls outputs notes.present (texts c.self.inside.taken.keys) (texts c.self.inside.surroundings.arguments.items) (texts c.append.new.all.items) c.self.invariant
-    (some_is c.self.inside.linked.items ∙ ap (list_any (λ (l : Linked). is_build (target_view l.target))) (sym c.deref.ensures.value) ∙ sym c.some_build-late.ensures ∙ c.if-late.false)
+    (some_is c.self.inside.linked.items ∙ ap (list_any (λ (l : DeclaredTarget). is_build (target_view l.target))) (sym c.deref.ensures.value) ∙ sym c.some_build-late.ensures ∙ c.if-late.false)
 
 pub invariant_of-self-2 : goal.invariant_of-self-2
 invariant_of-self-2 c =
     let s = surroundings_view c.self.inside.surroundings in
-    let ls = linked_views c.self.inside.linked.items in
+    let ls = declared_target_views c.self.inside.linked.items in
     let outputs = texts c.self.inside.outputs.items in
     let notes = notes_view c.self.inside.notes in
     whole_with_words s ls outputs notes.present (texts c.self.inside.taken.keys) (texts c.self.inside.surroundings.arguments.items) (texts c.append.new.all.items) c.self.invariant
-    (some_is c.self.inside.linked.items ∙ ap (list_any (λ (l : Linked). is_build (target_view l.target))) (sym c.deref.ensures.value) ∙ sym c.some_build-late.ensures ∙ c.if-late.false)
+    (some_is c.self.inside.linked.items ∙ ap (list_any (λ (l : DeclaredTarget). is_build (target_view l.target))) (sym c.deref.ensures.value) ∙ sym c.some_build-late.ensures ∙ c.if-late.false)
 
 pub returns-clause-answer : goal.returns-clause-answer
 returns-clause-answer c =
@@ -65,7 +65,7 @@ returns-clause-answer c =
     let held : list_all value_held words ≡ true = sym c.can_hold_values-held.ensures ∙ c.if-not-held.false in
     let some : list_any is_build w.targets ≡ false =
     ap (λ (x : WorldData). list_any is_build x.targets) (sym c.self.view_is) ∙ some_is c.self.inside.linked.items
-    ∙ ap (list_any (λ (l : Linked). is_build (target_view l.target))) (sym c.deref.ensures.value) ∙ sym c.some_build-late.ensures ∙ c.if-late.false in
+    ∙ ap (list_any (λ (l : DeclaredTarget). is_build (target_view l.target))) (sym c.deref.ensures.value) ∙ sym c.some_build-late.ensures ∙ c.if-late.false in
     sym (answer_words w words held some)
 
 pub returns-clause-ok : goal.returns-clause-ok
@@ -75,9 +75,9 @@ returns-clause-ok c =
     let held : list_all value_held words ≡ true = sym c.can_hold_values-held.ensures ∙ c.if-not-held.false in
     let some : list_any is_build w.targets ≡ false =
     ap (λ (x : WorldData). list_any is_build x.targets) (sym c.self.view_is) ∙ some_is c.self.inside.linked.items
-    ∙ ap (list_any (λ (l : Linked). is_build (target_view l.target))) (sym c.deref.ensures.value) ∙ sym c.some_build-late.ensures ∙ c.if-late.false in
+    ∙ ap (list_any (λ (l : DeclaredTarget). is_build (target_view l.target))) (sym c.deref.ensures.value) ∙ sym c.some_build-late.ensures ∙ c.if-late.false in
     let s = surroundings_view c.self.inside.surroundings in
-    let ls = linked_views c.self.inside.linked.items in
+    let ls = declared_target_views c.self.inside.linked.items in
     let outputs = texts c.self.inside.outputs.items in
     let notes = notes_view c.self.inside.notes in
     let old = world_of s ls outputs notes in

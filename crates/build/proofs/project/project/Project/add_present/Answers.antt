@@ -1,7 +1,7 @@
 use Rattle.std.proofs.Common.{List, string_bytes, sym, ap, ◌∙◌, subst}
 use Rattle.build.specs.edge.Texts.{Path, texts}
 use Rattle.build.proofs.TextLists.{texts-insert_key}
-use Rattle.build.specs.LinkedViews.{linked_views}
+use Rattle.build.specs.DeclaredTargetViews.{declared_target_views}
 use Rattle.build.specs.View.{surroundings_view}
 use Rattle.build.specs.project.World.{WorldData}
 use Rattle.build.specs.project.View.{world_of}
@@ -14,7 +14,7 @@ use Rattle.build.proofs.project.project.Project.add_present.Goals as goal
 pub invariant_of-self-2 : goal.invariant_of-self-2
 invariant_of-self-2 c =
     let s = surroundings_view c.self.inside.surroundings in
-    let ls = linked_views c.self.inside.linked.items in
+    let ls = declared_target_views c.self.inside.linked.items in
     let outputs = texts c.self.inside.outputs.items in
     let kept = texts c.self.inside.taken.keys in
     let ks = c.self.inside.notes.present.keys in
@@ -24,5 +24,5 @@ invariant_of-self-2 c =
 pub returns-clause-ok : goal.returns-clause-ok
 returns-clause-ok c =
     let ks = c.self.inside.notes.present.keys in
-    let old = world_of (surroundings_view c.self.inside.surroundings) (linked_views c.self.inside.linked.items) (texts c.self.inside.outputs.items) (notes_view c.self.inside.notes) in
+    let old = world_of (surroundings_view c.self.inside.surroundings) (declared_target_views c.self.inside.linked.items) (texts c.self.inside.outputs.items) (notes_view c.self.inside.notes) in
     ap (λ x. record old { present = x }) (ap texts c.in_ok-insert.ensures.keys ∙ texts-insert_key ks c.args.path) ∙ ap (λ (x : WorldData). with_present x (string_bytes c.args.path)) c.self.view_is

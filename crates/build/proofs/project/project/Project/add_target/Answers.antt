@@ -4,16 +4,16 @@ use Rattle.std.proofs.lemmas.Result.{IfOk-weaker}
 use Rattle.build.specs.edge.Texts.{texts}
 use Rattle.build.specs.edge.Holding.{are_writable}
 use Rattle.build.specs.Libraries.{LinkBack, linked_of, linked_libraries}
-use Rattle.build.specs.LinkedViews.{linked_views}
+use Rattle.build.specs.DeclaredTargetViews.{declared_target_views}
 use Rattle.build.specs.View.{surroundings_view, target_view}
-use Rattle.build.specs.declared.linked_target.Linked.{Linked}
+use Rattle.build.specs.declared.declared_target.DeclaredTarget.{DeclaredTarget}
 use Rattle.build.specs.target_edges.Edges.{target_edges}
 use Rattle.build.specs.project.Laws.{outputs_of}
 use Rattle.build.specs.project.World.{WorldData}
 use Rattle.build.specs.project.Adding.{sources_of, is_present, is_fit, edges_with, place_answer, target_answer, with_target, after_answer}
 use Rattle.build.specs.project.NotesView.{notes_view}
-use Rattle.build.specs.project.Refused.{answer_data, refused}
-use Rattle.build.specs.declared.project.refusal.Refusal.TheVariants.{Missing, Unholdable}
+use Rattle.build.specs.project.Refused.{answer_data, refusal_for_text}
+use Rattle.build.specs.declared.project.refusal.ProjectRefusal.TheVariants.{Missing, Unholdable}
 use Rattle.build.proofs.Answering.{answer_missing, answer_unholdable, answer_placed, edges_are, next_ready}
 use Rattle.build.proofs.Placing.{on_ok}
 use Rattle.build.proofs.Reading.{whole_back}
@@ -22,7 +22,7 @@ use Rattle.build.proofs.project.project.Project.add_target.Goals as goal
 pub linked_libraries-requires : goal.linked_libraries-requires
 linked_libraries-requires c =
     let xs = c.self.inside.linked.items in
-    subst (λ (ls : List Linked). LinkBack (map (λ l. target_view l.target) ls)) (sym c.deref.ensures.value)
+    subst (λ (ls : List DeclaredTarget). LinkBack (map (λ l. target_view l.target) ls)) (sym c.deref.ensures.value)
     (whole_back (surroundings_view c.self.inside.surroundings) xs (texts c.self.inside.outputs.items) (notes_view c.self.inside.notes).present (texts c.self.inside.taken.keys) c.self.invariant)
 
 pub returns-then-not-present-clause-answer : goal.returns-then-not-present-clause-answer
@@ -32,7 +32,7 @@ returns-then-not-present-clause-answer c =
     let fit : is_fit w t ≡ true = sym c.in_ok-fits.ensures ∙ c.if-not-fits.false in
     let there : list_all (is_present w.present) (sources_of t) ≡ false =
     ap (λ (x : WorldData). list_all (is_present x.present) (sources_of t)) (sym c.self.view_is) ∙ sym c.has_present_sources-present.ensures ∙ c.if-not-present.true in
-    IfOk-weaker c.refuse-then-not-present.result (λ r. answer_data r ≡ Err (refused Missing [])) (λ r. answer_data r ≡ target_answer w t)
+    IfOk-weaker c.refuse-then-not-present.result (λ r. answer_data r ≡ Err (refusal_for_text Missing [])) (λ r. answer_data r ≡ target_answer w t)
     (λ r e. e ∙ sym (answer_missing w t fit there)) c.refuse-then-not-present.ensures
 
 pub returns-then-not-present-clause-ok : goal.returns-then-not-present-clause-ok
@@ -51,16 +51,16 @@ returns-then-not-writable-clause-answer c =
     let fit : is_fit w t ≡ true = sym c.in_ok-fits.ensures ∙ c.if-not-fits.false in
     let there : list_all (is_present w.present) (sources_of t) ≡ true =
     ap (λ (x : WorldData). list_all (is_present x.present) (sources_of t)) (sym c.self.view_is) ∙ sym c.has_present_sources-present.ensures ∙ c.if-not-present.false in
-    let all : linked_views c.deref.result.now ≡ linked_of w.targets =
-    ap linked_views c.deref.ensures.value ∙ c.self.invariant.libraries ∙ ap (λ (x : WorldData). linked_of x.targets) c.self.view_is in
+    let all : declared_target_views c.deref.result.now ≡ linked_of w.targets =
+    ap declared_target_views c.deref.ensures.value ∙ c.self.invariant.libraries ∙ ap (λ (x : WorldData). linked_of x.targets) c.self.view_is in
     let ns = c.in_ok-libraries.libraries.items in
     let libs : ns ≡ linked_libraries (linked_of w.targets) t = c.in_ok-libraries.ensures ∙ ap (λ x. linked_libraries x t) all in
     let es = target_edges w.surroundings (linked_of w.targets) ns t in
     let made : target_edges w.surroundings (linked_of w.targets) c.deref-2.result.now t ≡ es =
     ap (λ x. target_edges w.surroundings (linked_of w.targets) x t) c.deref-2.ensures.value in
     let held : are_writable es ≡ false = ap are_writable (sym made) ∙ sym c.in_ok-claims.ensures.writable ∙ c.if-not-writable.true in
-    IfOk-weaker c.refuse-then-not-writable.result (λ r. answer_data r ≡ Err (refused Unholdable c.unheld.result.now)) (λ r. answer_data r ≡ target_answer w t)
-    (λ r e. e ∙ ap (λ n. Err (refused Unholdable n)) c.unheld.ensures ∙ sym (answer_unholdable w t fit there (ap are_writable (sym (edges_are w t ns es libs refl)) ∙ held)))
+    IfOk-weaker c.refuse-then-not-writable.result (λ r. answer_data r ≡ Err (refusal_for_text Unholdable c.unheld.result.now)) (λ r. answer_data r ≡ target_answer w t)
+    (λ r e. e ∙ ap (λ n. Err (refusal_for_text Unholdable n)) c.unheld.ensures ∙ sym (answer_unholdable w t fit there (ap are_writable (sym (edges_are w t ns es libs refl)) ∙ held)))
     c.refuse-then-not-writable.ensures
 
 pub returns-then-not-writable-clause-ok : goal.returns-then-not-writable-clause-ok
@@ -70,8 +70,8 @@ returns-then-not-writable-clause-ok c =
     let fit : is_fit w t ≡ true = sym c.in_ok-fits.ensures ∙ c.if-not-fits.false in
     let there : list_all (is_present w.present) (sources_of t) ≡ true =
     ap (λ (x : WorldData). list_all (is_present x.present) (sources_of t)) (sym c.self.view_is) ∙ sym c.has_present_sources-present.ensures ∙ c.if-not-present.false in
-    let all : linked_views c.deref.result.now ≡ linked_of w.targets =
-    ap linked_views c.deref.ensures.value ∙ c.self.invariant.libraries ∙ ap (λ (x : WorldData). linked_of x.targets) c.self.view_is in
+    let all : declared_target_views c.deref.result.now ≡ linked_of w.targets =
+    ap declared_target_views c.deref.ensures.value ∙ c.self.invariant.libraries ∙ ap (λ (x : WorldData). linked_of x.targets) c.self.view_is in
     let ns = c.in_ok-libraries.libraries.items in
     let libs : ns ≡ linked_libraries (linked_of w.targets) t = c.in_ok-libraries.ensures ∙ ap (λ x. linked_libraries x t) all in
     let es = target_edges w.surroundings (linked_of w.targets) ns t in
@@ -87,8 +87,8 @@ place-requires c =
     let fit : is_fit w t ≡ true = sym c.in_ok-fits.ensures ∙ c.if-not-fits.false in
     let there : list_all (is_present w.present) (sources_of t) ≡ true =
     ap (λ (x : WorldData). list_all (is_present x.present) (sources_of t)) (sym c.self.view_is) ∙ sym c.has_present_sources-present.ensures ∙ c.if-not-present.false in
-    let all : linked_views c.deref.result.now ≡ linked_of w.targets =
-    ap linked_views c.deref.ensures.value ∙ c.self.invariant.libraries ∙ ap (λ (x : WorldData). linked_of x.targets) c.self.view_is in
+    let all : declared_target_views c.deref.result.now ≡ linked_of w.targets =
+    ap declared_target_views c.deref.ensures.value ∙ c.self.invariant.libraries ∙ ap (λ (x : WorldData). linked_of x.targets) c.self.view_is in
     let ns = c.in_ok-libraries.libraries.items in
     let libs : ns ≡ linked_libraries (linked_of w.targets) t = c.in_ok-libraries.ensures ∙ ap (λ x. linked_libraries x t) all in
     let es = target_edges w.surroundings (linked_of w.targets) ns t in
@@ -106,8 +106,8 @@ returns-clause-answer c =
     let fit : is_fit w t ≡ true = sym c.in_ok-fits.ensures ∙ c.if-not-fits.false in
     let there : list_all (is_present w.present) (sources_of t) ≡ true =
     ap (λ (x : WorldData). list_all (is_present x.present) (sources_of t)) (sym c.self.view_is) ∙ sym c.has_present_sources-present.ensures ∙ c.if-not-present.false in
-    let all : linked_views c.deref.result.now ≡ linked_of w.targets =
-    ap linked_views c.deref.ensures.value ∙ c.self.invariant.libraries ∙ ap (λ (x : WorldData). linked_of x.targets) c.self.view_is in
+    let all : declared_target_views c.deref.result.now ≡ linked_of w.targets =
+    ap declared_target_views c.deref.ensures.value ∙ c.self.invariant.libraries ∙ ap (λ (x : WorldData). linked_of x.targets) c.self.view_is in
     let ns = c.in_ok-libraries.libraries.items in
     let libs : ns ≡ linked_libraries (linked_of w.targets) t = c.in_ok-libraries.ensures ∙ ap (λ x. linked_libraries x t) all in
     let es = target_edges w.surroundings (linked_of w.targets) ns t in
@@ -129,8 +129,8 @@ returns-clause-ok c =
     let fit : is_fit w t ≡ true = sym c.in_ok-fits.ensures ∙ c.if-not-fits.false in
     let there : list_all (is_present w.present) (sources_of t) ≡ true =
     ap (λ (x : WorldData). list_all (is_present x.present) (sources_of t)) (sym c.self.view_is) ∙ sym c.has_present_sources-present.ensures ∙ c.if-not-present.false in
-    let all : linked_views c.deref.result.now ≡ linked_of w.targets =
-    ap linked_views c.deref.ensures.value ∙ c.self.invariant.libraries ∙ ap (λ (x : WorldData). linked_of x.targets) c.self.view_is in
+    let all : declared_target_views c.deref.result.now ≡ linked_of w.targets =
+    ap declared_target_views c.deref.ensures.value ∙ c.self.invariant.libraries ∙ ap (λ (x : WorldData). linked_of x.targets) c.self.view_is in
     let ns = c.in_ok-libraries.libraries.items in
     let libs : ns ≡ linked_libraries (linked_of w.targets) t = c.in_ok-libraries.ensures ∙ ap (λ x. linked_libraries x t) all in
     let es = target_edges w.surroundings (linked_of w.targets) ns t in

@@ -2,7 +2,7 @@ use Rattle.std.proofs.Common.{Bool, sym, ap, ◌∙◌}
 use Rattle.std.specs.Prelude.{◌&&◌}
 use Rattle.std.specs.List.{list_all}
 use Rattle.build.specs.edge.Texts.{texts, holds}
-use Rattle.build.specs.LinkedViews.{linked_views}
+use Rattle.build.specs.DeclaredTargetViews.{declared_target_views}
 use Rattle.build.specs.View.{surroundings_view, target_view}
 use Rattle.build.specs.project.World.{WorldData, is_made_in, made_in, made_of}
 use Rattle.build.specs.project.NotesView.{notes_view}
@@ -14,7 +14,7 @@ use Rattle.build.proofs.project.project.Project.fits.Goals as goal
 pub returns-then-fits : goal.returns-then-fits
 returns-then-fits c =
     let s = surroundings_view c.self.inside.surroundings in
-    let ls = linked_views c.self.inside.linked.items in
+    let ls = declared_target_views c.self.inside.linked.items in
     let outputs = texts c.self.inside.outputs.items in
     let kept = texts c.self.inside.taken.keys in
     let t = target_view c.args.target.now in

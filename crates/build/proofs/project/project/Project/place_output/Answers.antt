@@ -1,7 +1,7 @@
 use Rattle.std.proofs.Common.{◌≡◌, true, List, [], ◌∷◌, ◌++◌, Some, Ok, string_bytes, refl, sym, ap, ◌∙◌, subst, rules}
 use Rattle.std.proofs.lemmas.List.{map-append}
 use Rattle.build.specs.edge.Texts.{Path, texts}
-use Rattle.build.specs.LinkedViews.{linked_views}
+use Rattle.build.specs.DeclaredTargetViews.{declared_target_views}
 use Rattle.build.specs.View.{surroundings_view}
 use Rattle.build.specs.project.Laws.{first_taken}
 use Rattle.build.specs.project.World.{WorldData, taken_in}
@@ -15,7 +15,7 @@ use Rattle.build.proofs.project.project.Project.place_output.Goals as goal
 pub invariant_of-self-in-Ok-None : goal.invariant_of-self-in-Ok-None
 invariant_of-self-in-Ok-None c =
     let s = surroundings_view c.self.inside.surroundings in
-    let ls = linked_views c.self.inside.linked.items in
+    let ls = declared_target_views c.self.inside.linked.items in
     let outputs = texts c.self.inside.outputs.items in
     let present = (notes_view c.self.inside.notes).present in
     let kept = texts c.self.inside.taken.keys in
@@ -31,7 +31,7 @@ invariant_of-self-in-Ok-None c =
 pub invariant_of-self-in-Ok-Some : goal.invariant_of-self-in-Ok-Some
 invariant_of-self-in-Ok-Some c =
     let s = surroundings_view c.self.inside.surroundings in
-    let ls = linked_views c.self.inside.linked.items in
+    let ls = declared_target_views c.self.inside.linked.items in
     let outputs = texts c.self.inside.outputs.items in
     let kept = texts c.self.inside.taken.keys in
     let now = texts c.claim.new.paths.keys in
@@ -43,7 +43,7 @@ invariant_of-self-in-Ok-Some c =
 pub invariant_of-self-in-Err : goal.invariant_of-self-in-Err
 invariant_of-self-in-Err c =
     let s = surroundings_view c.self.inside.surroundings in
-    let ls = linked_views c.self.inside.linked.items in
+    let ls = declared_target_views c.self.inside.linked.items in
     let outputs = texts c.self.inside.outputs.items in
     let kept = texts c.self.inside.taken.keys in
     let now = texts c.claim.new.paths.keys in
@@ -54,7 +54,7 @@ invariant_of-self-in-Err c =
 pub returns-in-Ok-Some-clause-ok : goal.returns-in-Ok-Some-clause-ok
 returns-in-Ok-Some-clause-ok c =
     let s = surroundings_view c.self.inside.surroundings in
-    let ls = linked_views c.self.inside.linked.items in
+    let ls = declared_target_views c.self.inside.linked.items in
     let outputs = texts c.self.inside.outputs.items in
     let notes = notes_view c.self.inside.notes in
     let kept = texts c.self.inside.taken.keys in
@@ -109,7 +109,7 @@ returns-clause-ok c = search rules
 pub returns-in-Ok-Some-clause-err : goal.returns-in-Ok-Some-clause-err
 returns-in-Ok-Some-clause-err c =
     let s = surroundings_view c.self.inside.surroundings in
-    let ls = linked_views c.self.inside.linked.items in
+    let ls = declared_target_views c.self.inside.linked.items in
     let notes = notes_view c.self.inside.notes in
     let is : c.truncate.new.self.items ≡ c.self.inside.outputs.items =
     taken_off c.self.inside.outputs.items c.push.new.self.items c.truncate.new.self.items c.args.path c.len-number.result c.in_ok-push.ensures.items (search rules) c.truncate.ensures.items in
@@ -118,7 +118,7 @@ returns-in-Ok-Some-clause-err c =
 pub returns-clause-err : goal.returns-clause-err
 returns-clause-err c =
     let s = surroundings_view c.self.inside.surroundings in
-    let ls = linked_views c.self.inside.linked.items in
+    let ls = declared_target_views c.self.inside.linked.items in
     let notes = notes_view c.self.inside.notes in
     let is : c.truncate-in-Err.new.self.items ≡ c.self.inside.outputs.items =
     taken_off c.self.inside.outputs.items c.push.new.self.items c.truncate-in-Err.new.self.items c.args.path c.len-number.result c.in_ok-push.ensures.items (search rules) c.truncate-in-Err.ensures.items in

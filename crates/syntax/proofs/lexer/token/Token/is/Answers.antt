@@ -1,13 +1,13 @@
 -- Two kinds are one where their numbers are: the order of the kinds gives each the number that the definitions give it.
 use Rattle.std.proofs.Common.{◌≡◌, ◌∙◌, ℕ, eqb, refl, ap}
 use denote.Enum.Declared.{tag_of}
-use Rattle.syntax.specs.contracts.lexer.token.Kind.{the_type}
-use Rattle.syntax.specs.declared.lexer.token.Kind.{Kind}
-use Rattle.syntax.specs.declared.lexer.token.Kind.TheVariants as Kinds
+use Rattle.syntax.specs.contracts.lexer.token.TokenKind.{the_type}
+use Rattle.syntax.specs.declared.lexer.token.TokenKind.{TokenKind}
+use Rattle.syntax.specs.declared.lexer.token.TokenKind.TheVariants as Kinds
 use Rattle.syntax.specs.lexer.Kinds.{number}
 use Rattle.syntax.proofs.lexer.token.Token.is.Goals as goal
 
-place_is : (k : Kind) → tag_of the_type k ≡ number k
+place_is : (k : TokenKind) → tag_of the_type k ≡ number k
 place_is Kinds.Name = refl
 place_is Kinds.String = refl
 place_is Kinds.True = refl

@@ -4,7 +4,7 @@ use Rattle.values.specs.Data.{entry_count}
 use Rattle.values.specs.Limits.{entries_fit}
 use Rattle.values.specs.Weight.{entries_depth, items_depth}
 use Rattle.values.specs.View.{entries_of, items_of}
-use Rattle.values.specs.declared.refusal.Refusal.TheVariants as refusal
+use Rattle.values.specs.declared.refusal.OperationRefusal.TheVariants as refusal
 use Rattle.values.proofs.ItemsLemmas.{within_facts}
 use Rattle.values.proofs.EntriesLemmas.{entry_count-entries_of}
 use Rattle.values.proofs.BuilderLemmas.{entries_depth-entries_of, fit_by_numbers}

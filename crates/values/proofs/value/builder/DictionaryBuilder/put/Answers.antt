@@ -3,7 +3,7 @@ use Rattle.std.specs.Prelude.{IfSome, if◌then◌else◌}
 use Rattle.std.specs.List.{list_any}
 use Rattle.std.proofs.lemmas.List.{length_push}
 use Rattle.std.proofs.lemmas.Bool.{not-true, not-false}
-use Rattle.values.specs.Data.{put, find, AreDistinct}
+use Rattle.values.specs.Data.{entries_with, find, AreDistinct}
 use Rattle.values.specs.Weight.{weight, depth, entries_weight, entries_depth}
 use Rattle.values.specs.View.{data_of, entries_of}
 use Rattle.values.proofs.EntriesLemmas.{place, put_in, put_new, no_any, some_any, find_out}
@@ -37,7 +37,7 @@ invariant_of-self-else-is_new c =
     let pairs : length ks ≡ length vs = c.self.invariant.pairs ∙ sym (ap length same) in
     let inside : i < length vs = omega (arith, there, c.in_ok-index.ensures.index, pairs) in
     let keys : c.insert_full.new.self ≡ ks = c.in_ok-index.ensures.keys ∙ ap (λ (b : Bool). if b then ks else ks ++ q ∷ []) some in
-    let is : entries_of c.insert_full.new.self (set vs i w) ≡ put q (data_of w) (entries_of ks vs) =
+    let is : entries_of c.insert_full.new.self (set vs i w) ≡ entries_with q (data_of w) (entries_of ks vs) =
     ap (λ l. entries_of l (set vs i w)) keys ∙ ap (λ j. entries_of ks (set vs j w)) c.in_ok-index.ensures.index ∙ put_in q w ks vs pairs there in
     let before = ap (entries_of ks) (sym same) in
     let total = weight_replaced ks vs i w c.index.result.now pairs inside in
@@ -69,7 +69,7 @@ invariant_of-self-then-is_new c =
     let past : length ks ≤ place q ks = no_any (λ k. bytes_eq q k) ks absent in
     let keys : c.insert_full.new.self ≡ ks ++ q ∷ [] = c.in_ok-index.ensures.keys ∙ ap (λ (b : Bool). if b then ks else ks ++ q ∷ []) absent in
     let values : c.push_reserved.new.self.items ≡ vs ++ w ∷ [] = c.push_reserved.ensures.items ∙ ap (λ l. l ++ w ∷ []) c.in_ok-reserve.ensures.items in
-    let is : entries_of c.insert_full.new.self c.push_reserved.new.self.items ≡ put q (data_of w) (entries_of ks vs) =
+    let is : entries_of c.insert_full.new.self c.push_reserved.new.self.items ≡ entries_with q (data_of w) (entries_of ks vs) =
     ap (λ l. entries_of l c.push_reserved.new.self.items) keys ∙ ap (entries_of (ks ++ q ∷ [])) values ∙ put_new q w ks vs c.self.invariant.pairs past in
     let none : find q (entries_of ks vs) ≡ None = find_out q ks vs past in
     let total = weight_put-new q (data_of w) (entries_of ks vs) none in
@@ -96,7 +96,7 @@ returns-else-is_new c =
     let pairs : length ks ≡ length vs = c.self.invariant.pairs ∙ sym (ap length same) in
     let keys : c.insert_full.new.self ≡ ks = c.in_ok-index.ensures.keys ∙ ap (λ (b : Bool). if b then ks else ks ++ q ∷ []) some in
     ap (λ l. entries_of l (set vs i w)) keys ∙ ap (λ j. entries_of ks (set vs j w)) c.in_ok-index.ensures.index ∙ put_in q w ks vs pairs there
-    ∙ ap (λ l. put q (data_of w) (entries_of ks l)) same ∙ ap (put q (data_of w)) c.self.view_is
+    ∙ ap (λ l. entries_with q (data_of w) (entries_of ks l)) same ∙ ap (entries_with q (data_of w)) c.self.view_is
 
 pub returns-then-is_new : goal.returns-then-is_new
 returns-then-is_new c =
@@ -108,4 +108,4 @@ returns-then-is_new c =
     let past : length ks ≤ place q ks = no_any (λ k. bytes_eq q k) ks absent in
     let keys : c.insert_full.new.self ≡ ks ++ q ∷ [] = c.in_ok-index.ensures.keys ∙ ap (λ (b : Bool). if b then ks else ks ++ q ∷ []) absent in
     let values : c.push_reserved.new.self.items ≡ vs ++ w ∷ [] = c.push_reserved.ensures.items ∙ ap (λ l. l ++ w ∷ []) c.in_ok-reserve.ensures.items in
-    ap (λ l. entries_of l c.push_reserved.new.self.items) keys ∙ ap (entries_of (ks ++ q ∷ [])) values ∙ put_new q w ks vs c.self.invariant.pairs past ∙ ap (put q (data_of w)) c.self.view_is
+    ap (λ l. entries_of l c.push_reserved.new.self.items) keys ∙ ap (entries_of (ks ++ q ∷ [])) values ∙ put_new q w ks vs c.self.invariant.pairs past ∙ ap (entries_with q (data_of w)) c.self.view_is

@@ -1,0 +1,15 @@
+use Rattle.std.proofs.Common.{arith}
+use Rattle.std.proofs.lemmas.Grind.{common_steps}
+use Rattle.arguments.proofs.readers.value_named.Goals as goal
+
+pub loop-one-init : goal.loop-one-init
+loop-one-init c = grind (arith, common_steps)
+
+pub returns-then-eq : goal.returns-then-eq
+returns-then-eq c = grind (arith, common_steps)
+
+pub loop-one-preserved : goal.loop-one-preserved
+loop-one-preserved c = grind (arith, common_steps)
+
+pub returns : goal.returns
+returns c = grind (arith, common_steps)

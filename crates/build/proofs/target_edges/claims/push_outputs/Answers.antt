@@ -1,0 +1,12 @@
+use Rattle.std.proofs.Common.{arith}
+use Rattle.std.proofs.lemmas.Grind.{common_steps}
+use Rattle.build.proofs.target_edges.claims.push_outputs.Goals as goal
+
+pub loop-edge-init : goal.loop-edge-init
+loop-edge-init c = grind (arith, common_steps)
+
+pub loop-edge-preserved : goal.loop-edge-preserved
+loop-edge-preserved c = grind (arith, common_steps)
+
+pub returns : goal.returns
+returns c = grind (arith, common_steps)

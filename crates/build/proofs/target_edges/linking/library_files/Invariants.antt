@@ -1,9 +1,0 @@
-use Rattle.std.proofs.Common.{◌≡◌, take}
-use Rattle.std.specs.Prelude.{flat_map}
-use Rattle.build.specs.edge.Texts.{texts}
-use Rattle.build.specs.LinkedViews.{linked_views}
-use Rattle.build.specs.target_edges.Words.{library_file}
-use Rattle.build.proofs.target_edges.linking.library_files.Given as goal
-
-abbrev pub invariant-loop-number : goal.invariant-loop-number
-invariant-loop-number l = texts l.files.items ≡ flat_map (library_file (linked_views l.earlier)) (take l.number-index l.numbers)

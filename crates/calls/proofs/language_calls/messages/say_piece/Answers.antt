@@ -1,7 +1,0 @@
-use Rattle.std.proofs.Common.{ap}
-use Rattle.world.specs.Deed.{say}
-use Rattle.world.proofs.Answering.{carries_as}
-use Rattle.calls.proofs.language_calls.messages.say_piece.Goals as goal
-
-pub returns : goal.returns
-returns g c = carries_as (ap say c.text_of.ensures) c.say.ensures

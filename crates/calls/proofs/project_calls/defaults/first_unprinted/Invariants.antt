@@ -1,8 +1,0 @@
-use Rattle.std.proofs.Common.{◌≡◌, drop}
-use Rattle.values.specs.View.{items_of}
-use Rattle.calls.specs.project_calls.Defaults.{first_unprinted}
-use Rattle.calls.proofs.project_calls.defaults.first_unprinted.Given as goal
-
--- the names and values that are left decide
-abbrev pub invariant-loop-i : goal.invariant-loop-i
-invariant-loop-i l = first_unprinted (drop l.i l.names) (items_of (drop l.i l.values)) ≡ first_unprinted l.names (items_of l.values)

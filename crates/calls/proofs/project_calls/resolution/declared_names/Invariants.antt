@@ -1,8 +1,0 @@
-use Rattle.std.proofs.Common.{◌≡◌, take}
-use Rattle.build.specs.edge.Texts.{texts}
-use Rattle.options.specs.option_file.View.{options_in}
-use Rattle.calls.specs.project_calls.Resolution.{declared_names}
-use Rattle.calls.proofs.project_calls.resolution.declared_names.Given as goal
-
-abbrev pub invariant-loop-i : goal.invariant-loop-i
-invariant-loop-i l = texts l.names.items ≡ declared_names (take l.i (options_in l.declared))

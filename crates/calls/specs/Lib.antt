@@ -1,2 +1,0 @@
-pub mod language_calls
-pub mod project_calls

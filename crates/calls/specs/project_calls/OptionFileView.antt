@@ -1,8 +1,0 @@
--- Defines the view of an option file.
-use Rattle.options.specs.option_file.View.{options_in}
-use Rattle.calls.specs.project_calls.OptionFile.{OptionFileData}
-use Rattle.calls.specs.declared.project_calls.declaring.OptionFile.{OptionFile}
-
--- Returns the plain data of an option file.
-abbrev pub file_in : OptionFile → OptionFileData
-file_in f = record { path = f.path.now; declared = options_in f.declared }

@@ -1,7 +1,0 @@
-//! States laws of all calls. A law is the contract of a function that does nothing.
-ghost use Rattle.calls.specs.language_calls.RangeLaw.{RangeIsBelow};
-
-/// Proves that `range` returns the start and all that steps from it reach below the stop, in order, and nothing else.
-pub fn range_is_below()
-    ensures { RangeIsBelow }
-{}

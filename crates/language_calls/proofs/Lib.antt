@@ -1,0 +1,4 @@
+pub mod Counting
+pub mod Joining
+pub mod Saying
+mod Stepping

@@ -1,8 +1,0 @@
-use Rattle.std.proofs.Common.{◌∙◌}
-use Rattle.machine.specs.machine_file.View.{machine_in, entries_of}
-use Rattle.machine.proofs.Looking.{got}
-use Rattle.machine.proofs.machine_file.machine.Machine.get.Goals as goal
-
-pub returns : goal.returns
-returns c = c.get.ensures
-    ∙ got (machine_in c.args.self.now) c.args.section.now c.args.key.now (entries_of c.in_ok-section.section.now) c.in_ok-section.ensures

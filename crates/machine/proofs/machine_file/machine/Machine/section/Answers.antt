@@ -1,5 +1,0 @@
-use Rattle.machine.proofs.Looking.{section_found}
-use Rattle.machine.proofs.machine_file.machine.Machine.section.Goals as goal
-
-pub returns : goal.returns
-returns c = section_found c.args.name.now c.args.self.now.sections.entries c.get.result c.get.ensures.value

@@ -1,8 +1,0 @@
-use Rattle.std.proofs.Common.{◌∙◌, sym, arith}
-use Rattle.syntax.specs.lexer.Numerals.{magnitude}
-use Rattle.machine.proofs.Ranges.{past_64}
-use Rattle.machine.proofs.machine_file.number.integer.Goals as goal
-
-pub returns-in_err-magnitude : goal.returns-in_err-magnitude
-returns-in_err-magnitude c = c.from_residual.ensures
-    ∙ sym (past_64 c.args.negative (magnitude c.args.text.now) (omega (arith, c.in_err-magnitude.ensures)))

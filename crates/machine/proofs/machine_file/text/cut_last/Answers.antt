@@ -1,5 +1,0 @@
-use Rattle.machine.proofs.Cutting.{split_last}
-use Rattle.machine.proofs.machine_file.text.cut_last.Goals as goal
-
-pub returns : goal.returns
-returns c = split_last c.args.at c.args.text.now c.rsplit_once.result c.requires c.rsplit_once.ensures.cases

@@ -1,8 +1,0 @@
-use Rattle.std.proofs.Common.{◌≡◌, [], take, map}
-use Rattle.std.specs.List.{fold}
-use Rattle.machine.specs.option_values.View.{kinds_in, row_in}
-use Rattle.machine.specs.option_values.BuiltIns.{add_kind}
-use Rattle.machine.proofs.option_values.built_in.built_in_kinds.Given as goal
-
-abbrev pub invariant-loop-row : goal.invariant-loop-row
-invariant-loop-row l = kinds_in l.kinds.entries ≡ fold add_kind [] (map row_in (take l.row-index l.row-items))

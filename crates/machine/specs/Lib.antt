@@ -1,2 +1,0 @@
-pub mod machine_file
-pub mod option_values

@@ -1,0 +1,11 @@
+pub mod Cutting
+pub mod Trimming
+pub mod Items
+pub mod Entries
+pub mod Forms
+pub mod Said
+pub mod SaysLemmas
+pub mod FirstBad
+pub mod Saying
+pub mod Looking
+pub mod Ranges

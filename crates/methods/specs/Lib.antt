@@ -1,0 +1,15 @@
+pub mod CompilerChecks
+pub mod CompilerMethods
+pub mod CompilerNames
+pub mod CompilerRows
+pub mod CompilerSaid
+pub mod Dependencies
+pub mod Features
+pub mod Keys
+pub mod Left
+pub mod Machines
+pub mod Meson
+pub mod Methods
+pub mod Programs
+pub mod Rows
+pub mod Targets

@@ -1,9 +1,0 @@
-mod Examples
-pub mod FilesBehind
-pub mod Numbers
-pub mod Places
-pub mod Steps
-pub mod Unmarked
-pub mod Assigned
-pub mod Digits
-pub mod Within

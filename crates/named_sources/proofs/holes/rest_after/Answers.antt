@@ -1,5 +1,0 @@
-use Rattle.named_sources.proofs.Numbers.{strips}
-use Rattle.named_sources.proofs.holes.rest_after.Goals as goal
-
-pub returns : goal.returns
-returns c = strips c.args.front.now c.args.text.now c.strip_prefix.result c.strip_prefix.ensures.cases

@@ -1,7 +1,0 @@
-use Rattle.std.proofs.Common.{◌≡◌, map, drop, string_bytes}
-use Rattle.named_sources.specs.resources.Testing.{are_assignments}
-use Rattle.named_sources.proofs.resources.testing.are_assignments.Given as goal
-
--- what is left decides
-abbrev pub invariant-loop-text : goal.invariant-loop-text
-invariant-loop-text l = are_assignments (map string_bytes (drop l.text-index l.texts)) ≡ are_assignments (map string_bytes l.texts)

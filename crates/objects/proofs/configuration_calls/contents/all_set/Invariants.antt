@@ -1,9 +1,0 @@
-use Rattle.std.proofs.Common.{◌≡◌, [], false, drop}
-use Rattle.values.specs.View.{items_of}
-use Rattle.objects.specs.configuration_calls.Contents.{all_set}
-use Rattle.objects.proofs.configuration_calls.contents.all_set.Given as goal
-
--- the values so far, and the names and values that are left, decide
-abbrev pub invariant-loop-i : goal.invariant-loop-i
-invariant-loop-i l = (l.held.frozen ≡ false)
-    × (all_set l.held.entries (drop l.i l.names) (items_of (drop l.i l.values)) ≡ all_set [] l.names (items_of l.values))

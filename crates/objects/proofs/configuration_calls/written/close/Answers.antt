@@ -1,9 +1,0 @@
-use Rattle.ports.specs.Outputs.{all, closing}
-use Rattle.objects.proofs.Telling.{acts_told, acts_untold, nothing_sent}
-use Rattle.objects.proofs.configuration_calls.written.close.Goals as goal
-
-pub returns-in_err-close : goal.returns-in_err-close
-returns-in_err-close g c = acts_untold (nothing_sent closing c.in_err-close.ensures) c.in_err-close.ensures.failures c.from_residual.ensures.1
-
-pub returns : goal.returns
-returns g c = acts_told (all c.in_ok-close.ensures.takes) c.in_ok-close.ensures.failures

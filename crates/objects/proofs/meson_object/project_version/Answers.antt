@@ -1,5 +1,0 @@
-use Rattle.std.proofs.Common.{ap, ◌∙◌}
-use Rattle.objects.proofs.meson_object.project_version.Goals as goal
-
-pub returns : goal.returns
-returns c = c.as_str.ensures.value ∙ ap (λ f. f.version) (c.facts.ensures ∙ ap (λ p. p.surroundings.facts) c.project.ensures)

@@ -1,7 +1,0 @@
-//! States laws of configuration data made of a dictionary. A law is the contract of a function that does nothing.
-ghost use Rattle.objects.specs.configuration_calls.NameOrder.{NamesAscend};
-
-/// Proves that the names of configuration data made of a dictionary ascend by their bytes, and are the dictionary's keys.
-pub fn names_ascend()
-    ensures { NamesAscend }
-{}

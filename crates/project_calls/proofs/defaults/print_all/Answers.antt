@@ -1,0 +1,15 @@
+use Rattle.std.proofs.Common.{arith}
+use Rattle.std.proofs.lemmas.Grind.{common_steps}
+use Rattle.project_calls.proofs.defaults.print_all.Goals as goal
+
+pub loop-value-init : goal.loop-value-init
+loop-value-init c = grind (arith, common_steps)
+
+pub returns-in-Err : goal.returns-in-Err
+returns-in-Err c = grind (arith, common_steps)
+
+pub loop-value-preserved : goal.loop-value-preserved
+loop-value-preserved c = grind (arith, common_steps)
+
+pub returns : goal.returns
+returns c = grind (arith, common_steps)

@@ -1,0 +1,15 @@
+use Rattle.std.proofs.Common.{arith}
+use Rattle.std.proofs.lemmas.Grind.{common_steps}
+use Rattle.resources.proofs.test_arguments.assign.Goals as goal
+
+pub loop-i-init : goal.loop-i-init
+loop-i-init c = grind (arith, common_steps)
+
+pub returns-in_default : goal.returns-in_default
+returns-in_default c = grind (arith, common_steps)
+
+pub returns-in_default-as_text : goal.returns-in_default-as_text
+returns-in_default-as_text c = grind (arith, common_steps)
+
+pub loop-i-preserved : goal.loop-i-preserved
+loop-i-preserved c = grind (arith, common_steps)

@@ -1,0 +1,6 @@
+mod Examples
+pub mod FilesBehind
+pub mod Numbers
+pub mod Places
+pub mod Steps
+pub mod Unmarked

@@ -1,0 +1,13 @@
+pub mod Folders
+pub mod Holes
+pub mod HolesView
+pub mod Libraries
+pub mod Outputs
+pub mod Sources
+pub mod SourcesView
+pub mod Things
+pub mod ThingsView
+pub mod Unnamed
+pub mod Values
+pub mod ValuesView
+pub mod Versions

@@ -1,0 +1,55 @@
+use Rattle.std.proofs.Common.{Some, ap}
+use Rattle.world.proofs.Answering.{carries_give, carries_none, carries_stop, carries_then}
+use Rattle.arguments.specs.Arguments.{arguments_data}
+use Rattle.world.specs.Here.{here_of}
+use Rattle.target_calls.specs.Targets.{declare, target_of_arguments}
+use Rattle.target_calls.specs.BuildTargets.{declared_target}
+use Rattle.target_calls.specs.BuildTargetsView.{named_target_view}
+use Rattle.target_calls.proofs.Saying.{carries_said_of}
+use Rattle.target_calls.proofs.build_target_calls.declare.Goals as goal
+
+pub returns-in_err-said : goal.returns-in_err-said
+returns-in_err-said g c = carries_none c.from_residual.ensures.1
+
+pub returns-in_err-named : goal.returns-in_err-named
+unfolding declare target_of_arguments
+returns-in_err-named g c = carries_stop (carries_said_of {view = named_target_view} (λ h. declared_target h c.args.kind (arguments_data c.args.arguments.now)) here_of c.in_ok-said.said
+    c.in_ok-said.ensures c.here.ensures c.in_err-named.ensures) c.from_residual-in_err-named.ensures.1
+
+pub returns-in_err-require_fit : goal.returns-in_err-require_fit
+unfolding declare target_of_arguments
+returns-in_err-require_fit g c =
+    carries_then {x = c.in_ok-named.named} (carries_said_of {view = named_target_view} (λ h. declared_target h c.args.kind (arguments_data c.args.arguments.now)) here_of c.in_ok-said.said
+    c.in_ok-said.ensures c.here.ensures c.in_ok-named.ensures) (carries_stop c.in_err-require_fit.ensures c.from_residual-in_err-require_fit.ensures.1)
+
+pub returns-in_err-require_all : goal.returns-in_err-require_all
+unfolding declare target_of_arguments
+returns-in_err-require_all g c =
+    carries_then {x = c.in_ok-named.named} (carries_said_of {view = named_target_view} (λ h. declared_target h c.args.kind (arguments_data c.args.arguments.now)) here_of c.in_ok-said.said
+    c.in_ok-said.ensures c.here.ensures c.in_ok-named.ensures) (carries_then c.in_ok-require_fit.ensures
+    (carries_stop c.in_err-require_all.ensures
+    c.from_residual-in_err-require_all.ensures.1))
+
+pub returns-in_err-number : goal.returns-in_err-number
+unfolding declare target_of_arguments
+returns-in_err-number g c =
+    carries_then {x = c.in_ok-named.named} (carries_said_of {view = named_target_view} (λ h. declared_target h c.args.kind (arguments_data c.args.arguments.now)) here_of c.in_ok-said.said
+    c.in_ok-said.ensures c.here.ensures c.in_ok-named.ensures) (carries_then c.in_ok-require_fit.ensures
+    (carries_then c.in_ok-require_all.ensures
+    (carries_stop c.in_err-number.ensures c.from_residual-in_err-number.ensures.1)))
+
+pub returns-in_err-value : goal.returns-in_err-value
+unfolding declare target_of_arguments
+returns-in_err-value g c =
+    carries_then {x = c.in_ok-named.named} (carries_said_of {view = named_target_view} (λ h. declared_target h c.args.kind (arguments_data c.args.arguments.now)) here_of c.in_ok-said.said
+    c.in_ok-said.ensures c.here.ensures c.in_ok-named.ensures) (carries_then c.in_ok-require_fit.ensures
+    (carries_then c.in_ok-require_all.ensures
+    (carries_then {x = c.in_ok-number.number} c.in_ok-number.ensures (carries_none c.from_residual-in_err-value.ensures.1))))
+
+pub returns : goal.returns
+unfolding declare target_of_arguments
+returns g c =
+    carries_then {x = c.in_ok-named.named} (carries_said_of {view = named_target_view} (λ h. declared_target h c.args.kind (arguments_data c.args.arguments.now)) here_of c.in_ok-said.said
+    c.in_ok-said.ensures c.here.ensures c.in_ok-named.ensures) (carries_then c.in_ok-require_fit.ensures
+    (carries_then c.in_ok-require_all.ensures
+    (carries_then {x = c.in_ok-number.number} c.in_ok-number.ensures (carries_give (ap Some c.in_ok-value.ensures)))))

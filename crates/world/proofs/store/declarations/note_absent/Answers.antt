@@ -1,0 +1,9 @@
+use Rattle.std.proofs.Common.{arith}
+use Rattle.std.proofs.lemmas.Grind.{common_steps}
+use Rattle.world.proofs.store.declarations.note_absent.Goals as goal
+
+pub loop-path-preserved : goal.loop-path-preserved
+loop-path-preserved c = grind (arith, common_steps)
+
+pub returns : goal.returns
+returns c = grind (arith, common_steps)

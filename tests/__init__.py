@@ -1,0 +1,1 @@
+"""The tests that are scripts, and what they are made of."""
