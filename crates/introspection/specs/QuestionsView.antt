@@ -1,6 +1,6 @@
 -- Defines the lines of questions, without their place in memory.
 use Rattle.std.specs.Prelude.{option_map}
-use Rattle.machine_file.specs.QuestionsView.{asides_in}
+use Rattle.machine_file.specs.QuestionsView.{all_shown_in}
 use Rattle.machine_file.specs.View.{entries_of, value_in}
 use Rattle.introspection.specs.Questions as plain
 use Rattle.introspection.specs.declared.questions.QuestionLine.{QuestionLine}
@@ -18,5 +18,5 @@ line_in l = record {
   section = l.section.now;
   key = option_map (λ k. k.now) l.key;
   reply = reply_in l.reply;
-  asides = asides_in l.asides.now;
+  asides = all_shown_in l.asides.now;
 }

@@ -1,15 +1,15 @@
 //! Writes what a run asks a machine file, as lines of JSON.
 ghost use Rattle.std.specs.Prelude.{◌≡◌, ◌++◌, IfOk, OnOk, codes, map, option_map, string_bytes};
 ghost use Rattle.serde_json.specs.Events.{SendsValue};
-ghost use Rattle.machine_file.specs.QuestionsView.{asides_in, question_in};
+ghost use Rattle.machine_file.specs.QuestionsView.{all_shown_in, topic_in};
 ghost use Rattle.machine_file.specs.Questions.{answer_to};
 ghost use Rattle.machine_file.specs.View.{entries_of, machine_in, strings_in, value_in};
-ghost use Rattle.introspection.specs.Questions.{entry_member, label_of, label_text, line_of, line_text, lines_of, option_line};
+ghost use Rattle.introspection.specs.Questions.{entry_member, label_of, label_text, line_of, line_text, option_line, topic_lines};
 ghost use Rattle.introspection.specs.Questions.{ordered_object, shown_beside, shown_key, shown_reply, shown_value};
 ghost use Rattle.introspection.specs.QuestionsView.{line_in, reply_in};
 
 use crate::serialization::printed;
-use machine_file::{Aside, Machine, MachineValue, Question, Section, Topic};
+use machine_file::{Machine, MachineValue, Section, ShownAside, Topic};
 use serde::{Described, Serialize, Serializer};
 use serde_json::Value;
 use std::alloc::{AllocError, Global};
@@ -30,7 +30,7 @@ pub struct QuestionLine<'a> {
     /// The key, or `None` if the question is about the whole section.
     pub key: Option<&'a str>,
     pub reply: Reply<'a>,
-    pub asides: &'a [Aside],
+    pub asides: &'a [ShownAside],
 }
 
 // Appends the lines of the options with these names.
@@ -39,10 +39,10 @@ fn add_options<'a>(
     machine: &'a Machine,
     section: &'a str,
     names: &'a [String],
-    asides: &'a [Aside],
+    asides: &'a [ShownAside],
 ) -> Result<(), AllocError>
     ensures { IfOk result (λ _. map line_in lines.new.items ≡ map line_in lines.old.items
-        ++ map (option_line (machine_in machine.now) (asides_in asides.now) section.now) (strings_in names.now)) }
+        ++ map (option_line (machine_in machine.now) (all_shown_in asides.now) section.now) (strings_in names.now)) }
 {
     for name in names {
         lines.push(QuestionLine {
@@ -61,11 +61,11 @@ fn option_lines<'a>(
     machine: &'a Machine,
     built_in: &'a [String],
     declared: &'a [String],
-    asides: &'a [Aside],
+    asides: &'a [ShownAside],
 ) -> Result<Vec<QuestionLine<'a>>, AllocError>
     ensures { IfOk result (λ lines. map line_in lines.items
-        ≡ map (option_line (machine_in machine.now) (asides_in asides.now) (codes "built-in options")) (strings_in built_in.now)
-        ++ map (option_line (machine_in machine.now) (asides_in asides.now) (codes "project options")) (strings_in declared.now)) }
+        ≡ map (option_line (machine_in machine.now) (all_shown_in asides.now) (codes "built-in options")) (strings_in built_in.now)
+        ++ map (option_line (machine_in machine.now) (all_shown_in asides.now) (codes "project options")) (strings_in declared.now)) }
 {
     let mut lines = Vec::new(alloc);
     add_options(&mut lines, machine, "built-in options", built_in, asides)?;
@@ -73,17 +73,18 @@ fn option_lines<'a>(
     Ok(lines)
 }
 
-/// Returns the lines of a question, with the answer of this machine file: one, or one for each requested option.
+/// Returns the lines of a question about this topic, with the answer of this machine file: one, or one for each requested option. Each has
+/// these asides.
 pub fn question_lines<'a>(
     alloc: Global,
     machine: &'a Machine,
-    question: &'a Question,
+    topic: &'a Topic,
+    asides: &'a [ShownAside],
 ) -> Result<Vec<QuestionLine<'a>>, AllocError>
     ensures { IfOk result (λ lines. map line_in lines.items
-        ≡ lines_of (question_in question.now) (answer_to (machine_in machine.now) (question_in question.now).topic)) }
+        ≡ topic_lines (topic_in topic.now) (answer_to (machine_in machine.now) (topic_in topic.now)) (all_shown_in asides.now)) }
 {
-    let asides = question.asides.as_slice();
-    match &question.topic {
+    match topic {
         Topic::Key(section, key) => {
             let line = QuestionLine {
                 section: section.as_str(),
@@ -155,8 +156,8 @@ fn send_key<S: Serializer>(key: Option<&str>, out: &mut S) -> Result<(), S::Erro
     }
 }
 
-fn send_beside<S: Serializer>(asides: &[Aside], out: &mut S) -> Result<(), S::Error>
-    ensures { OnOk result (SendsValue (shown_beside (asides_in asides.now)) (S.written out.old) (S.written out.new)) }
+fn send_beside<S: Serializer>(asides: &[ShownAside], out: &mut S) -> Result<(), S::Error>
+    ensures { OnOk result (SendsValue (shown_beside (all_shown_in asides.now)) (S.written out.old) (S.written out.new)) }
 {
     out.begin_map(Some(asides.len()))?;
     for aside in asides.iter() {

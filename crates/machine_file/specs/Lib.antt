@@ -12,5 +12,6 @@ pub mod View
 pub mod Answers
 pub mod Lookups
 pub mod Readers
+pub mod Asides
 pub mod Questions
 pub mod QuestionsView

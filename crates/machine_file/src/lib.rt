@@ -18,6 +18,7 @@
 //! no such key.
 #![tactic(auto)]
 
+mod aside;
 pub mod fault;
 mod line;
 mod line_problem;
@@ -30,8 +31,9 @@ mod state;
 mod text;
 mod value;
 
+pub use aside::{Aside, ShownAside};
 pub use machine::{Entry, Machine, Section};
 pub use number::integer_of;
-pub use question::{Aside, Question, Topic};
+pub use question::{Question, Topic};
 pub use text::{Blanks, cut_first, trim};
 pub use value::{MachineValue, read_value};

@@ -3,8 +3,9 @@
 ghost use Rattle.std.specs.Prelude.{◌≡◌, IfOk, map, string_bytes};
 ghost use Rattle.machine_file.specs.Lookups.{check_key};
 ghost use Rattle.machine_file.specs.Questions.{Key, check_topic, dependency_topic, plain};
-ghost use Rattle.machine_file.specs.QuestionsView.{question_in, topic_in};
+ghost use Rattle.machine_file.specs.QuestionsView.{all_shown_in, question_in, topic_in};
 
+use crate::aside::{Aside, ShownAside};
 use std::alloc::{AllocError, Global};
 
 /// Names the topic of a question to the machine file.
@@ -25,13 +26,6 @@ impl Drop for Topic {
             Topic::Options(_, _) => {}
         }
     }
-}
-
-/// Holds something else that the call states, which changes no answer: the name of a keyword, and its texts.
-#[derive(Drop)]
-pub struct Aside {
-    pub name: String,
-    pub texts: Vec<String>,
 }
 
 /// Holds a question, and what else the call states.
@@ -77,6 +71,17 @@ impl Question {
             topic,
             asides: Vec::new(alloc),
         }
+    }
+
+    /// Returns the asides with their words.
+    pub fn shown_asides(&self, alloc: Global) -> Result<Vec<ShownAside>, AllocError>
+        ensures { IfOk result (λ shown. all_shown_in shown.items ≡ (question_in self.now).asides) }
+    {
+        let mut shown = Vec::new(alloc);
+        for aside in &self.asides {
+            shown.push(aside.shown(alloc)?)?;
+        }
+        Ok(shown)
     }
 }
 

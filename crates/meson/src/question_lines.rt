@@ -54,7 +54,8 @@ impl Telling {
     fn add_all(&mut self, alloc: Global, machine: &Machine, asked: &Asked) -> Result<(), AllocError>
         ensures { OnOk result (Tells self.old (lines_asked (machine_in machine.now) (asked_in asked.now)) self.new) }
     {
-        let lines = question_lines(alloc, machine, &asked.question)?;
+        let asides = asked.question.shown_asides(alloc)?;
+        let lines = question_lines(alloc, machine, &asked.question.topic, &asides)?;
         for line in &lines {
             self.add(alloc, line, asked)?;
         }

@@ -3,16 +3,12 @@
 ghost use Rattle.std.specs.Prelude.{◌≡◌, ◌++◌, IfOk, OnOk, map};
 ghost use Rattle.arguments.specs.Arguments.{arguments_data};
 ghost use Rattle.arguments.specs.Given.{keyword};
-ghost use Rattle.values.specs.Data.{object};
-ghost use Rattle.values.specs.Prelude.{data_of};
 ghost use Rattle.machine_file.specs.QuestionsView.{asides_in, question_in, topic_in};
-ghost use Rattle.machine_file.specs.View.{strings_in};
-ghost use Rattle.resources.specs.Beside.{aside_of, asides_named, call_question, state_word, words_in, words_of};
+ghost use Rattle.resources.specs.Beside.{aside_of, asides_named, call_question};
 
 use arguments::Arguments;
 use machine_file::{Aside, Question, Topic};
 use std::alloc::{AllocError, Global};
-use values::{Feature, Object, Value, flatten_value, push_string, push_strings};
 
 // The keywords that say how a check is made, which dependency is wanted, and whether it is required.
 const BESIDE: [&str; 6] = [
@@ -24,53 +20,7 @@ const BESIDE: [&str; 6] = [
     "required",
 ];
 
-// Returns the name of a feature's state.
-fn state_word(feature: Feature) -> &'static str
-    ensures { result.now ≡ state_word feature }
-{
-    match feature {
-        Feature::Enabled => "enabled",
-        Feature::Disabled => "disabled",
-        Feature::Auto => "auto",
-    }
-}
-
-// Appends the words for an object.
-fn put_object(alloc: Global, words: &mut Vec<String>, thing: &Object) -> Result<(), AllocError>
-    ensures { OnOk result (strings_in words.new.items ≡ strings_in words.old.items ++ words_of (object thing.now)) }
-{
-    match thing {
-        Object::Feature(feature) => push_string(alloc, words, state_word(*feature)),
-        Object::Dependency(dependency) => push_string(alloc, words, dependency.name.as_str()),
-        Object::IncludeDirectories(folders) => push_strings(alloc, words, folders.as_slice()),
-        _ => Ok(()),
-    }
-}
-
-// Appends the words for a value.
-fn put_words(alloc: Global, words: &mut Vec<String>, value: &Value) -> Result<(), AllocError>
-    ensures { OnOk result (strings_in words.new.items ≡ strings_in words.old.items ++ words_of (data_of value.now)) }
-{
-    match value {
-        Value::Text(text) => push_string(alloc, words, text.as_str()),
-        Value::Boolean(is_so) => push_string(alloc, words, if *is_so { "true" } else { "false" }),
-        Value::Object(thing) => put_object(alloc, words, thing),
-        _ => Ok(()),
-    }
-}
-
-// Returns the words for some values.
-fn words_in(alloc: Global, values: &[&Value]) -> Result<Vec<String>, AllocError>
-    ensures { IfOk result (λ ws. strings_in ws.items ≡ words_in (map (λ v. data_of v.now) values.now)) }
-{
-    let mut words = Vec::new(alloc);
-    for value in values {
-        put_words(alloc, &mut words, value)?;
-    }
-    Ok(words)
-}
-
-// Appends the words for the value of a keyword, if it is given.
+// Appends a keyword, if it is given.
 fn put_aside(
     alloc: Global,
     asides: &mut Vec<Aside>,
@@ -83,9 +33,11 @@ fn put_aside(
     let Some(value) = arguments.keyword(name) else {
         return Ok(());
     };
-    let texts = words_in(alloc, &flatten_value(alloc, value)?)?;
     let name = String::from_str(alloc, name)?;
-    asides.push(Aside { name, texts })?;
+    asides.push(Aside {
+        name,
+        value: value.clone()?,
+    })?;
     Ok(())
 }
 
@@ -103,7 +55,7 @@ fn asides_named(
     Ok(asides)
 }
 
-/// Returns the question of a call with these arguments. The question carries the words of the keywords that say how a check is made, which
+/// Returns the question of a call with these arguments. The question carries the keywords that say how a check is made, which
 /// dependency is wanted, and whether it is required. They change no answer.
 pub fn call_question(
     alloc: Global,

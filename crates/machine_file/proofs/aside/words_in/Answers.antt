@@ -1,6 +1,6 @@
 use Rattle.std.proofs.Common.{arith}
 use Rattle.std.proofs.lemmas.Grind.{common_steps}
-use Rattle.resources.proofs.question_context.words_in.Goals as goal
+use Rattle.machine_file.proofs.aside.words_in.Goals as goal
 
 pub loop-value-init : goal.loop-value-init
 loop-value-init c = grind (arith, common_steps)
