@@ -48,5 +48,6 @@ pub use target_calls;
 pub use task::perform;
 pub use template;
 pub use values;
+pub use versions;
 pub use world;
 pub use world::{Settings, SettingsFault};

@@ -8,7 +8,7 @@ use Rattle.machine_file.specs.Files.{Entry}
 use Rattle.machine_file.specs.Lookups.{entry_at}
 use Rattle.machine_file.specs.Questions.{Answer, entries_of_answer, value_of_answer}
 use Rattle.machine_file.specs.Readers.{text_said, texts_said, words_said}
-use Rattle.values.specs.texts.Condition.{meets}
+use Rattle.versions.specs.Condition.{meets}
 
 -- Returns the version in a section, and `unknown` if it has none.
 abbrev pub said_version : List Entry → List ℕ

@@ -15,8 +15,6 @@ pub mod JoinedLemmas
 pub mod SegmentLemmas
 pub mod PartsLaws
 mod Examples
-pub mod Runs
-pub mod TextNumbers
 mod PrintingExamples
 mod PrintedLemmas
 mod PieceLemmas

@@ -8,6 +8,3 @@ pub mod Joined
 pub mod Answers
 pub mod Cut
 pub mod Segments
-pub mod Version
-pub mod Condition
-pub mod Code

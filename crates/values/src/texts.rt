@@ -14,8 +14,6 @@
 //!
 //! **The characters of `strip` are kept in a set.** `strip` with an argument looks each character up in a hash set, so the work stays
 //! linear however many characters are given.
-//!
-//! **Versions.** [`version_compare`] compares versions by runs of digits, as integers of any length, and runs of letters.
 
 mod ends;
 mod first_piece;
@@ -26,14 +24,13 @@ mod part;
 mod placeholders;
 mod search;
 mod split;
-mod versions;
 
 pub use ends::{strip, strip_of};
 pub use join_texts::{join, replace};
 pub use letters::{to_lower, to_upper, underscorify};
 pub use number::to_int;
 pub use part::substring;
-pub use placeholders::{Places, Segment, digit_count, place_number, segments};
+pub use placeholders::{Places, Segment, place_number, segments};
 pub use search::{contains, ends_with, starts_with};
 pub use split::{split_at, split_blank, split_lines};
 pub use versions::version_compare;

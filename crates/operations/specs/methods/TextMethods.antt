@@ -12,7 +12,7 @@ use Rattle.values.specs.texts.Number.{integer_of}
 use Rattle.values.specs.texts.Part.{part}
 use Rattle.values.specs.texts.Pieces as pieces
 use Rattle.values.specs.texts.Strip.{stripped_text, is_blank, is_among}
-use Rattle.values.specs.texts.Condition.{meets}
+use Rattle.versions.specs.Condition.{meets}
 use Rattle.values.specs.declared.language_names.value_methods.TextMethod.{TextMethod}
 use Rattle.values.specs.declared.language_names.value_methods.TextMethod.TheVariants as method
 use Rattle.operations.specs.methods.Steps.{◌>>=◌, result_of_method}

@@ -1,13 +1,13 @@
 //! Splits a text at its placeholders, as `@0@` or `@name@`.
 
 ghost use Rattle.std.specs.Prelude.{◌≡◌, ◌<◌, ◌≤◌, ◌++◌, ◌∷◌, [], ℕ, length, map, drop, OnOk, IfOk, IfSome, MatchOption};
-ghost use Rattle.std.specs.Char.{is_ascii_digit};
 ghost use Rattle.std.specs.List.{prefix_len, flat_map};
 ghost use Rattle.values.specs.texts.Segments.{place, name_length, place_length, segments, segment_data, text_of_segment, place_number};
 ghost use Rattle.values.specs.texts.Segments.{is_number, is_name_byte, text_segments};
 
 use crate::texts::number::are_digits;
 use std::alloc::{AllocError, Global};
+use versions::digit_count;
 
 /// Says how the placeholders of a text are named.
 #[derive(Clone, Copy)]
@@ -163,19 +163,6 @@ fn name_length(places: Places, bytes: &[u8]) -> usize
             [] => 0,
         },
     }
-}
-
-/// Returns how many ASCII digits a text begins with.
-pub fn digit_count(bytes: &[u8]) -> usize
-    ensures count { result ≡ prefix_len is_ascii_digit bytes.now }
-    ensures within { result ≤ length bytes.now }
-{
-    for (i, b) in bytes.iter().enumerate() {
-        if !b.is_ascii_digit() {
-            return i;
-        }
-    }
-    bytes.len()
 }
 
 // Returns how many letters, digits and underscores a text begins with.

@@ -1,9 +1,0 @@
-use Rattle.std.proofs.Common.{◌≡◌, length}
-use Rattle.values.specs.texts.Version.{version_order}
-use Rattle.values.proofs.texts.versions.compare_versions.Given as goal
-
-abbrev pub invariant-loop-run : goal.invariant-loop-run
-invariant-loop-run l = version_order l.left l.right ≡ version_order l.version l.other
-
-abbrev pub decreases-loop-run : goal.decreases-loop-run
-decreases-loop-run l = length l.left

@@ -1,6 +1,0 @@
-use Rattle.std.proofs.Common.{◌≡◌, ℕ, ◌<◌, true, get_or}
-use Rattle.std.specs.Char.{is_ascii_alphabetic}
-use Rattle.values.proofs.texts.versions.letter_count.Given as goal
-
-abbrev pub invariant-loop-i : goal.invariant-loop-i
-invariant-loop-i l = (k : ℕ) → k < l.i → is_ascii_alphabetic (get_or l.bytes k 0) ≡ true
