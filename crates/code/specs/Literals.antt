@@ -39,10 +39,10 @@ is_number literals.Number = true
 is_number _ = false
 
 -- Holds if a literal is a string, but no f-string.
-abbrev pub is_plain : Literal → Bool
-is_plain literals.String = true
-is_plain literals.RawString = true
-is_plain _ = false
+abbrev pub is_string : Literal → Bool
+is_string literals.String = true
+is_string literals.RawString = true
+is_string _ = false
 
 -- Holds if a literal is an f-string.
 abbrev pub is_format : Literal → Bool
@@ -54,8 +54,8 @@ is_format _ = false
 abbrev pub means : Literal → List ℕ → LiteralValue → Bool
 means literal source (meanings.Boolean b) = is_boolean b literal
 means literal source (meanings.Integer n) = is_number literal && (n == magnitude source)
-means literal source (meanings.Short t) = is_plain literal && bytes_eq t (text_of (kind_of literal) source)
-means literal source (meanings.Text t) = is_plain literal && bytes_eq t.value (text_of (kind_of literal) source)
+means literal source (meanings.Short t) = is_string literal && bytes_eq t (text_of (kind_of literal) source)
+means literal source (meanings.Text t) = is_string literal && bytes_eq t.value (text_of (kind_of literal) source)
 means literal source (meanings.Format f) =
     is_format literal && bytes_eq (text_of_parts f.value.parts.items) (text_of (kind_of literal) source)
 means literal source (meanings.Source t) = not (is_format literal) && bytes_eq (string_bytes t.value) source

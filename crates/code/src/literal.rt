@@ -3,7 +3,7 @@ ghost use Rattle.std.specs.Prelude.{◌≡◌, false, IfOk, IfSome, IsTrue};
 ghost use Rattle.std.specs.Option.{ForSome};
 ghost use Rattle.syntax.specs.lexer.Numerals.{magnitude};
 ghost use Rattle.syntax.specs.lexer.Texts.{text_of};
-ghost use Rattle.code.specs.Literals.{is_format, is_number, is_plain, kind_of, means, bytes_of_literal};
+ghost use Rattle.code.specs.Literals.{is_format, is_number, is_string, kind_of, means, bytes_of_literal};
 
 use crate::format_string::FormatString;
 use crate::names::Names;
@@ -132,8 +132,8 @@ fn number(alloc: Global, literal: Literal, text: &str) -> Result<LiteralValue, A
 }
 
 // Returns the value of a string that is no f-string.
-fn plain(alloc: Global, literal: Literal, text: &str) -> Result<LiteralValue, AllocError>
-    requires { IsTrue (is_plain literal) }
+fn decode_string(alloc: Global, literal: Literal, text: &str) -> Result<LiteralValue, AllocError>
+    requires { IsTrue (is_string literal) }
     ensures { IfOk result (λ m. IsTrue (means literal text.now m)) }
 {
     if let Some(short) = short(literal, text) {
@@ -173,8 +173,8 @@ fn read(
         Literal::True => Ok(LiteralValue::Boolean(true)),
         Literal::False => Ok(LiteralValue::Boolean(false)),
         Literal::Number => number(alloc, literal, text),
-        Literal::String => plain(alloc, literal, text),
-        Literal::RawString => plain(alloc, literal, text),
+        Literal::String => decode_string(alloc, literal, text),
+        Literal::RawString => decode_string(alloc, literal, text),
         Literal::FormatString => format(alloc, names, literal, text),
         Literal::RawFormatString => format(alloc, names, literal, text),
     }

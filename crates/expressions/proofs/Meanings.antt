@@ -7,7 +7,7 @@ use Rattle.syntax.specs.declared.tree.Literal.{Literal}
 use Rattle.syntax.specs.declared.tree.Literal.TheVariants as literals
 use Rattle.syntax.specs.lexer.Numerals.{magnitude}
 use Rattle.syntax.specs.lexer.Texts.{text_of}
-use Rattle.code.specs.Literals.{is_boolean, is_format, is_number, is_plain, kind_of, means, bytes_of_literal}
+use Rattle.code.specs.Literals.{is_boolean, is_format, is_number, is_string, kind_of, means, bytes_of_literal}
 use Rattle.code.specs.declared.literal.LiteralNode.{LiteralNode}
 use Rattle.code.specs.declared.literal.LiteralValue.{LiteralValue}
 use Rattle.code.proofs.Trees.{both_true}
@@ -51,7 +51,7 @@ module _ (line : ℕ) (s : List ℕ) where
       let p = both_true (is_number l) (n == magnitude s) h in
       ap (λ m. answer_at_line line (number m)) ((Decides-eqb n (magnitude s)).0 p.1) ∙ of_number l p.0
 
-  of_plain : (l : Literal) → IsTrue (is_plain l) → answer_at_line line (within (text (text_of (kind_of l) s))) ≡ literal_value line l s
+  of_plain : (l : Literal) → IsTrue (is_string l) → answer_at_line line (within (text (text_of (kind_of l) s))) ≡ literal_value line l s
   of_plain literals.True h = absurd cc
   of_plain literals.False h = absurd cc
   of_plain literals.Number h = absurd cc
@@ -60,10 +60,10 @@ module _ (line : ℕ) (s : List ℕ) where
   of_plain literals.FormatString h = absurd cc
   of_plain literals.RawFormatString h = absurd cc
 
-  pub of_text : (l : Literal) (t : List ℕ) → IsTrue (is_plain l && bytes_eq t (text_of (kind_of l) s))
+  pub of_text : (l : Literal) (t : List ℕ) → IsTrue (is_string l && bytes_eq t (text_of (kind_of l) s))
       → answer_at_line line (within (text t)) ≡ literal_value line l s
   of_text l t h =
-      let p = both_true (is_plain l) (bytes_eq t (text_of (kind_of l) s)) h in
+      let p = both_true (is_string l) (bytes_eq t (text_of (kind_of l) s)) h in
       ap (λ u. answer_at_line line (within (text u))) ((bytes_eq-Decides t (text_of (kind_of l) s)).0 p.1) ∙ of_plain l p.0
 
   of_places : (l : Literal) → IsTrue (is_format l) → format_string line (text_of (kind_of l) s) ≡ literal_value line l s

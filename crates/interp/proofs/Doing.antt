@@ -17,7 +17,7 @@ use Rattle.interp.specs.Blocks.{BeginsDeep, DeepIfNone, IsDeep, ToursDeep, behin
 use Rattle.interp.specs.Bounds.{Bounds}
 use Rattle.interp.specs.Evaluates.{Comes, HaltsTo}
 use Rattle.interp.specs.Folders.{folder}
-use Rattle.interp.specs.Frames.{DoneHere, DoneTo, Parts, Rested, parts_by, round_by, tour_left, walk_left}
+use Rattle.interp.specs.Frames.{DoneHere, DoneTo, Parts, Rested, parts_by, round_by, loop_left, walk_left}
 use Rattle.interp.specs.FolderEntries.{folder_in_expression}
 use Rattle.interp.specs.Statements.{after_round, do_all, does, on_next, rounds_of}
 use Rattle.expressions.specs.Rounds.{Round}
@@ -180,16 +180,16 @@ pub walk_of : {files : Files} (parts : Parts) (left : Bounds) {whole : Plan Flow
     → Leads files whole s0 (walk_left parts left other) s
 walk_of parts left is r = leads_as (ap (walk_left parts left) is) r.rested
 
-pub tour_of : {files : Files} (parts : Parts) (left : Bounds) (rounds : ℕ → Plan Flow) {whole : Plan Flow} {s0 s : Stand} {progress other : LoopProgress} → progress ≡ other → Rested (tour_left parts left rounds) files whole s0 (Ok progress) s
-    → Leads files whole s0 (tour_left parts left rounds other) s
-tour_of parts left rounds is r = leads_as (ap (tour_left parts left rounds) is) r.rested
+pub tour_of : {files : Files} (parts : Parts) (left : Bounds) (rounds : ℕ → Plan Flow) {whole : Plan Flow} {s0 s : Stand} {progress other : LoopProgress} → progress ≡ other → Rested (loop_left parts left rounds) files whole s0 (Ok progress) s
+    → Leads files whole s0 (loop_left parts left rounds other) s
+tour_of parts left rounds is r = leads_as (ap (loop_left parts left rounds) is) r.rested
 
 -- the same of the code that is lent
 pub toured_of : (left : Bounds) (table : List (List ℕ)) (head : LoopHead) (xs : List Round) (from : ℕ) {c d : Code} {files : Files} {s0 s : Stand} {result : Result LoopProgress Stop} → d ≡ c
-    → Rested (tour_left (parts_by table d left head.body) left (λ at. rounds_of (round_by table d left head) (drop at xs))) files (rounds_of (round_by table d left head) (drop from xs)) s0 result s
-    → Rested (tour_left (parts_by table c left head.body) left (λ at. rounds_of (round_by table c left head) (drop at xs))) files (rounds_of (round_by table c left head) (drop from xs)) s0 result s
+    → Rested (loop_left (parts_by table d left head.body) left (λ at. rounds_of (round_by table d left head) (drop at xs))) files (rounds_of (round_by table d left head) (drop from xs)) s0 result s
+    → Rested (loop_left (parts_by table c left head.body) left (λ at. rounds_of (round_by table c left head) (drop at xs))) files (rounds_of (round_by table c left head) (drop from xs)) s0 result s
 toured_of left table head xs from {files = files} {s0 = s0} {s = s} {result = result} e w =
-    subst (λ (x : Code). Rested (tour_left (parts_by table x left head.body) left (λ at. rounds_of (round_by table x left head) (drop at xs))) files (rounds_of (round_by table x left head) (drop from xs)) s0 result s) e w
+    subst (λ (x : Code). Rested (loop_left (parts_by table x left head.body) left (λ at. rounds_of (round_by table x left head) (drop at xs))) files (rounds_of (round_by table x left head) (drop from xs)) s0 result s) e w
 
 -- no memory was left
 pub memory_is : {X : Type 0} {stop : Stop} (result : Result X Stop) → stop ≡ stops.Memory → IsErrAnd result (λ e. e ≡ stop) → IsErrAnd result (λ e. e ≡ stops.Memory)

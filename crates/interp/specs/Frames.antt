@@ -254,9 +254,9 @@ pub record Rested {X : Type 0} (rest : X → Plan Flow) (files : Files) (whole :
   pub rested : LeadsOr rest files whole old result now
 
 -- Returns what is left of iterations: nothing, or what is left of one and the iterations after it.
-abbrev pub tour_left : Parts → Bounds → (ℕ → Plan Flow) → LoopProgress → Plan Flow
-tour_left parts left rounds (tours.Ends flow) = give flow
-tour_left parts left rounds (tours.Stands progress at) = ruled (walk_left parts left progress) >>= λ flow. after_round flow (rounds at)
+abbrev pub loop_left : Parts → Bounds → (ℕ → Plan Flow) → LoopProgress → Plan Flow
+loop_left parts left rounds (tours.Ends flow) = give flow
+loop_left parts left rounds (tours.Stands progress at) = ruled (walk_left parts left progress) >>= λ flow. after_round flow (rounds at)
 
 -- Holds if a frame and the end of a rule were put on a stack, or if memory ran out.
 abbrev pub Lays : List Frame → Frame → Result (Unit {0}) Stop → List Frame → Type 0
@@ -352,7 +352,7 @@ module _ {T O L : Type 0} where
       → Context T O L → Result LoopProgress Stop → Context T O L → Type 0
   Tours tree out head all from code old result new =
       (files : Files) (left : Bounds) (table : List (List ℕ)) → Holds (tree old.tree.now) files → Made code old.store.now.names table
-      → Rested (tour_left (parts_by table code left head.body) left (λ at. rounds_of (round_by table code left head) (drop at all))) files
+      → Rested (loop_left (parts_by table code left head.body) left (λ at. rounds_of (round_by table code left head) (drop at all))) files
       (rounds_of (round_by table code left head) (drop from all)) (stand_of tree out old) result (stand_of tree out new)
 
   -- Holds if the call chooses among the parts of an `if` with these branches.

@@ -11,7 +11,7 @@ use Rattle.configuration_calls.specs.ConfigureFile.{has_meson_format}
 use Rattle.configuration_calls.specs.Rows.{other_format_row}
 use Rattle.world.specs.Deed.{Deed, give, ◌>>=◌, need}
 use Rattle.world.specs.Fit.{fit}
-use Rattle.language_calls.specs.Disablers.{give_disabler, tell_disabler}
+use Rattle.language_calls.specs.Disablers.{disabler_value, tell_disabler}
 use Rattle.language_calls.specs.JoinPaths.{join_paths}
 use Rattle.language_calls.specs.Messages.{message, warning, error, assert}
 use Rattle.interp.specs.ProjectFunctions.{project_function, project_function_row}
@@ -46,7 +46,7 @@ row_of functions.Warning = any_values
 -- Runs a function on arguments that its row accepts. It may have no value.
 abbrev pub does : Function → ArgumentsData → Deed (Option Data)
 does functions.Assert a = assert a
-does functions.Disabler a = give_disabler
+does functions.Disabler a = disabler_value
 does functions.Error a = error a
 does functions.GetVariable a = get_variable a
 does functions.IsDisabler a = tell_disabler a

@@ -7,8 +7,8 @@ use Rattle.arguments.specs.Given.{argument}
 use Rattle.world.specs.Deed.{Deed, give}
 
 -- Returns a disabler object (`disabler`).
-unfoldable pub give_disabler : Deed (Option Data)
-give_disabler = give (Some disabler)
+unfoldable pub disabler_value : Deed (Option Data)
+disabler_value = give (Some disabler)
 
 -- Returns whether the argument is a disabler (`is_disabler`). A list that contains a disabler is not one.
 unfoldable pub tell_disabler : ArgumentsData → Deed (Option Data)

@@ -1,7 +1,7 @@
 //! Implements `disabler` and `is_disabler`.
 ghost use Rattle.std.specs.Prelude.{option_map};
 ghost use Rattle.world.specs.Prelude.{Does, arguments_data, data_of};
-ghost use Rattle.language_calls.specs.Disablers.{give_disabler, tell_disabler};
+ghost use Rattle.language_calls.specs.Disablers.{disabler_value, tell_disabler};
 
 use arguments::Arguments;
 use ports::{Outputs, Tree};
@@ -10,7 +10,7 @@ use world::{Caller, Stop};
 
 /// Runs `disabler()`.
 pub fn disabler<T: Tree, O: Outputs>(caller: &Caller<'_, T, O>) -> Result<Option<Value>, Stop>
-    ensures { Does T.seen O.seen (option_map data_of) give_disabler caller.now result caller.now }
+    ensures { Does T.seen O.seen (option_map data_of) disabler_value caller.now result caller.now }
 {
     Ok(Some(Value::of_object(caller.alloc, Object::Disabler)?))
 }

@@ -3,7 +3,7 @@ use Rattle.std.proofs.Common.{◌≡◌, ℕ, suc, ◌+◌, List, [], ◌∷◌,
 use Rattle.std.specs.Result.{result_map_both}
 use Rattle.support.specs.declared.faults.refusal.Refusal.TheVariants as refusals
 use Rattle.machine_file.specs.Fault.{MachineFaultData, bad_line}
-use Rattle.machine_file.specs.Files.{Said, nothing_said, after, go_on, said_from, sections_said, machine_of}
+use Rattle.machine_file.specs.Files.{Said, nothing_said, after, continue_with, said_from, sections_said, machine_of}
 use Rattle.machine_file.specs.Answers.{IsFirstBad, MachineSaid}
 use Rattle.machine_file.proofs.SaysLemmas.{said_sound, said_complete}
 
@@ -43,9 +43,9 @@ next l ls n fault s t e w = record {
   refusal = w.refusal;
   number = omega (arith, w.number);
   said = w.said;
-  good = ap (go_on (said_from w.before (suc n)) (suc n)) e ∙ w.good;
+  good = ap (continue_with (said_from w.before (suc n)) (suc n)) e ∙ w.good;
   why = w.why;
-  bad = λ more. ap (go_on (said_from (w.before ++ w.here ∷ more) (suc n)) (suc n)) e ∙ w.bad more;
+  bad = λ more. ap (continue_with (said_from (w.before ++ w.here ∷ more) (suc n)) (suc n)) e ∙ w.bad more;
 }
 
 here_bad : (l : List ℕ) (ls : List (List ℕ)) (n : ℕ) (detail : List ℕ) (s : Said) → after s (suc n) l ≡ Err detail
@@ -61,14 +61,14 @@ here_bad l ls n detail s e = record {
   said = s;
   good = refl;
   why = e;
-  bad = λ more. ap (go_on (said_from more (suc n)) (suc n)) e;
+  bad = λ more. ap (continue_with (said_from more (suc n)) (suc n)) e;
 }
 
 same_fault : (f g : MachineFaultData) → failed f ≡ failed g → f ≡ g
 same_fault f g e = cc
 
 stops_by : (l : List ℕ) (ls : List (List ℕ)) (n : ℕ) (fault : MachineFaultData) (s : Said) (o : Line) → after s (suc n) l ≡ o
-    → go_on (said_from ls (suc n)) (suc n) o ≡ Err fault
+    → continue_with (said_from ls (suc n)) (suc n) o ≡ Err fault
     → ((t : Said) → said_from ls (suc n) t ≡ Err fault → Stops ls (suc n) fault t) → Stops (l ∷ ls) n fault s
 stops_by l ls n fault s (Err detail) e h later =
     subst (λ f. Stops (l ∷ ls) n f s) (same_fault (bad_line (suc n) detail) fault h) (here_bad l ls n detail s e)
@@ -119,9 +119,9 @@ same_read : (ls : List (List ℕ)) (n m : ℕ) (s t : Said) → n ≡ m → s �
 same_read ls n m s t h e = ap (λ (k : ℕ). said_from ls k s) h ∙ ap (said_from ls m) e
 
 -- lines behind others
-read_by : (before ls : List (List ℕ)) (n m : ℕ) (t : Said) (o : Line) → go_on (said_from before n) n o ≡ Ok t
+read_by : (before ls : List (List ℕ)) (n m : ℕ) (t : Said) (o : Line) → continue_with (said_from before n) n o ≡ Ok t
     → ((u : Said) → said_from before n u ≡ Ok t → said_from (before ++ ls) n u ≡ said_from ls m t)
-    → go_on (said_from (before ++ ls) n) n o ≡ said_from ls m t
+    → continue_with (said_from (before ++ ls) n) n o ≡ said_from ls m t
 read_by before ls n m t (Err detail) e later = absurd cc
 read_by before ls n m t (Ok u) e later = later u e
 
@@ -136,7 +136,7 @@ step_bad : (ls : List (List ℕ)) (here : List ℕ) (n line : ℕ) (s : Said) (d
     → after s line here ≡ Err detail → said_from (here ∷ ls) n s ≡ Err (bad_line line detail)
 unfolding said_from
 step_bad ls here n line s detail is e =
-    ap (go_on (said_from ls (suc n)) (suc n)) (subst (λ k. after s k here ≡ Err detail) is e)
+    ap (continue_with (said_from ls (suc n)) (suc n)) (subst (λ k. after s k here ≡ Err detail) is e)
     ∙ ap (λ (k : ℕ). failed (bad_line k detail)) (sym is)
 
 abbrev all : Read → MachineSaid

@@ -12,7 +12,7 @@ use Rattle.machine_file.specs.declared.state.OpenSection.{OpenSection}
 use Rattle.machine_file.specs.Files as file
 use Rattle.machine_file.specs.Fault.{MachineFaultData, bad_line}
 use Rattle.machine_file.specs.Files.{Said, has_name, sections_said, after}
-use Rattle.machine_file.specs.Files.{go_on, said_from, machine_of, nothing_said}
+use Rattle.machine_file.specs.Files.{continue_with, said_from, machine_of, nothing_said}
 use Rattle.machine_file.specs.declared.text.Blanks.TheVariants as blanks
 use Rattle.machine_file.specs.Texts.{trimmed_text}
 use Rattle.machine_file.specs.View.{sections_in}
@@ -42,10 +42,10 @@ clean_at ls n l (lt, e) =
 -- one line of those that are left
 pub line_said : (ls : List (List ℕ)) (n : ℕ) (l : List ℕ) (s : Said) (r : Result Said MachineFaultData) → said_from (drop n (map clean ls)) n s ≡ r
     → (n < length ls) × (l ≡ get_or ls n l)
-    → go_on (said_from (drop (n + 1) (map clean ls)) (n + 1)) (n + 1) (after s (n + 1) (clean l)) ≡ r
+    → continue_with (said_from (drop (n + 1) (map clean ls)) (n + 1)) (n + 1) (after s (n + 1) (clean l)) ≡ r
 unfolding said_from
 line_said ls n l s r h at =
-    ap (λ (m : ℕ). go_on (said_from (drop (n + 1) (map clean ls)) m) m (after s m (clean l))) (add-one n)
+    ap (λ (m : ℕ). continue_with (said_from (drop (n + 1) (map clean ls)) m) m (after s m (clean l))) (add-one n)
     ∙ sym (ap (λ (xs : List (List ℕ)). said_from xs n s) (clean_at ls n l at)) ∙ h
 
 nothing_left : (ls : List (List ℕ)) (n : ℕ) (s : Said) → length ls ≤ n → said_from (drop n (map clean ls)) n s ≡ Ok s
@@ -65,7 +65,7 @@ pub line_refused : (ls : List (List ℕ)) (n : ℕ) (l : List ℕ) (s : Said) (d
     → Err (bad_line (n + 1) detail) ≡ machine_of (map clean ls)
 unfolding machine_of
 line_refused ls n l s detail h at none =
-    ap all (ap (go_on (said_from (drop (n + 1) (map clean ls)) (n + 1)) (n + 1)) none
+    ap all (ap (continue_with (said_from (drop (n + 1) (map clean ls)) (n + 1)) (n + 1)) none
     ∙ line_said ls n l s (said_from (map clean ls) 0 nothing_said) h at)
 
 pub line_taken : (ls : List (List ℕ)) (n : ℕ) (l : List ℕ) (s t : Said)
@@ -73,7 +73,7 @@ pub line_taken : (ls : List (List ℕ)) (n : ℕ) (l : List ℕ) (s t : Said)
     → (n < length ls) × (l ≡ get_or ls n l) → Ok t ≡ after s (n + 1) (clean l)
     → said_from (drop (n + 1) (map clean ls)) (n + 1) t ≡ said_from (map clean ls) 0 nothing_said
 line_taken ls n l s t h at some =
-    ap (go_on (said_from (drop (n + 1) (map clean ls)) (n + 1)) (n + 1)) some
+    ap (continue_with (said_from (drop (n + 1) (map clean ls)) (n + 1)) (n + 1)) some
     ∙ line_said ls n l s (said_from (map clean ls) 0 nothing_said) h at
 
 pub lines_end : (ls : List (List ℕ)) (n : ℕ) (s : Said) (sections : List file.Section)

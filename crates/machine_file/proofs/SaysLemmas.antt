@@ -7,7 +7,7 @@ use Rattle.machine_file.specs.declared.section.SectionKind.{SectionKind}
 use Rattle.machine_file.specs.Fault.{MachineFaultData}
 use Rattle.machine_file.specs.Files.{Entry, Section, Open, Said, nothing_said, sections_said, has_key, has_name, cut_pair, takes}
 use Rattle.machine_file.specs.Files.{with_value, with_parts, with_pair, with_entries, with_section, in_section, after_form, after}
-use Rattle.machine_file.specs.Files.{go_on}
+use Rattle.machine_file.specs.Files.{continue_with}
 use Rattle.machine_file.specs.Files.{said_from, machine_of}
 use Rattle.machine_file.specs.Lines.{Form, Nothing, Header, Pair, form_of}
 use Rattle.machine_file.specs.Reads.{with_begun, with_given, Says, end, nothing, section, pair, AreSections}
@@ -111,7 +111,7 @@ ok_same : (s t : Said) → done s ≡ done t → s ≡ t
 ok_same s t e = cc
 
 sound_by : (l : List ℕ) (ls : List (List ℕ)) (n : ℕ) (s u : Said) (o : Line) → after s (suc n) l ≡ o
-    → go_on (said_from ls (suc n)) (suc n) o ≡ done u
+    → continue_with (said_from ls (suc n)) (suc n) o ≡ done u
     → ((t : Said) → said_from ls (suc n) t ≡ done u → Says t (suc n) ls u) → Says s n (l ∷ ls) u
 sound_by l ls n s u (Err detail) e h later = absurd cc
 sound_by l ls n s u (Ok t) e h later = line_sound s t u n l ls e (later t h)
@@ -127,7 +127,7 @@ said_sound (l ∷ ls) n s u h = sound_by l ls n s u (after s (suc n) l) refl h (
 step : (s t u : Said) (n : ℕ) (l : List ℕ) (ls : List (List ℕ)) → after s (suc n) l ≡ saying t → said_from ls (suc n) t ≡ Ok u
     → said_from (l ∷ ls) n s ≡ Ok u
 unfolding said_from
-step s t u n l ls e h = ap (go_on (said_from ls (suc n)) (suc n)) e ∙ h
+step s t u n l ls e h = ap (continue_with (said_from ls (suc n)) (suc n)) e ∙ h
 
 after_nothing : (s : Said) (n : ℕ) (l : List ℕ) → form_of l ≡ Nothing → after s (suc n) l ≡ saying s
 unfolding after

@@ -125,14 +125,14 @@ unfoldable pub after : Said → ℕ → List ℕ → Result Said (List ℕ)
 after s line text = after_form s line (form_of text)
 
 -- Continues with the rest of the lines, or returns the first line that is not allowed where it is.
-abbrev pub go_on : (Said → Result Said MachineFaultData) → ℕ → Result Said (List ℕ) → Result Said MachineFaultData
-go_on rest line (Err detail) = Err (bad_line line detail)
-go_on rest line (Ok s) = rest s
+abbrev pub continue_with : (Said → Result Said MachineFaultData) → ℕ → Result Said (List ℕ) → Result Said MachineFaultData
+continue_with rest line (Err detail) = Err (bad_line line detail)
+continue_with rest line (Ok s) = rest s
 
 -- Reads these lines, which follow line number n.
 unfoldable pub said_from : List (List ℕ) → ℕ → Said → Result Said MachineFaultData
 said_from [] n s = Ok s
-said_from (l ∷ ls) n s = go_on (said_from ls (suc n)) (suc n) (after s (suc n) l)
+said_from (l ∷ ls) n s = continue_with (said_from ls (suc n)) (suc n) (after s (suc n) l)
 
 -- Returns the sections of a machine file with these lines, or the first line up to which they begin no machine file.
 unfoldable pub machine_of : List (List ℕ) → Result (List Section) MachineFaultData

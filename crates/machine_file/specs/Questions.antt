@@ -25,8 +25,8 @@ pub record Question : Type 0 where
   pub asides : List Aside
 
 -- Returns a question whose call states nothing else.
-abbrev pub plain : Topic → Question
-plain topic = record { topic = topic; asides = [] }
+abbrev pub question_about : Topic → Question
+question_about topic = record { topic = topic; asides = [] }
 
 -- Returns the topic of a check of the compiler, given its method and its arguments.
 abbrev pub check_topic : List ℕ → List (List ℕ) → Topic

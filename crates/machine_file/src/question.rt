@@ -2,7 +2,7 @@
 
 ghost use Rattle.std.specs.Prelude.{◌≡◌, IfOk, map, string_bytes};
 ghost use Rattle.machine_file.specs.Lookups.{check_key};
-ghost use Rattle.machine_file.specs.Questions.{Key, check_topic, dependency_topic, plain};
+ghost use Rattle.machine_file.specs.Questions.{Key, check_topic, dependency_topic, question_about};
 ghost use Rattle.machine_file.specs.QuestionsView.{all_shown_in, question_in, topic_in};
 
 use crate::aside::{Aside, ShownAside};
@@ -64,8 +64,8 @@ impl Topic {
 
 impl Question {
     /// Returns a question whose call states nothing else.
-    pub fn plain(alloc: Global, topic: Topic) -> Question
-        ensures { question_in result ≡ plain (topic_in topic) }
+    pub fn about(alloc: Global, topic: Topic) -> Question
+        ensures { question_in result ≡ question_about (topic_in topic) }
     {
         Question {
             topic,

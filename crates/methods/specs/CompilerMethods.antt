@@ -7,7 +7,7 @@ use Rattle.arguments.specs.Leaves.{leaves_from}
 use Rattle.values.specs.Data.{Data, integer, list, Items, no_items, item, items_append}
 use Rattle.values.specs.Limits.{within}
 use Rattle.support.specs.declared.faults.refusal.Refusal.TheVariants as refusals
-use Rattle.machine_file.specs.Questions.{Answer, check_topic, plain}
+use Rattle.machine_file.specs.Questions.{Answer, check_topic, question_about}
 use Rattle.resources.specs.Beside.{call_question}
 use Rattle.world.specs.Deed.{Deed, give, refuse, consult, ◌>>=◌, answer_or_refusal}
 use Rattle.world.specs.Fit.{fit}
@@ -41,7 +41,7 @@ argument_if_supported d answer = if is_true answer then item d no_items else no_
 unfoldable pub supported_arguments : (taken : Items) → List Data → Deed Items
 supported_arguments taken [] = give taken
 supported_arguments taken (d ∷ ds) = do
-  answer ← consult (plain (argument_topic (text_or_none (Some d))))
+  answer ← consult (question_about (argument_topic (text_or_none (Some d))))
   supported_arguments (items_append taken (argument_if_supported d answer)) ds
 
 -- Returns the list of the arguments that the compiler supports, in their order (`get_supported_arguments`).

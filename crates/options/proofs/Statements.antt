@@ -4,7 +4,7 @@ use Rattle.syntax.specs.declared.tree.Statement.{Statement}
 use Rattle.syntax.specs.Tree.{StatementTree, statement_of}
 use Rattle.options.specs.option_file.Misfits.{RefusedData}
 use Rattle.options.specs.option_file.Declarations.{Declaration}
-use Rattle.options.specs.option_file.Declares.{line_of, after, go_on, declares_from}
+use Rattle.options.specs.option_file.Declares.{line_of, after, continue_with, declares_from}
 use Rattle.options.proofs.Walks.{next_is, none_is}
 
 -- what all statements declare, where the others are read after these options
@@ -17,11 +17,11 @@ declares_first xs options e = ap (declares_from (map statement_of xs)) (sym e)
 declares_next : (xs : List Statement) (i : ℕ) (x : Statement) (options : List Declaration) (o : Result (List Declaration) RefusedData)
     → Follows xs i options
     → i < length xs → x ≡ get_or xs i x → o ≡ after options (statement_of x)
-    → declares_from (map statement_of xs) [] ≡ go_on (declares_from (map statement_of (drop (i + 1) xs))) (line_of (statement_of x)) o
+    → declares_from (map statement_of xs) [] ≡ continue_with (declares_from (map statement_of (drop (i + 1) xs))) (line_of (statement_of x)) o
 unfolding declares_from
 declares_next xs i x options o h lt is e =
     h ∙ ap (λ (ss : List StatementTree). declares_from ss options) (next_is statement_of xs i x lt is)
-    ∙ ap (go_on (declares_from (map statement_of (drop (i + 1) xs))) (line_of (statement_of x))) (sym e)
+    ∙ ap (continue_with (declares_from (map statement_of (drop (i + 1) xs))) (line_of (statement_of x))) (sym e)
 
 pub declares_fault : (xs : List Statement) (i : ℕ) (x : Statement) (options : List Declaration) (refused : RefusedData) (line : ℕ)
     → Follows xs i options

@@ -1,6 +1,6 @@
 -- Defines which programs the machine uses.
 use Rattle.std.specs.Prelude.{ℕ, List, [], ◌∷◌, Option, Some, None, codes}
-use Rattle.machine_file.specs.Questions.{Answer, Key, plain, value_of_answer}
+use Rattle.machine_file.specs.Questions.{Answer, Key, question_about, value_of_answer}
 use Rattle.machine_file.specs.Readers.{words_said}
 use Rattle.machine_file.specs.Values.{Value}
 use Rattle.world.specs.Deed.{Deed, give, consult, ◌>>=◌}
@@ -17,7 +17,7 @@ program_by answer default = words_or (value_of_answer answer) default
 -- Returns the command of a program from `[binaries]` of the machine file, or the default.
 unfoldable pub program : List ℕ → List ℕ → Deed (List (List ℕ))
 program name default = do
-  answer ← consult (plain (Key (codes "binaries") name))
+  answer ← consult (question_about (Key (codes "binaries") name))
   give (program_by answer default)
 
 -- The programs that every build has, each as a command line of one or more arguments.

@@ -34,14 +34,14 @@ other_language [] = None
 other_language (l ∷ ls) = if bytes_eq l (codes "c") then other_language ls else Some l
 
 -- Refuses a language other than C (E23).
-unfoldable pub c_alone : Option (List ℕ) → Deed (Unit {0})
-c_alone None = give tt
-c_alone (Some language) = refuse refusals.LeftOut (breach_message rules.IsC language)
+unfoldable pub only_c : Option (List ℕ) → Deed (Unit {0})
+only_c None = give tt
+only_c (Some language) = refuse refusals.LeftOut (breach_message rules.IsC language)
 
 -- Checks the languages of a project: at least one, and only C.
 unfoldable pub languages_taken : List (List ℕ) → Deed (Unit {0})
 languages_taken [] = refuse refusals.ProjectCall (codes "'project': names no language")
-languages_taken (l ∷ ls) = c_alone (other_language (l ∷ ls))
+languages_taken (l ∷ ls) = only_c (other_language (l ∷ ls))
 
 -- ---- the options
 

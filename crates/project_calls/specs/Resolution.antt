@@ -1,7 +1,7 @@
 -- Defines the values of a project's options.
 use Rattle.std.specs.Prelude.{ℕ, List, map}
 use Rattle.arguments.specs.Arguments.{ArgumentsData}
-use Rattle.machine_file.specs.Questions.{Answer, Topic, Options, options_of_answer, plain}
+use Rattle.machine_file.specs.Questions.{Answer, Topic, Options, options_of_answer, question_about}
 use Rattle.options.specs.option_file.Declarations.{Declaration}
 use Rattle.option_values.specs.BuiltIns.{BuiltIn, built_ins}
 use Rattle.options.specs.Resolves.{Resolution, resolved_options}
@@ -30,6 +30,6 @@ resolution_by a printed declared answer facts =
 -- command line.
 unfoldable pub resolution : ArgumentsData → List (List ℕ) → List Declaration → Deed Resolution
 resolution a printed declared = do
-  answer ← consult (plain (options_topic declared))
+  answer ← consult (question_about (options_topic declared))
   facts ← read
   give (resolution_by a printed declared answer facts)

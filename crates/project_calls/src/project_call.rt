@@ -7,7 +7,7 @@ ghost use Rattle.option_values.specs.SettingsView.{options_in};
 ghost use Rattle.build.specs.View.{facts_view};
 ghost use Rattle.world.specs.Prelude.{Does, MayFail, arguments_data, data_of, world_of};
 ghost use Rattle.project_calls.specs.DefaultsView.{strings_of};
-ghost use Rattle.project_calls.specs.Project.{begin, c_alone, defaults_printed, facts_of, languages_taken, other_language};
+ghost use Rattle.project_calls.specs.Project.{begin, only_c, defaults_printed, facts_of, languages_taken, other_language};
 ghost use Rattle.project_calls.specs.Project.{project, settled_options, texts_behind, version_of, option_warnings};
 ghost use Rattle.project_calls.specs.ProgramsView.{programs_in};
 
@@ -43,7 +43,7 @@ fn refuse_other<T: Tree, O: Outputs>(
     caller: &Caller<'_, T, O>,
     language: Option<&str>,
 ) -> Result<(), Stop>
-    ensures { Does T.seen O.seen (λ u. u) (c_alone (option_map (λ l. l.now) language.entry)) caller.now result caller.now }
+    ensures { Does T.seen O.seen (λ u. u) (only_c (option_map (λ l. l.now) language.entry)) caller.now result caller.now }
 {
     match language {
         None => Ok(()),

@@ -1,7 +1,7 @@
 //! Determines the values of a project's options.
 ghost use Rattle.std.specs.Prelude.{◌≡◌, IfOk, map};
 ghost use Rattle.build.specs.edge.Texts.{texts};
-ghost use Rattle.machine_file.specs.Questions.{answer_to, plain};
+ghost use Rattle.machine_file.specs.Questions.{answer_to, question_about};
 ghost use Rattle.machine_file.specs.QuestionsView.{topic_in};
 ghost use Rattle.options.specs.option_file.View.{options_in as declared_in};
 ghost use Rattle.option_values.specs.View.{strings_in};
@@ -63,11 +63,11 @@ fn ask_options<T: Tree, O: Outputs>(
     declared: &Declared,
 ) -> Result<(), Stop>
     ensures deed { Does T.seen O.seen (λ u. answer_to caller.old.store.now.machine (options_topic (declared_in declared.now)))
-        (consult (plain (options_topic (declared_in declared.now)))) caller.old result caller.new }
+        (consult (question_about (options_topic (declared_in declared.now)))) caller.old result caller.new }
     ensures machine { caller.new.store.now.machine ≡ caller.old.store.now.machine }
 {
     let topic = options_topic(caller.alloc, declared)?;
-    caller.ask(Question::plain(caller.alloc, topic))
+    caller.ask(Question::about(caller.alloc, topic))
 }
 
 // Returns the values of the options, given the machine file, which was already asked.

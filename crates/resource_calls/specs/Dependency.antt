@@ -57,33 +57,33 @@ fitting_dependency requirements.Disabled a = give None
 fitting_dependency _ a = first_said a (flat_all a.positional)
 
 -- Records a dependency, and returns it or a disabler in its place. Refuses one that is too large with E22.
-unfoldable pub give_noted : Result Dependency OperationRefusal → (is_disabled : Bool) → Deed (Option Data)
-give_noted said is_disabled = do
+unfoldable pub note_dependency : Result Dependency OperationRefusal → (is_disabled : Bool) → Deed (Option Data)
+note_dependency said is_disabled = do
   d ← answer_or_refusal said
   _ ← add_dependency (answer_of d)
   give (Some (object (object_or (objects.Dependency d) is_disabled)))
 
 -- Returns the dependency that the machine file describes.
-unfoldable pub give_found : Result Dependency OperationRefusal → Deed (Option Data)
-give_found said = give_noted said false
+unfoldable pub found_result : Result Dependency OperationRefusal → Deed (Option Data)
+found_result said = note_dependency said false
 
 -- Records the first name of a dependency that was not found. Returns a disabler if the keyword `disabler` requests one.
-unfoldable pub give_missing : ArgumentsData → Deed (Option Data)
-give_missing a = give_noted (missing_dependency (text_at 0 a)) (gives_disabler a)
+unfoldable pub missing_result : ArgumentsData → Deed (Option Data)
+missing_result a = note_dependency (missing_dependency (text_at 0 a)) (gives_disabler a)
 
 -- Returns the result if no name fits. Refuses with E17 of the first name if the dependency is required.
 unfoldable pub none_fits : Requirement → ArgumentsData → Deed (Option Data)
 none_fits requirements.Required a = refuse refusals.NotFound (text_at 0 a)
-none_fits _ a = give_missing a
+none_fits _ a = missing_result a
 
 -- Returns the dependency that fits, or the result if none fits.
-unfoldable pub give_fitting : ArgumentsData → Option (Result Dependency OperationRefusal) → Deed (Option Data)
-give_fitting a (Some said) = give_found said
-give_fitting a None = none_fits (required_by a) a
+unfoldable pub fitting_result : ArgumentsData → Option (Result Dependency OperationRefusal) → Deed (Option Data)
+fitting_result a (Some said) = found_result said
+fitting_result a None = none_fits (required_by a) a
 
 -- Returns the first dependency that fits, of those that the arguments name (`dependency`). Refuses with E17 if none fits and one is
 -- required.
 unfoldable pub dependency : ArgumentsData → Deed (Option Data)
 dependency a = do
   said ← fitting_dependency (required_by a) a
-  give_fitting a said
+  fitting_result a said

@@ -15,7 +15,7 @@ use Rattle.values.specs.declared.refusal.OperationRefusal.{OperationRefusal}
 use Rattle.build.specs.edge.Texts.{Path, Text}
 use Rattle.support.specs.declared.faults.refusal.Refusal.TheVariants as refusals
 use Rattle.support.specs.paths.Paths.{tree_path}
-use Rattle.machine_file.specs.Questions.{Key, plain}
+use Rattle.machine_file.specs.Questions.{Key, question_about}
 use Rattle.resources.specs.Fitting.{program_words}
 use Rattle.values.specs.Copies.{within_texts}
 use Rattle.world.specs.Deed.{Deed, give, refuse, read, consult, ◌>>=◌, answer_or_refusal, there}
@@ -60,7 +60,7 @@ words_or_file None name = file_named name
 -- Returns the program with a name: that of the machine file, and otherwise a file.
 unfoldable pub program_named : Text → Deed (Option Program)
 program_named name = do
-  answer ← consult (plain (Key (codes "binaries") name))
+  answer ← consult (question_about (Key (codes "binaries") name))
   words_or_file (option_map within_texts (program_words answer)) name
 
 -- Returns the program that was found, and otherwise looks further.
@@ -94,13 +94,13 @@ no_program requirements.Required a = refuse refusals.NotFound (text_at 0 a)
 no_program _ a = missing_program a
 
 -- Returns the program that was found, or the result if none was.
-unfoldable pub give_program : ArgumentsData → Option Program → Deed (Option Data)
-give_program a (Some p) = found_program p
-give_program a None = no_program (required_by a) a
+unfoldable pub program_result : ArgumentsData → Option Program → Deed (Option Data)
+program_result a (Some p) = found_program p
+program_result a None = no_program (required_by a) a
 
 -- Returns the first program that is found, of those that the arguments name (`find_program`). Refuses with E17 if none is found and one is
 -- required.
 unfoldable pub find_program : ArgumentsData → Deed (Option Data)
 find_program a = do
   p ← program_wanted (required_by a) a
-  give_program a p
+  program_result a p

@@ -9,7 +9,7 @@ use values::{Object, Value};
 use world::{Caller, Stop};
 
 /// Returns the object as a value.
-pub fn give_object<T: Tree, O: Outputs>(
+pub fn return_object<T: Tree, O: Outputs>(
     caller: &Caller<'_, T, O>,
     given: Object,
 ) -> Result<Option<Value>, Stop>

@@ -3,10 +3,10 @@ ghost use Rattle.std.specs.Prelude.{◌≡◌, IfOk, map, option_map};
 ghost use Rattle.build.specs.project.View.{answer_view};
 ghost use Rattle.world.specs.Prelude.{Does, MayFail, arguments_data, data_of};
 ghost use Rattle.resource_calls.specs.Dependency.{answer_of, dependency, dependency_named, first_said, fitting_dependency};
-ghost use Rattle.resource_calls.specs.Dependency.{give_noted, none_fits};
+ghost use Rattle.resource_calls.specs.Dependency.{note_dependency, none_fits};
 ghost use Rattle.resource_calls.specs.Required.{required_by};
 
-use crate::call_results::give_object;
+use crate::call_results::return_object;
 use crate::required::{gives_disabler, object_or, read_required};
 use arguments::{Arguments, Requirement};
 use build::project::Answer;
@@ -84,17 +84,17 @@ fn answer_of(alloc: Global, dependency: &Dependency) -> Result<Answer, AllocErro
 }
 
 // Records a dependency, and returns it or a disabler in its place. Refuses one that is too large with E22.
-fn give_noted<T: Tree, O: Outputs>(
+fn note_dependency<T: Tree, O: Outputs>(
     caller: &mut Caller<'_, T, O>,
     said: Result<Dependency, values::OperationRefusal>,
     is_disabled: bool,
 ) -> Result<Option<Value>, Stop>
-    ensures { Does T.seen O.seen (option_map data_of) (give_noted said is_disabled) caller.old result caller.new }
+    ensures { Does T.seen O.seen (option_map data_of) (note_dependency said is_disabled) caller.old result caller.new }
 {
     let dependency = caller.answer(said)?;
     let answer = answer_of(caller.alloc, &dependency)?;
     caller.add_dependency(answer)?;
-    give_object(
+    return_object(
         caller,
         object_or(Object::Dependency(dependency), is_disabled),
     )
@@ -112,7 +112,7 @@ fn none_fits<T: Tree, O: Outputs>(
         Requirement::Required => caller.refuse(Refusal::NotFound, arguments.text_at(0)),
         Requirement::Optional | Requirement::Disabled => {
             let missing = missing_dependency(caller.alloc, arguments.text_at(0))?;
-            give_noted(caller, missing, gives_disabler(arguments))
+            note_dependency(caller, missing, gives_disabler(arguments))
         }
     }
 }
@@ -129,7 +129,7 @@ pub fn dependency<T: Tree, O: Outputs>(
 {
     let found = fitting_dependency(caller, arguments)?;
     match found {
-        Some(said) => give_noted(caller, said, false),
+        Some(said) => note_dependency(caller, said, false),
         None => none_fits(caller, arguments),
     }
 }

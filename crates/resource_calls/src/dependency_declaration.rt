@@ -4,7 +4,7 @@ ghost use Rattle.world.specs.Prelude.{Does, MayFail, arguments_data, data_of};
 ghost use Rattle.resource_calls.specs.DeclareDependency.{declare_dependency, joined_given};
 ghost use Rattle.resource_calls.specs.OwnListsView.{own_view};
 
-use crate::call_results::give_object;
+use crate::call_results::return_object;
 use crate::joined_lists::joined_dependency;
 use crate::named_files::require_files;
 use crate::own_lists::{Own, own_lists};
@@ -39,5 +39,5 @@ pub fn declare_dependency<T: Tree, O: Outputs>(
     let own = caller.pass(said)?;
     require_files(caller, &own.sources)?;
     let dependency = join_given(caller, arguments, &own)?;
-    give_object(caller, Object::Dependency(dependency))
+    return_object(caller, Object::Dependency(dependency))
 }

@@ -5,7 +5,7 @@ ghost use Rattle.resource_calls.specs.Programs.{file_named, find_program, first_
 ghost use Rattle.resource_calls.specs.Programs.{program_at, program_named, program_wanted};
 ghost use Rattle.resource_calls.specs.Required.{required_by};
 
-use crate::call_results::give_object;
+use crate::call_results::return_object;
 use crate::required::{gives_disabler, object_or, read_required};
 use arguments::{Arguments, Requirement, Rule};
 use ports::{Outputs, Tree};
@@ -128,7 +128,7 @@ fn no_program<T: Tree, O: Outputs>(
         Requirement::Required => caller.refuse(Refusal::NotFound, arguments.text_at(0)),
         Requirement::Optional | Requirement::Disabled => {
             let missing = Object::Program(Program::NotFound);
-            give_object(caller, object_or(missing, gives_disabler(arguments)))
+            return_object(caller, object_or(missing, gives_disabler(arguments)))
         }
     }
 }
@@ -145,7 +145,7 @@ pub fn find_program<T: Tree, O: Outputs>(
 {
     let found = program_wanted(caller, arguments)?;
     match found {
-        Some(program) => give_object(caller, Object::Program(program)),
+        Some(program) => return_object(caller, Object::Program(program)),
         None => no_program(caller, arguments),
     }
 }

@@ -21,8 +21,8 @@ pub record PartData : Type 0 where
   pub needs : List SourceData
 
 -- Returns a part that needs nothing.
-abbrev pub words_alone : List Text → PartData
-words_alone ws = record { words = ws; needs = [] }
+abbrev pub only_words : List Text → PartData
+only_words ws = record { words = ws; needs = [] }
 
 -- Returns a part of one path, and what it needs.
 abbrev pub one_path : Path → SourceData → PartData
@@ -31,8 +31,8 @@ one_path path need = record { words = path ∷ []; needs = need ∷ [] }
 -- Returns the arguments for a program. A program that was not found has none.
 abbrev pub of_program : ℕ → Program → Option PartData
 of_program depth programs.NotFound = None
-of_program depth (programs.Words words) = Some (words_alone words)
-of_program depth (programs.File path) = Some (words_alone (source_path depth path ∷ []))
+of_program depth (programs.Words words) = Some (only_words words)
+of_program depth (programs.File path) = Some (only_words (source_path depth path ∷ []))
 
 -- Returns how a target is called. A program directly in the build directory is called as `./prog`.
 abbrev pub command_path : BuildData → Path
@@ -69,7 +69,7 @@ of_object here o = option_and_then (of_thing here.depth) (thing_of here.earlier 
 
 -- Returns the part for a text with placeholders.
 abbrev pub of_text : PlaceData → Text → Option PartData
-of_text place t = option_map words_alone (words_of place t)
+of_text place t = option_map only_words (words_of place t)
 
 -- Returns a part of the command: a text with placeholders, or an object.
 abbrev pub part_of : HereData → PlaceData → Data → Option PartData

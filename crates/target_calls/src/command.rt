@@ -8,7 +8,7 @@ ghost use Rattle.build.specs.View.{build_view, source_view};
 ghost use Rattle.world.specs.Prelude.{data_of, here_view};
 ghost use Rattle.target_calls.specs.Commands.{command_path, command_of, joined_parts, of_build_target, of_file, of_object, of_output};
 ghost use Rattle.target_calls.specs.Commands.{of_outputs};
-ghost use Rattle.target_calls.specs.Commands.{of_program, of_text, of_thing, one_path, part_of, words_alone};
+ghost use Rattle.target_calls.specs.Commands.{of_program, of_text, of_thing, one_path, part_of, only_words};
 ghost use Rattle.target_calls.specs.CommandsView.{part_view};
 
 use crate::source_lookup::{make_of, one_made_of};
@@ -38,21 +38,21 @@ fn push_path(whole: &mut Part, path: String, need: Source) -> Result<(), AllocEr
 }
 
 // Appends arguments that need nothing.
-fn push_alone(whole: &mut Part, alloc: Global, words: &[Text]) -> Result<(), AllocError>
-    ensures { IfOk result (λ _. part_view whole.new ≡ joined_parts (part_view whole.old) (words_alone words.now)) }
+fn push_only_words(whole: &mut Part, alloc: Global, words: &[Text]) -> Result<(), AllocError>
+    ensures { IfOk result (λ _. part_view whole.new ≡ joined_parts (part_view whole.old) (only_words words.now)) }
 {
     let mut own = strings(alloc, words)?;
     whole.words.append(&mut own)
 }
 
 // Appends the path of a source file, which needs nothing.
-fn push_path_alone(
+fn push_only_path(
     whole: &mut Part,
     alloc: Global,
     depth: usize,
     path: &str,
 ) -> Result<(), AllocError>
-    ensures { IfOk result (λ _. part_view whole.new ≡ joined_parts (part_view whole.old) (words_alone (path_from depth path.now ∷ []))) }
+    ensures { IfOk result (λ _. part_view whole.new ≡ joined_parts (part_view whole.old) (only_words (path_from depth path.now ∷ []))) }
 {
     let word = source_path(alloc, depth, path)?;
     whole.words.push(word)?;
@@ -71,8 +71,8 @@ fn push_program(
 {
     let pushed = match program {
         Program::NotFound => return Ok(false),
-        Program::Words(words) => push_alone(whole, alloc, words.as_slice()),
-        Program::File(path) => push_path_alone(whole, alloc, depth, path.as_str()),
+        Program::Words(words) => push_only_words(whole, alloc, words.as_slice()),
+        Program::File(path) => push_only_path(whole, alloc, depth, path.as_str()),
     };
     pushed?;
     Ok(true)

@@ -158,7 +158,7 @@ fn count_sources(named: &[Named]) -> usize
 }
 
 // Returns whether `input` alone gives sources, and occurs once.
-fn says_input_alone(arguments: &Arguments) -> bool
+fn is_only_input(arguments: &Arguments) -> bool
     ensures { OnTrue result (IsAllInput (arguments_data arguments.now)) }
 {
     count_sources(&arguments.named) == 1 && arguments.keyword("input").is_some()
@@ -535,7 +535,7 @@ pub fn declare_custom(
     if let Some((rule, keyword)) = rule_broken(arguments) {
         return Ok(Err(rule.refuse(here.alloc, keyword)?));
     }
-    let input_alone = says_input_alone(arguments);
+    let input_alone = is_only_input(arguments);
     let named = match written_sources(here, arguments, input_alone)? {
         Ok(named) => named,
         Err(refused) => return Ok(Err(refused)),

@@ -1,7 +1,7 @@
 //! Defines what the code of a function works on: the world of a run and its devices.
 ghost use Rattle.std.specs.Prelude.{◌≡◌, string_bytes};
 ghost use Rattle.world.specs.Answering.{IsAnswered, IsFitting, Refuses};
-ghost use Rattle.machine_file.specs.Questions.{Key, answer_to, plain};
+ghost use Rattle.machine_file.specs.Questions.{Key, answer_to, question_about};
 ghost use Rattle.machine_file.specs.QuestionsView.{question_in};
 ghost use Rattle.world.specs.Deed.{consult, need, required_file, say, there};
 ghost use Rattle.world.specs.Store.{world_of};
@@ -121,11 +121,11 @@ impl<'a, T: Tree, O: Outputs> Caller<'a, T, O> {
     /// Asks the machine file for the value of a key of a section, as a question without further facts.
     pub fn ask_key(&mut self, section: &str, key: &str) -> Result<(), Stop>
         ensures deed { Does T.seen O.seen (λ u. answer_to self.old.store.now.machine (Key section.now key.now))
-            (consult (plain (Key section.now key.now))) self.old result self.new }
+            (consult (question_about (Key section.now key.now))) self.old result self.new }
         ensures machine { self.new.store.now.machine ≡ self.old.store.now.machine }
     {
         let topic = Topic::key(self.alloc, section, key)?;
-        self.ask(Question::plain(self.alloc, topic))
+        self.ask(Question::about(self.alloc, topic))
     }
 
     /// Writes text to the log.

@@ -2,7 +2,7 @@
 ghost use Rattle.std.specs.Prelude.{◌≡◌, IfOk, OnOk, Some, map, option_map};
 ghost use Rattle.arguments.specs.Given.{text_or_none};
 ghost use Rattle.values.specs.Data.{integer, items_append, list, no_items, text};
-ghost use Rattle.machine_file.specs.Questions.{answer_to, check_topic, plain};
+ghost use Rattle.machine_file.specs.Questions.{answer_to, check_topic, question_about};
 ghost use Rattle.machine_file.specs.View.{machine_in};
 ghost use Rattle.world.specs.Prelude.{Answers, Does, arguments_data, data_of, items_of, within};
 ghost use Rattle.world.specs.Deed.{consult};
@@ -73,11 +73,11 @@ fn ask_argument<T: Tree, O: Outputs>(
 ) -> Result<(), Stop>
     ensures deed { Does T.seen O.seen
         (λ u. answer_to caller.old.store.now.machine (argument_topic (text_or_none (Some (data_of value.now)))))
-        (consult (plain (argument_topic (text_or_none (Some (data_of value.now)))))) caller.old result caller.new }
+        (consult (question_about (argument_topic (text_or_none (Some (data_of value.now)))))) caller.old result caller.new }
     ensures machine { caller.new.store.now.machine ≡ caller.old.store.now.machine }
 {
     let topic = Topic::check(caller.alloc, "has_argument", &[text_of(value)])?;
-    caller.ask(Question::plain(caller.alloc, topic))
+    caller.ask(Question::about(caller.alloc, topic))
 }
 
 fn is_supported(alloc: Global, machine: &Machine, value: &Value) -> Result<bool, AllocError>

@@ -28,12 +28,12 @@ pub fn index(
         return Ok(Ok(index.clone()?));
     }
     match (whole, index) {
-        (Value::List(list), Value::Integer(index)) => give_found(indexed_item(list, *index)),
+        (Value::List(list), Value::Integer(index)) => found_value(indexed_item(list, *index)),
         (Value::Text(text), Value::Integer(index)) => text_of(
             alloc,
             indexed_char(text.as_str(), *index),
         ),
-        (Value::Dictionary(dictionary), Value::Text(key)) => give_found(dictionary.get(key)),
+        (Value::Dictionary(dictionary), Value::Text(key)) => found_value(dictionary.get(key)),
         (Value::Object(object), Value::Integer(index)) => match indexed_output(object, *index) {
             Ok(output) => Ok(Ok(Value::of_object(alloc, output)?)),
             Err(refusal) => Ok(Err(refusal)),
@@ -102,7 +102,7 @@ fn indexed_output(object: &Object, index: i128) -> Result<Object, OperationRefus
 }
 
 // Returns a copy of the value that was found, and E10 if there is none.
-fn give_found(value: Option<&Value>) -> Result<Result<Value, OperationRefusal>, AllocError>
+fn found_value(value: Option<&Value>) -> Result<Result<Value, OperationRefusal>, AllocError>
     ensures { IfOk result (λ r. Answers (ok_or (option_map (λ v. data_of v.now) value.entry) refusal.Absent) r) }
 {
     let Some(value) = value else {

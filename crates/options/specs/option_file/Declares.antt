@@ -42,15 +42,15 @@ unfoldable pub after : List Declaration → StatementTree → Result (List Decla
 after options s = with_option options (statement_declares s)
 
 -- Continues with the rest of the statements, or returns the fault at this line.
-abbrev pub go_on : (List Declaration → Result (List Declaration) DeclareFaultData) → ℕ → Result (List Declaration) RefusedData
+abbrev pub continue_with : (List Declaration → Result (List Declaration) DeclareFaultData) → ℕ → Result (List Declaration) RefusedData
     → Result (List Declaration) DeclareFaultData
-go_on rest line (Ok options) = rest options
-go_on rest line (Err refused) = Err (record { refusal = refused.refusal; line = line; detail = refused.detail })
+continue_with rest line (Ok options) = rest options
+continue_with rest line (Err refused) = Err (record { refusal = refused.refusal; line = line; detail = refused.detail })
 
 -- Returns the options after these statements too, or the first fault, at the line of its statement.
 unfoldable pub declares_from : List StatementTree → List Declaration → Result (List Declaration) DeclareFaultData
 declares_from [] options = Ok options
-declares_from (s ∷ ss) options = go_on (declares_from ss) (line_of s) (after options s)
+declares_from (s ∷ ss) options = continue_with (declares_from ss) (line_of s) (after options s)
 
 -- Returns the options that a file declares, in the order of its statements, or its first fault.
 abbrev pub file_declares : FileTree → Result (List Declaration) DeclareFaultData

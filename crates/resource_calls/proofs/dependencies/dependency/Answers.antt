@@ -1,7 +1,7 @@
 use Rattle.std.proofs.Common.{ap, sym}
 use Rattle.arguments.specs.Arguments.{arguments_data}
 use Rattle.world.proofs.Answering.{carries_as, carries_stop, carries_then}
-use Rattle.resource_calls.specs.Dependency.{dependency, give_fitting, give_found}
+use Rattle.resource_calls.specs.Dependency.{dependency, fitting_result, found_result}
 use Rattle.resource_calls.proofs.dependencies.dependency.Goals as goal
 
 pub returns-in_err-found : goal.returns-in_err-found
@@ -9,13 +9,13 @@ unfolding dependency
 returns-in_err-found g c = carries_stop c.in_err-found.ensures c.from_residual.ensures.1
 
 pub returns-in-Some : goal.returns-in-Some
-unfolding dependency give_fitting give_found
+unfolding dependency fitting_result found_result
 returns-in-Some g c =
     carries_then {x = c.in_ok-found.found} c.in_ok-found.ensures
-    (carries_as (ap (give_fitting (arguments_data c.args.arguments.now)) (sym c.in-Some.is)) c.give_noted.ensures)
+    (carries_as (ap (fitting_result (arguments_data c.args.arguments.now)) (sym c.in-Some.is)) c.note_dependency.ensures)
 
 pub returns-in-None : goal.returns-in-None
-unfolding dependency give_fitting
+unfolding dependency fitting_result
 returns-in-None g c =
     carries_then {x = c.in_ok-found.found} c.in_ok-found.ensures
-    (carries_as (ap (give_fitting (arguments_data c.args.arguments.now)) (sym c.in-None.is)) c.none_fits.ensures)
+    (carries_as (ap (fitting_result (arguments_data c.args.arguments.now)) (sym c.in-None.is)) c.none_fits.ensures)

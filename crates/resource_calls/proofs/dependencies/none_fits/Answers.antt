@@ -5,7 +5,7 @@ use Rattle.resources.specs.Found.{missing_dependency}
 use Rattle.world.specs.Deed.{refuse}
 use Rattle.world.proofs.Answering.{carries_as, carries_none, carries_refuse}
 use Rattle.world.proofs.Values.{two}
-use Rattle.resource_calls.specs.Dependency.{give_missing, give_noted, none_fits}
+use Rattle.resource_calls.specs.Dependency.{missing_result, note_dependency, none_fits}
 use Rattle.resource_calls.proofs.Either.{either_way}
 use Rattle.resource_calls.proofs.dependencies.none_fits.Goals as goal
 
@@ -19,10 +19,10 @@ pub returns-in_err-missing-in-Optional : goal.returns-in_err-missing-in-Optional
 returns-in_err-missing-in-Optional g c = carries_none c.from_residual.ensures.1
 
 pub returns-in_ok-missing-in-Optional : goal.returns-in_ok-missing-in-Optional
-unfolding none_fits give_missing
+unfolding none_fits missing_result
 returns-in_ok-missing-in-Optional g c =
     let a = arguments_data c.args.arguments.now in
     carries_as (sym (ap (λ r. none_fits r a) (sym c.read_required.ensures)
-    ∙ either_way (λ r. none_fits r a) (give_missing a) refl refl c.in-Optional.is))
-    (carries_as (two give_noted (c.in_ok-missing-in-Optional.ensures ∙ ap missing_dependency c.text_at-in-Optional.ensures) c.gives_disabler.ensures)
-    c.give_noted.ensures)
+    ∙ either_way (λ r. none_fits r a) (missing_result a) refl refl c.in-Optional.is))
+    (carries_as (two note_dependency (c.in_ok-missing-in-Optional.ensures ∙ ap missing_dependency c.text_at-in-Optional.ensures) c.gives_disabler.ensures)
+    c.note_dependency.ensures)

@@ -40,4 +40,4 @@ returns g c =
     carries_then {x = c.in_ok-own.own} (carries_said_of {view = own_view} (λ h. own_lists h (arguments_data c.args.arguments.now)) here_of c.in_ok-said.said
     c.in_ok-said.ensures c.here.ensures c.in_ok-own.ensures)
     (carries_then (carries_as (ap (λ ns. files_required (map named_view ns)) c.deref.ensures.value) c.in_ok-require_files.ensures)
-    (carries_then {x = c.in_ok-dependency.dependency} c.in_ok-dependency.ensures c.give_object.ensures))
+    (carries_then {x = c.in_ok-dependency.dependency} c.in_ok-dependency.ensures c.return_object.ensures))

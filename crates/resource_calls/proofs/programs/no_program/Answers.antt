@@ -24,4 +24,4 @@ returns-in-Optional g c =
     carries_as (sym (ap (λ r. no_program r a) (sym c.read_required.ensures)
     ∙ either_way (λ r. no_program r a) (missing_program a) refl refl c.in-Optional.is))
     (carries_as (ap (λ o. give (Some (object o))) (c.object_or.ensures
-    ∙ ap (object_or (objects.Program programs.NotFound)) c.gives_disabler.ensures)) c.give_object.ensures)
+    ∙ ap (object_or (objects.Program programs.NotFound)) c.gives_disabler.ensures)) c.return_object.ensures)

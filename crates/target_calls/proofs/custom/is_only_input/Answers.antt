@@ -4,7 +4,7 @@ use Rattle.std.proofs.lemmas.Bool.{OnTrue_from}
 use Rattle.arguments.specs.declared.arguments.Named.{Named}
 use Rattle.values.specs.View.{data_of}
 use Rattle.target_calls.proofs.InputAlone.{input_alone, is_some-option_map, says}
-use Rattle.target_calls.proofs.custom.says_input_alone.Goals as goal
+use Rattle.target_calls.proofs.custom.is_only_input.Goals as goal
 
 pub returns-then-count_sources-eq1 : goal.returns-then-count_sources-eq1
 returns-then-count_sources-eq1 c =
