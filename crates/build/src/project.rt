@@ -1,7 +1,6 @@
 //! Keeps a project: its targets, its other declarations, and the edges that build it.
 
 mod acceptance;
-mod claims;
 mod project;
 mod records;
 mod refusal;

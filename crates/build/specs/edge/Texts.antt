@@ -1,19 +1,8 @@
 -- Defines texts as lists of their bytes, and lists of texts.
 pub use Rattle.support.specs.Texts.{texts}
+pub use Rattle.path_set.specs.Paths.{Path, Text, holds}
 use Rattle.std.specs.Prelude.{ℕ, Bool, List, [], ◌∷◌, ◌++◌, bytes_eq, if◌then◌else◌}
 use Rattle.std.specs.List.{list_any}
-
--- A text is the list of its bytes.
-abbrev pub Text : Type 0
-Text = List ℕ
-
--- A path in the source tree or in the build directory. Slashes separate its parts.
-abbrev pub Path : Type 0
-Path = List ℕ
-
--- Returns whether the text is one of these.
-abbrev pub holds : Text → List Text → Bool
-holds text texts = list_any (bytes_eq text) texts
 
 -- Appends the text, unless the list has it.
 abbrev pub put_new : List Text → Text → List Text

@@ -2,6 +2,7 @@
 use Rattle.std.specs.Prelude.{◌≡◌, ℕ, ◌+◌, ◌≤◌, Bool, true, not, ◌&&◌, List, [], ◌∷◌, ◌++◌, flat_map, slice_get, bytes_eq, Option, Some}
 use Rattle.std.specs.Prelude.{None, if◌then◌else◌}
 use Rattle.std.specs.List.{list_all}
+pub use Rattle.path_set.specs.Paths.{first_taken}
 use Rattle.build.specs.edge.Texts.{Path, holds}
 use Rattle.build.specs.edge.Paths.{is_upward}
 use Rattle.build.specs.edge.Data.{EdgeData}
@@ -11,11 +12,6 @@ abbrev pub outputs_of : List EdgeData → List Path
 outputs_of edges = flat_map (λ e. e.outputs) edges
 
 -- ---- once
-
--- Returns the first of the paths that was seen before or occurs twice.
-abbrev pub first_taken : List Path → List Path → Option Path
-first_taken seen [] = None
-first_taken seen (p ∷ ps) = if holds p seen then Some p else first_taken (seen ++ p ∷ []) ps
 
 -- Returns how often a path is in the list.
 abbrev pub times : Path → List Path → ℕ

@@ -1,6 +1,7 @@
 -- Defines the invariant of a project.
 use Rattle.std.specs.Prelude.{◌≡◌, true, List, [], ◌++◌, map, String}
 use Rattle.std.specs.Global.{Global}
+pub use Rattle.path_set.specs.Paths.{IsFront}
 use Rattle.build.specs.edge.Texts.{Path, holds}
 use Rattle.build.specs.edge.Holding.{are_writable}
 use Rattle.build.specs.Data.{SurroundingsData, TargetData}
@@ -13,11 +14,6 @@ use Rattle.build.specs.project.Earlier.{refers_back, all_refer_back}
 -- Holds if both lists have the same paths, in any order.
 abbrev pub SamePaths : List Path → List Path → Type 0
 SamePaths xs ys = (p : Path) → holds p xs ≡ holds p ys
-
--- The second list is the first and more.
-pub record IsFront (old new : List (String Global)) : Type 0 where
-  pub more : List (String Global)
-  pub is : new ≡ old ++ more
 
 -- Returns the targets without their libraries and paths, in the same order.
 abbrev pub targets_in : List DeclaredTargetData → List TargetData

@@ -32,12 +32,12 @@ use crate::edge::{Edge, can_hold_path, can_hold_values, copies, strings};
 use crate::project::acceptance::{
     build_fits, custom_fits, has_made_sources, has_present_sources, is_build, is_folder, is_within,
 };
-use crate::project::claims::claim;
 use crate::project::records::{Answer, Install, Test};
 use crate::project::refusal::{ProjectError, ProjectRefusal, refuse};
 use crate::project::unholdable::{unheld, unheld_word};
 use crate::target_edges::{Claims, LinkContext, TargetParts, claims_of, no_parts, target_parts};
 use crate::{DeclaredTarget, Facts, Surroundings, Target, linked_libraries};
+use path_set::claim;
 use std::alloc::{AllocError, Global};
 use std::marker::Model;
 use support::paths::{is_file_name, path_in};

@@ -1,8 +1,7 @@
 use Rattle.std.proofs.Common.{◌≡◌, ◌++◌, take, drop}
-use Rattle.build.specs.edge.Texts.{texts}
-use Rattle.build.specs.project.Laws.{first_taken}
-use Rattle.build.specs.project.Whole.{IsFront}
-use Rattle.build.proofs.project.claims.insert_new.Given as goal
+use Rattle.support.specs.Texts.{texts}
+use Rattle.path_set.specs.Paths.{IsFront, first_taken}
+use Rattle.path_set.proofs.insert_new.Given as goal
 
 abbrev pub invariant-loop-path : goal.invariant-loop-path
 invariant-loop-path l = record {

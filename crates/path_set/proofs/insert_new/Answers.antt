@@ -1,7 +1,7 @@
 use Rattle.std.proofs.Common.{Some, sym, ap, ◌∙◌}
-use Rattle.build.specs.edge.Texts.{texts}
-use Rattle.build.proofs.PathLists.{inserted, tested_more, tested_present, added_more, begins_more}
-use Rattle.build.proofs.project.claims.insert_new.Goals as goal
+use Rattle.support.specs.Texts.{texts}
+use Rattle.path_set.proofs.PathLists.{inserted, tested_more, tested_present, added_more, begins_more}
+use Rattle.path_set.proofs.insert_new.Goals as goal
 
 pub returns-then-not-branch-clause-tested : goal.returns-then-not-branch-clause-tested
 returns-then-not-branch-clause-tested c =

@@ -1,8 +1,14 @@
 //! Keeps the set of the paths that a project makes.
+//!
+//! # Decisions
+//!
+//! **Paths are inserted, and taken out again if one is taken.** So each path is looked up once. The set stays as it was if a path is taken
+//! or memory runs out.
+#![tactic(auto)]
+
 ghost use Rattle.std.specs.Prelude.{◌≡◌, ◌++◌, IfOk, OnErr, ◌&&◌, not, is_some, None, option_map, if◌then◌else◌};
-ghost use Rattle.build.specs.edge.Texts.{texts};
-ghost use Rattle.build.specs.project.Laws.{first_taken};
-ghost use Rattle.build.specs.project.Whole.{IsFront};
+ghost use Rattle.support.specs.Texts.{texts};
+ghost use Rattle.path_set.specs.Paths.{IsFront, first_taken};
 
 use std::alloc::AllocError;
 use support::tables::SipSet;

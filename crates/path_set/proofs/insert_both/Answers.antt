@@ -1,10 +1,9 @@
 use Rattle.std.proofs.Common.{◌≡◌, ◌++◌, Bor, Option, Some, None, option_map, sym, ap, ◌∙◌}
 use Rattle.std.proofs.lemmas.Result.{IfOk-weaker}
-use Rattle.build.specs.edge.Texts.{Path, texts}
-use Rattle.build.specs.project.Laws.{first_taken}
-use Rattle.build.proofs.PathLists.{taken_first, taken_then}
-use Rattle.build.proofs.Placing.{told_none, told_path}
-use Rattle.build.proofs.project.claims.insert_both.Goals as goal
+use Rattle.support.specs.Texts.{texts}
+use Rattle.path_set.specs.Paths.{Path, first_taken}
+use Rattle.path_set.proofs.PathLists.{taken_first, taken_then, told_none, told_path}
+use Rattle.path_set.proofs.insert_both.Goals as goal
 
 pub returns-in-Ok-None-clause-tested : goal.returns-in-Ok-None-clause-tested
 returns-in-Ok-None-clause-tested c =
