@@ -35,6 +35,7 @@ pub use ninja;
 pub use operations;
 pub use option_values;
 pub use options;
+pub use path_set;
 pub use ports;
 pub use project_calls;
 pub use question_run::questions;
