@@ -68,16 +68,16 @@ pub const WHOLE: Plan = Plan {
     outputs: None,
 };
 
-// Which device of a run fails.
+/// Says which device of a run fails.
 #[derive(Clone, Copy, Debug)]
-enum Device {
+pub enum Device {
     Tree,
     Outputs,
 }
 
 impl Device {
-    // The plan by which this device fails once, at the call with this number.
-    fn fails(self, piece: usize, number: u64) -> Plan
+    /// Returns the plan by which this device fails once, at the call with this number.
+    pub fn fails(self, piece: usize, number: u64) -> Plan
         requires { 0 < piece }
     {
         match self {

@@ -1,5 +1,5 @@
-//! Tests the library: every call that `docs/LIBRARY.md` lists, by its path below `meson`, and runs over devices that fail. The expected
-//! values come from the Meson manual and from the definitions of `docs/PROVED.md`, never from what the program prints.
+//! Tests the library: every call that `docs/LIBRARY.md` lists, by its path below `meson`, and runs and templates over devices that fail. The
+//! expected values come from the Meson manual and from the definitions of `docs/PROVED.md`, never from what the program prints.
 #![tactic(auto)]
 
 #[cfg(test)]
@@ -10,6 +10,8 @@ mod device_calls;
 mod evaluation;
 #[cfg(test)]
 mod failing_runs;
+#[cfg(test)]
+mod failing_templates;
 #[cfg(test)]
 mod language;
 #[cfg(test)]

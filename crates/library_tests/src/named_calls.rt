@@ -39,10 +39,12 @@ fn call_name(alloc: Global, name: &str) -> Result<CallName, Fail> {
 fn a_name_is_looked_up(rt: HostRuntime) -> Result<(), Fail> {
     for (receiver, name, refused) in [
         (Thing::Nothing, "message", None),
+        (Thing::Nothing, "add_project_link_arguments", None),
         (Thing::Nothing, "import", Some(23)),
         (Thing::Nothing, "to_upper", Some(8)),
         (Thing::Two, "is_even", None),
         (Thing::Two, "to_upper", Some(8)),
+        (Thing::Two, "run", Some(8)),
         (Thing::Compiler, "get_id", None),
         (Thing::Compiler, "run", Some(23)),
         (Thing::Compiler, "message", Some(8)),
@@ -132,6 +134,7 @@ fn a_function_is_called(rt: HostRuntime) -> Result<(), Fail> {
             "⟦log⟧WARNING: 2\n",
         ),
         ("error", Thing::Two, Ended::Refused(18), ""),
+        ("error", Thing::Nothing, Ended::Refused(18), ""),
         ("error", Thing::Disabler, Ended::GaveDisabler, ""),
         ("range", Thing::Two, Ended::GaveOther, ""),
         ("range", Thing::Nothing, Ended::Refused(9), ""),

@@ -2,7 +2,7 @@
 use crate::build_calls::{empty_project, executable};
 use crate::rows::{HEAD, PROG};
 use crate::shown::shown;
-use meson::build::edge::{Edge, EdgeRule, OwnParts, SharedParts};
+use meson::build::edge::{Edge, EdgeRule, OwnParts, SharedParts, are_writable};
 use meson::build::project::{Project, edges};
 use meson::ninja::{
     can_hold_path, can_hold_value, write_edge, write_head, write_joined, write_path, write_tail,
@@ -88,6 +88,11 @@ fn words_are_quoted_for_the_shell(rt: HostRuntime) -> Result<(), Fail> {
             Some("g.c"),
             "sed 's/x/y z/' > g.c",
         ),
+        (
+            ["sed", "s/x/y z/", "../g.in"].as_slice(),
+            Some("g.c"),
+            "sed 's/x/y z/' ../g.in > g.c",
+        ),
     ] {
         let found = command(rt.alloc(), words, file)?;
         assert_eq!(rt; found.strip_prefix(OPEN), Some(expected));
@@ -140,21 +145,29 @@ fn a_build_file_is_its_head_its_edges_and_its_tail(rt: HostRuntime) -> Result<()
 }
 
 const BLOCK: &str = "build q.p/a$ b$:c$$.c.o: c_compile ../a$ b$:c$$.c || o
- COMMAND = cc 'it'\"'\"'s' -c '../a b:c$$.c'
+ COMMAND = cc -I. 'it'\"'\"'s' -c '../a b:c$$.c'
+ DESC = Compiling C object q.p/a b:c$$.c.o
+ DEPFILE = q.p/a b:c$$.c.o.d
+
+";
+
+// The same with an implicit input.
+const BLOCK_WITH_IMPLICIT: &str = "build q.p/a$ b$:c$$.c.o: c_compile ../a$ b$:c$$.c | i || o
+ COMMAND = cc -I. 'it'\"'\"'s' -c '../a b:c$$.c'
  DESC = Compiling C object q.p/a b:c$$.c.o
  DEPFILE = q.p/a b:c$$.c.o.d
 
 ";
 
 // An edge whose paths have a blank, a colon and a dollar.
-fn odd_edge(alloc: Global) -> Result<Edge, AllocError> {
+fn odd_edge(alloc: Global, implicit: &[&str]) -> Result<Edge, AllocError> {
     Ok(Edge {
         rule: EdgeRule::CCompile,
         outputs: strings(alloc, &["q.p/a b:c$.c.o"])?,
         inputs: strings(alloc, &["../a b:c$.c"])?,
-        implicit: Vec::new(alloc),
+        implicit: strings(alloc, implicit)?,
         order_only: strings(alloc, &["o"])?,
-        words: strings(alloc, &["cc", "it's", "-c", "../a b:c$.c"])?,
+        words: strings(alloc, &["cc", "-I.", "it's", "-c", "../a b:c$.c"])?,
         redirect: None,
         description: String::from_str(alloc, "Compiling C object q.p/a b:c$.c.o")?,
         depfile: Some(String::from_str(alloc, "q.p/a b:c$.c.o.d")?),
@@ -163,15 +176,19 @@ fn odd_edge(alloc: Global) -> Result<Edge, AllocError> {
 
 #[test]
 fn an_edge_is_written(rt: HostRuntime) -> Result<(), Fail> {
-    let edge = odd_edge(rt.alloc())?;
-    let text = edge_text(rt.alloc(), &edge)?;
-    assert_eq!(rt; text.strip_prefix(OPEN), Some(BLOCK));
+    let plain: &[&str] = &[];
+    for (implicit, block) in [(plain, BLOCK), (["i"].as_slice(), BLOCK_WITH_IMPLICIT)] {
+        let odd = [odd_edge(rt.alloc(), implicit)?];
+        assert!(rt; are_writable(&odd));
+        let text = edge_text(rt.alloc(), &odd[0])?;
+        assert_eq!(rt; text.strip_prefix(OPEN), Some(block));
+    }
     Ok(())
 }
 
 #[test]
 fn an_edge_that_shares_its_first_words_is_written(rt: HostRuntime) -> Result<(), Fail> {
-    let first = strings(rt.alloc(), &["cc", "it's"])?;
+    let first = strings(rt.alloc(), &["cc", "-I.", "it's"])?;
     let order_only = strings(rt.alloc(), &["o"])?;
     let shared = SharedParts {
         rule: EdgeRule::CCompile,

@@ -1,9 +1,11 @@
 //! Tests configuration data, templates and headers.
+ghost use Rattle.std.specs.Prelude.{◌≡◌, [], length, false, IfOk};
+
 use crate::shown::shown;
-use meson::ports::Outputs;
 use meson::ports::memory::{MemOutputs, MemTree};
+use meson::ports::{DeviceFault, Outputs, Tree};
 use meson::template::{ConfigData, ConfigValue, LINE_LIMIT, PassStop, SetStop, header, pass};
-use std::alloc::Global;
+use std::alloc::{AllocError, Global};
 use std::test::Fail;
 
 // The integer that a name stands for.
@@ -90,6 +92,13 @@ fn a_header_has_a_line_for_each_name(rt: HostRuntime) -> Result<(), Fail> {
     Ok(())
 }
 
+/// Returns room for a line of a template.
+pub fn line_room(alloc: Global) -> Result<Vec<u8>, AllocError>
+    ensures { IfOk result (λ room. length room.items ≡ 65536) }
+{
+    vec![in alloc; 0u8; LINE_LIMIT]
+}
+
 // Writes the template `t` with these bytes to the output `o`, and gives how that ended and what the outputs took.
 fn passed(
     alloc: Global,
@@ -103,7 +112,7 @@ fn passed(
         vec![in alloc; (String::from_str(alloc, "t")?, bytes)]?,
     )?;
     let mut out = MemOutputs::new(alloc, room)?;
-    let mut line = vec![in alloc; 0u8; LINE_LIMIT]?;
+    let mut line = line_room(alloc)?;
     out.open("o")?;
     let stop = pass(&mut tree, "t", &config, line.as_mut_slice(), &mut out).err();
     Ok((stop, out))
@@ -158,6 +167,69 @@ fn a_line_past_the_limit_is_refused(rt: HostRuntime) -> Result<(), Fail> {
     ] {
         let (ended, out) = passed(alloc, template.as_str(), 70_000)?;
         assert_eq!(rt; (ended, out.event_count()), (stop, bytes + 1));
+    }
+    Ok(())
+}
+
+// A tree whose only file has this size, or is absent, and has so many `a`.
+#[derive(Drop)]
+struct OddTree {
+    size: Option<u64>,
+    bytes: u64,
+}
+
+impl Tree for OddTree {
+    ghost seen = { λ _. record { files = []; failures = 0; steady = false } };
+
+    fn failures(&self) -> u64 {
+        0
+    }
+
+    fn size(&mut self, _path: &str) -> Result<Option<u64>, DeviceFault> {
+        Ok(self.size)
+    }
+
+    fn read_at(&mut self, _path: &str, at: u64, buf: &mut [u8]) -> Result<usize, DeviceFault> {
+        let left = self.bytes.saturating_sub(at);
+        let count = (buf.len() as u64).min(left) as usize;
+        for byte in buf[..count].iter_mut() {
+            *byte = b'a';
+        }
+        Ok(count)
+    }
+}
+
+// Passes the odd file, and gives how that ended and how many bytes it wrote.
+fn pass_odd(
+    alloc: Global,
+    size: Option<u64>,
+    bytes: u64,
+) -> Result<(Option<PassStop>, usize), Fail> {
+    let config = ConfigData::new(alloc);
+    let mut line = line_room(alloc)?;
+    let mut tree = OddTree { size, bytes };
+    let mut out = MemOutputs::new(alloc, 70_000)?;
+    out.open("o")?;
+    let stop = pass(&mut tree, "t", &config, line.as_mut_slice(), &mut out).err();
+    Ok((stop, out.event_count().saturating_sub(1)))
+}
+
+// No more is read than the size says, an earlier end is the end of the file, and an absent file is empty.
+#[test]
+fn files_end_before_or_behind_their_size(rt: HostRuntime) -> Result<(), Fail> {
+    for (size, bytes, stop, written) in [
+        (None, 3, None, 0),
+        (Some(3), 0, None, 0),
+        (Some(3), 10, None, 3),
+        (Some(65_536), 65_540, None, 65_536),
+        (Some(65_540), 65_536, None, 65_536),
+        (Some(65_540), 65_537, Some(PassStop::Limit(1)), 0),
+    ] {
+        assert_eq!(rt;
+            pass_odd(rt.alloc(), size, bytes)?,
+            (stop, written),
+            "{size:?} {bytes}"
+        );
     }
     Ok(())
 }
