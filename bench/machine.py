@@ -59,7 +59,7 @@ class Measured:
         self.take("port", self.run([self.command, "port", "--run", "--no-build", "--no-real", self.ported], self.ported))
 
     def made(self, command: str) -> list[Ran]:
-        """`setup` into an empty folder, with the machine file that was asked last."""
+        """Runs `setup` in an empty folder, with the machine file of the last run of `machine-file`."""
         shutil.rmtree(os.path.join(self.ported, BUILD), ignore_errors=True)
         return self.run([command, "setup", "--native-file", MACHINE, BUILD], self.ported)
 

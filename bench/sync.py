@@ -32,7 +32,7 @@ from tests.harness.faults import faults_library  # noqa: E402
 CHECKOUT = os.path.dirname(os.path.dirname(os.path.realpath(__file__)))
 PROGRAM = os.path.join(CHECKOUT, "crates", "hawkottoman", "out", "hawkottoman")
 
-# How the library changes the syncs of a run, by what is shown of it.
+# How the library changes the syncs of a run, by the name of the row.
 WAYS = {"no sync": {"FAULTS_SYNC": "none"}, "as the program does": {}, "a sync of each output": {"FAULTS_SYNC": "all"}}
 
 # What the folder of the build has before the run that is measured: the value that its outputs were made with, where it has some.
@@ -40,7 +40,7 @@ BEFORE = {"into an empty folder": None, "over outputs of other bytes": "old", "o
 
 
 def setup(program: str, folder: str, value: str, env: dict) -> float:
-    """The seconds of a run whose headers have this value."""
+    """Returns the seconds of a run whose headers have this value."""
     words = [program, "setup", f"-Dvalue={value}", "build"]
     start = time.perf_counter()
     done = subprocess.run(words, cwd=folder, env={**os.environ, **env}, capture_output=True, text=True)
@@ -51,7 +51,7 @@ def setup(program: str, folder: str, value: str, env: dict) -> float:
 
 
 def measured(program: str, folder: str, before: str | None, env: dict) -> float:
-    """The seconds of a run over what a run before has left, once the disk has written that."""
+    """Returns the seconds of a run over what a run before has left, once the disk has written that."""
     shutil.rmtree(os.path.join(folder, "build"), ignore_errors=True)
     if before is not None:
         setup(program, folder, before, {})

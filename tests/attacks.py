@@ -1,6 +1,6 @@
-"""What was seen to harm those who use the scripts, each tried again: tests/scripts runs these too.
+"""Tries again each attack that once harmed users of the scripts. tests/scripts runs these too.
 
-What must not be touched lies in a folder `outside`, beside what a script is given.
+The files that no script may touch are in a folder `outside`, next to the folder that a script is given.
 """
 import os
 import re
@@ -16,7 +16,7 @@ ROOT = os.path.realpath(WORK)
 
 
 def files_below(folder: str) -> dict[str, bytes]:
-    """The files and links below a folder of WORK, each with its bytes or with where it leads."""
+    """Returns the files and links below a folder of WORK, each with its bytes or with where it leads."""
     found = {}
     for place, folders, names in os.walk(os.path.join(WORK, folder)):
         for path in (os.path.join(place, name) for name in folders + names):
@@ -307,7 +307,7 @@ def wait_for_pids(names: list[str]) -> list[int]:
 
 
 def is_running(number: int) -> bool:
-    """Whether a process is still there after a while, and no mere entry of one that has ended."""
+    """Returns whether a process is still there after a while, and no mere entry of one that has ended."""
     for _ in range(600):
         try:
             with open(f"/proc/{number}/stat", encoding="utf-8") as it:

@@ -35,7 +35,7 @@ def text_of(name: str) -> str:
 
 
 def without_code(text: str) -> str:
-    """A document without its blocks of code, with `x` in place of code inside of a sentence."""
+    """Returns a document without its blocks of code, with `x` in place of code inside of a sentence."""
     kept, is_code = [], False
     for line in text.split("\n"):
         if line.lstrip().startswith("```"):
@@ -46,7 +46,7 @@ def without_code(text: str) -> str:
 
 
 def sentences(text: str, ends: str = ENDS) -> list[str]:
-    """The sentences of a document; each item of a list is one of its own, and tables and headings have none."""
+    """Returns the sentences of a document; each item of a list is one of its own, and tables and headings have none."""
     lines = ["" if line.startswith(("|", "#")) else re.sub(r"^ *([-*]|\d+\.) ", "\n\n", line) for line in without_code(text).split("\n")]
     paragraphs = re.split(r"\n\s*\n", "\n".join(lines))
     return [it for part in paragraphs for it in re.split(rf"(?<=[{ends}])[*_)]*\s+", " ".join(part.split())) if it]
@@ -57,21 +57,21 @@ def long_sentences(text: str, ends: str = ENDS) -> list[str]:
 
 
 def uneven_entries(text: str) -> dict[str, int]:
-    """The entries of docs/DECISIONS.md that have too few or too many sentences, and how many."""
+    """Returns the entries of docs/DECISIONS.md that have too few or too many sentences, and how many."""
     entries = re.split(r"^### (.*)$", re.sub(r"^## .*$", "", text, flags=re.M), flags=re.M)[1:]
     counts = {title: len(sentences(entry)) for title, entry in zip(entries[::2], entries[1::2])}
     return {title: count for title, count in counts.items() if count not in ENTRY_SENTENCES}
 
 
 def house_words(text: str) -> dict[str, float]:
-    """Of each house word how often it is in a thousand words, tables and headings too."""
+    """Returns how often each house word is in a thousand words, tables and headings too."""
     plain = without_code(text)
     count = max(len(re.findall(r"[\w']+", plain)), 1)
     return {word: 1000 * len(re.findall(rf"\b(?:{forms})\b", plain, re.I)) / count for word, forms in HOUSE.items()}
 
 
 def anchors(text: str) -> set[str]:
-    """The names by which links lead to the headings of a document."""
+    """Returns the names by which links lead to the headings of a document."""
     titles = re.findall(r"^#+ (.*)$", text, re.M)
     return {re.sub(r"[^\w -]", "", it.lower()).replace(" ", "-") for it in titles}
 
@@ -89,14 +89,14 @@ def broken_links(name: str) -> list[str]:
 
 
 def used_paths(source: str) -> set[str]:
-    """The paths below `meson` that Rattle sources name, those of `use` lists too."""
+    """Returns the paths below `meson` that Rattle sources name, those of `use` lists too."""
     lists = re.findall(r"\buse (meson[\w:]*)::\{([^}]*)\}", source)
     listed = {f"{module}::{name}" for module, names in lists for name in re.findall(r"\w+", names)}
     return listed | set(re.findall(r"\bmeson(?:::\w+)+", source))
 
 
 def uncalled(page: str, source: str) -> list[str]:
-    """The calls in the tables of docs/LIBRARY.md that Rattle sources don't use: methods by name, all others by their path."""
+    """Returns the calls in the tables of docs/LIBRARY.md that Rattle sources don't use: methods by name, all others by their path."""
     missing, used = [], used_paths(source)
     for calls, place in re.findall(r"^\| (`.*?) \| (.*?) \|", page.partition(LIBRARY_END)[0], re.M):
         path = re.search(r"[\w:]+::\w+", place)
@@ -154,7 +154,7 @@ def test_helps() -> None:
 
 
 def help_of(path: str) -> str:
-    """The help of a script that nobody calls by `meson`: its documentation, or the comment at the head of a shell script."""
+    """Returns the help of a script that nobody calls by `meson`: its documentation, or the comment at the head of a shell script."""
     text = text_of(path)
     if "python" in text.partition("\n")[0]:
         return ast.get_docstring(ast.parse(text)) or ""
@@ -171,7 +171,7 @@ def test_helps_of_tests() -> None:
 
 
 def messages(path: str) -> list[str]:
-    """The texts in a script that have a blank, without those that document it."""
+    """Returns the texts in a script that have a blank, without those that document it."""
     with open(path, encoding="utf-8") as it:
         nodes = list(ast.walk(ast.parse(it.read())))
     bodies = [it.body for it in nodes if isinstance(it, (ast.Module, ast.ClassDef, ast.FunctionDef)) and it.body]

@@ -82,7 +82,7 @@ def new_log(folder: str, name: str) -> BinaryIO:
 
 
 def unnamed_file(folder: str) -> BinaryIO:
-    """A file of this folder that has no name there, to be written and read."""
+    """Returns a file of this folder that has no name there, to be written and read."""
     try:
         return open(os.open(folder, os.O_TMPFILE | os.O_RDWR | os.O_CLOEXEC, 0o600), "w+b")
     except OSError:

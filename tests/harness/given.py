@@ -1,4 +1,4 @@
-"""What a run of a case is given and must come to, and what came of it, on a disk and in memory alike."""
+"""Holds what a run of a case is given, what it must come to, and what came of it, on a disk and in memory alike."""
 import dataclasses
 import os
 
@@ -42,11 +42,11 @@ class Came:
     order: list | None = None
 
     def given_up(self):
-        """The outputs that were begun and not ended, where the run was traced: the disk has none of them."""
+        """Returns the outputs that were begun and not ended, where the run was traced: the disk has none of them."""
         return [it for it in self.begun if it not in self.outputs]
 
     def left_over(self):
-        """The unfinished files that are left, which the run has to remove, unless it is the call to remove one that failed."""
+        """Returns the unfinished files that are left, which the run has to remove, unless it is the call to remove one that failed."""
         return [it + UNENDED for it in self.begun if it + UNENDED in self.outputs and self.failed not in REMOVALS]
 
 
@@ -148,6 +148,6 @@ class Given:
             self.files[os.fsdecode(written_out(path, names))] = written_out(content, names)
 
     def is_of_build(self, path):
-        """Whether a path is the folder of the build, one above it, or something below it."""
+        """Returns whether a path is the folder of the build, one above it, or something below it."""
         path, build = path + "/", os.path.normpath(self.build) + "/"
         return path.startswith(build) or build.startswith(path)

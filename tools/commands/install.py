@@ -173,7 +173,7 @@ class Installation:
             self.put(path, destination, make)
 
     def linked(self, path: str) -> bytes | bytearray:
-        """The bytes of a program or a shared library as it is installed."""
+        """Returns the bytes of a program or a shared library as it is installed."""
         data = bytearray(read_bytes(path))
         try:
             elf.drop_search(data, self.search_folders(path))

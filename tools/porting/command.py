@@ -92,7 +92,7 @@ def carry_out(project: Project, rules: list[Rule]) -> None:
 
 
 def found_by(rule: Rule, project: Project) -> list[Change]:
-    """The changes of a rule. One that comes to something that it doesn't foresee changes nothing, and that is told."""
+    """Returns the changes of a rule. A rule that comes to something unforeseen changes nothing, and the command reports it."""
     try:
         return list(rule.change(project))
     except (AttributeError, IndexError, KeyError, TypeError, ValueError) as error:
@@ -122,7 +122,7 @@ def show_changes(project: Project) -> None:
 
 
 def line_of_diff(line: str) -> str:
-    """A line of a diff as a terminal shows it: what would steer that is written as an escape."""
+    """Returns a line of a diff as a terminal shows it: what would steer that is written as an escape."""
     body = line.removesuffix("\r")
     return "\t".join(map(one_line, body.split("\t"))) + line[len(body):]
 
@@ -147,7 +147,7 @@ def write(project: Project) -> None:
 
 
 def try_out(project: Project, words: Given) -> int:
-    """What the program and the real Meson say of the result; the status."""
+    """Tries the result with the program and with the real Meson. Returns the status."""
     if words.no_trial:
         report("the program was not asked")
         return 0
@@ -155,7 +155,7 @@ def try_out(project: Project, words: Given) -> int:
 
 
 def ask_program(project: Project, words: Given) -> int:
-    """What the program says of the result, and what comes of a build; the status."""
+    """Tries the result with the program, and builds it. Returns the status."""
     program = program_of(words.program)
     if program is None:
         report("the program was not asked: it isn't built (--program names another)")
@@ -173,7 +173,7 @@ def ask_program(project: Project, words: Given) -> int:
 
 
 def ask_real(project: Project, words: Given) -> int:
-    """What the real Meson says of the result where it took the sources before; the status."""
+    """Tries the result with the real Meson, if that took the sources before. Returns the status."""
     results = project.results()
     meson = real_meson() if results and not words.no_real else None
     if meson is None:
@@ -192,7 +192,7 @@ def ask_real(project: Project, words: Given) -> int:
 
 
 def main(doc: str | None, given: list[str] | None = None) -> int:
-    """The command over these words, else over those of the program; its status."""
+    """Runs the command with these arguments, else with those of the program. Returns its status."""
     words = arguments(doc, given)
     if words.list_rules:
         list_rules([it for it in RULES if not it.is_sure or "help" not in words.also])
@@ -202,7 +202,7 @@ def main(doc: str | None, given: list[str] | None = None) -> int:
 
 
 def carried_out(words: Given) -> int:
-    # All that is said of a patch is no part of it.
+    # Messages about a patch are no part of it.
     said_to = sys.stderr if words.dry_run else sys.stdout
     recovered = Journal(words.source).recover()
     if recovered:

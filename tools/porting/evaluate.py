@@ -114,7 +114,7 @@ class Evaluation:
         return Many([Item(Unknown("text"), False)]) if kind == "texts" else Unknown(kind)
 
     def value(self, node: tree.Node) -> object:
-        """What is known of a node's value, over all times that it is evaluated; nothing of a path from the root of a disk."""
+        """Returns what is known of a node's value, over all times that it is evaluated; nothing of a path from the root of a disk."""
         return without_root(self.placed(node))
 
     def placed(self, node: tree.Node) -> object:
@@ -170,7 +170,7 @@ class Evaluation:
     # Variables
 
     def held_names(self) -> dict[str, object]:
-        """The variables as they are now, for one who keeps them."""
+        """Returns the variables as they are now, for one who keeps them."""
         self.are_names_held = True
         return self.names
 
@@ -215,7 +215,7 @@ class Evaluation:
         self.take_names(*(ends or [before]))
 
     def run_maybe(self, body: list[tree.Statement], is_doubtful: bool) -> bool:
-        """Whether what follows the branch may run after it."""
+        """Returns whether what follows the branch may run after it."""
         try:
             self.run(body)
         except Left as left:
@@ -248,7 +248,7 @@ class Evaluation:
                 break
 
     def run_round(self, statement: tree.Foreach, values: tuple, is_sure: bool) -> bool:
-        """Whether there may be a next round."""
+        """Returns whether there may be a next round."""
         before = self.held_names()
         self.set_names(dict(zip(statement.names, values)))
         self.doubt += not is_sure
@@ -452,7 +452,7 @@ class Evaluation:
 
 
 def is_version_of_meson(call: tree.Call | None) -> bool:
-    """Whether a method is called upon `meson.version()`."""
+    """Returns whether a method is called upon `meson.version()`."""
     receiver = tree.plain(call.receiver) if call and call.receiver else None
     return (isinstance(receiver, tree.Call) and receiver.name == "version" and isinstance(receiver.receiver, tree.Name)
             and receiver.receiver.text == "meson")
