@@ -209,7 +209,7 @@ def programs_in_folders(folder: str, count: int, begin: str = "", keywords: str 
 
 
 def programs_with_arguments(folder: str, count: int) -> int:
-    """The same, with a folder of headers and two arguments of the compiler for each program."""
+    """Writes the same, with a folder of headers and two arguments of the compiler for each program."""
     os.mkdir(os.path.join(folder, "include"))
     begin = "headers = include_directories('include')\n"
     return programs_in_folders(folder, count, begin, """, include_directories: headers, c_args: ['-DNUMBER={0}', '-DNAME="x"']""")

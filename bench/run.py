@@ -90,7 +90,7 @@ def replace_names(load: Load, size: typing.Any) -> list[str]:
 
 
 def replace_names_otherwise(load: Load, size: typing.Any) -> dict[str, list[str]]:
-    """The same by `sed` and by Python."""
+    """Returns the commands that do the same by `sed` and by Python."""
     sed = ";".join(f"s/@{name}@/{value}/g" for name, value in loads.NAMES.items())
     python = (
         "import re; names = %r; text = open('t.in').read(); "
@@ -109,12 +109,12 @@ def setup_otherwise(load: Load, size: typing.Any) -> dict[str, list[str]]:
 
 
 def setup_for_120_seconds(load: Load, size: typing.Any) -> dict[str, list[str]]:
-    """The same, ended with status 124 after 120 seconds."""
+    """Returns the commands that do the same, but end with status 124 after 120 seconds."""
     return {name: ["timeout", "120", *command] for name, command in setup_otherwise(load, size).items()}
 
 
 def setup_sources_otherwise(load: Load, size: typing.Any) -> dict[str, list[str]]:
-    """The same without chains of libraries: thousands of these take the other programs too long to wait for."""
+    """Returns the same without chains of libraries: thousands of these take the other programs too long to wait for."""
     return {} if load.name in ("chain", "ladder") else setup_otherwise(load, size)
 
 

@@ -60,7 +60,7 @@ def measured(program: str, folder: str, before: str | None, env: dict) -> float:
 
 
 def show(program: str, folder: str, library: str, rounds: int) -> None:
-    """A line for each way over each folder of a build: the ways in turn, so that other work on the machine strikes all of them."""
+    """Prints a line for each way over each folder of a build. The ways take turns, so that other work on the machine slows all of them."""
     for title, before in BEFORE.items():
         times: dict = {way: [] for way in WAYS}
         for _ in range(rounds):

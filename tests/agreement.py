@@ -132,7 +132,7 @@ class Comparison:
             print(f"{name}: FAILED {shown}", flush=True)
 
     def compare(self, name: str, folder: str) -> None:
-        """A project in a folder of its own."""
+        """Compares a project, in a folder of its own."""
         done = subprocess.run([self.meson, "setup", *self.words, "build-real"], cwd=folder,
                               capture_output=True, text=True, errors="replace")
         if done.returncode != 0:

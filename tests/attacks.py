@@ -42,13 +42,13 @@ def link(target: str, place: str) -> None:
 # install: destinations
 
 def to_install(*destinations: str) -> None:
-    """A configured folder `i` that installs a header to each of these places."""
+    """Makes a configured folder `i` that installs a header to each of these places."""
     configured("i", installed={put(f"i{n}/a.h", f"{n}\n"): place for n, place in enumerate(destinations)})
     put("i/build.ninja", "")
 
 
 def leaves(name: str, destination: str, text: str, status: int = 2) -> None:
-    """Refused at once: neither the place before nor anything outside is written, and nothing is built."""
+    """Checks that a command is refused at once: it writes neither to the place before nor to anything outside, and builds nothing."""
     to_install("/first/before.h", destination)
     before = files_below("d"), files_below("outside")
     refuses(f"{name}: is refused", over("install", "i", "--destdir", "d"), status, text,
@@ -162,7 +162,7 @@ STATUS = {"test": 126, "install": 1}
 
 
 def try_streams(script: str, words: list[str], status: int) -> None:
-    """A script over streams that can't be written."""
+    """Tries a script over streams that can't be written."""
     for given in (words, ["meson", script, "--help"]):
         name = " ".join(given[::len(given) - 1])
         with open("/dev/full", "w") as full:
@@ -294,7 +294,7 @@ def test_signals() -> None:
 
 
 def heed_hangups() -> None:
-    """Where these tests run under `nohup`, SIGHUP is ignored, and what they start would ignore it too."""
+    """Restores SIGHUP. If these tests run under `nohup`, it is ignored, and the commands that they start would ignore it too."""
     signal.signal(signal.SIGHUP, signal.SIG_DFL)
 
 

@@ -203,7 +203,7 @@ def test_ending_a_build() -> None:
 
 
 def make_archives() -> None:
-    """The archive of a library for C, and that of the toolchain's C part."""
+    """Makes the archive of a library for C, and that of the toolchain's C part."""
     put("library.c", "int part(void);\nint hawkottoman_setup(void) { return part(); }\n")
     put("part.c", "int part(void) { return 0; }\n")
     os.makedirs(f"{WORK}/kit/c")
@@ -463,7 +463,7 @@ def explains_what_is_unread(explains: Callable[..., None], sources: str) -> None
 
 
 def explains_odd_files(explains: Callable[..., None]) -> None:
-    """What is named in a branch that isn't taken is read no further than a file goes, and deep expressions are followed or left."""
+    """Checks that a file named in a branch that isn't taken is read only to its end, and that deep expressions are followed or left."""
     path, fault = f"{WORK}/explained/sub/meson.build", "echo 'meson.build:2: ERROR: E5 undefined name: nmae' >&2; exit 1"
     put("explained/meson.build", "project('p', 'c', name: nmae)\nmessage(nmae)\nif false\n  subdir('sub')\nendif\nname = 1\n")
     os.makedirs(os.path.dirname(path))
@@ -510,7 +510,7 @@ def test_compile() -> None:
 
 
 def fails(name: str, given: list[str], status: int, text: str) -> None:
-    """A `meson compile` that says in one line what is wrong, where `meson setup` says nothing."""
+    """Checks that `meson compile` says in one line what is wrong, if `meson setup` says nothing."""
     put("instead", "exec >/dev/null")
     refuses(name, [MESON, "compile", *given], status, text, env=with_tools())
     os.remove(f"{WORK}/instead")
@@ -616,7 +616,7 @@ def test_completion() -> None:
 
 
 def try_name(installed: str) -> None:
-    """The name of the installed command, in what it says itself and in what is said by those that it calls."""
+    """Checks the name of the installed command, in its own messages and in those of the commands that it calls."""
     put("instead", "exit 1")
     for command, what in (("test", "no test was run"), ("install", "nothing was installed"), ("introspect", "nothing is printed")):
         done = run([installed, command, *(["c"] if command == "introspect" else ["-C", "c"])], with_tools(), cwd=f"{WORK}/sources")

@@ -44,7 +44,7 @@ runpy.run_path(sys.argv[0], run_name='__main__')
 
 
 def library(name: str, function: str) -> None:
-    """A library with one function."""
+    """Makes a library with one function."""
     source = put(f"kept/{name}.c", f"int {function}(void) {{ return 0; }}\n")
     subprocess.run(["cc", "-shared", "-fPIC", source, "-o", f"{WORK}/kept/lib/lib{name}.so"], check=True)
 

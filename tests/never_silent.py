@@ -19,7 +19,7 @@ SOURCES = os.path.join(os.path.realpath(WORK), "silent")
 
 
 def ask(*questions: tuple[str, str, str, int]) -> None:
-    """The questions of a run: of each section, key and answer as JSON, and the line."""
+    """Writes the questions of a run: of each the section, the key and the answer as JSON, and the line."""
     put("asked", "".join(ASKED % it + "\n" for it in questions))
     put("questions", f"cat {WORK}/asked; return 0\n")
 
@@ -35,7 +35,7 @@ def fresh(text: str = "", **parts: object) -> None:
 
 
 def says(name: str, lines: list[str], *words: str, status: int = 0) -> None:
-    """A setup that says these lines on the standard error, and no others."""
+    """Checks that a setup prints these lines on the standard error, and no others."""
     done = meson("setup", *words, "b", cwd=SOURCES)
     check(f"meson setup: {name}", (done.returncode, done.stderr.splitlines()) == (status, lines), f"{done}")
 

@@ -381,7 +381,7 @@ def test_doubts() -> None:
 
 
 def carried_out_all_the_same(words: str) -> None:
-    """The build of these words, which no table looks at."""
+    """Runs the build of these words, which no table looks at."""
     put("edges", EDGES.replace("@C_ARGS@", "").replace("@LINK_ARGS@", words).replace("OUTSIDE", f"{WORK}/outside"))
     fresh("trial", "scratch")
     for name in ("a.c", "m.c", "evil.so", "evil"):

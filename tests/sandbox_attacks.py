@@ -37,7 +37,7 @@ class Program(ctypes.Structure):
 
 
 def forget_landlock() -> None:
-    """From here on the system has no Landlock: the call that asks for it is one that the system doesn't know."""
+    """Has the system lose Landlock: from here on it does not know the call that sets it up."""
     steps = (Filter * 4)(Filter(0x20, 0, 0, 0), Filter(0x15, 0, 1, 444), Filter(0x06, 0, 0, 0x00050000 | 38),
                          Filter(0x06, 0, 0, 0x7FFF0000))
     libc = ctypes.CDLL(None, use_errno=True)
@@ -66,7 +66,7 @@ def in_sandbox(name: str, words: list[str], source: str = MAIN, mode: str = "lin
 
 
 def without_sandbox(name: str, text: str, env: dict[str, str] | None = None, cwd: str = WORK) -> None:
-    """A project over a system that can't sandbox: nothing runs all the same."""
+    """Tries a project on a system that can't sandbox: nothing runs all the same."""
     put("m/meson.build", f"project('p', 'c')\ncc = meson.get_compiler('c')\n{text}\n")
     words = ["meson", "machine-file", *([] if cwd != WORK else ["m"])]
     done = run(words, env, cwd, preexec_fn=forget_landlock)

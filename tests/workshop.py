@@ -79,7 +79,7 @@ def read(path: str) -> str:
 
 
 def refuses(name: str, words: list[str], status: int, text: str, **how: object) -> None:
-    """A bad input: a status, and one clear line on the standard error."""
+    """Checks that a bad input ends with a status, and one clear line on the standard error."""
     done = run(words, **how)
     is_one_line = done.stderr.endswith("\n") and done.stderr.count("\n") == 1
     is_good = done.returncode == status and text in done.stderr and is_one_line

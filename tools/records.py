@@ -43,7 +43,7 @@ else:
         return cls
 
     def filled(self, *values, **named):
-        """The method `__init__`."""
+        """Returns the method `__init__`."""
         fields = self.__fields__
         given = self.__dict__
         if len(values) > len(fields):

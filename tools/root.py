@@ -208,7 +208,7 @@ def write_file(data: bytes | bytearray, mode: int, times: tuple[int, int]) -> Ca
 
 
 def write_pieces(pieces: Iterable[bytes | bytearray], mode: int, times: tuple[int, int]) -> Callable[[int, str], None]:
-    """The same of bytes that come piece by piece, once."""
+    """Returns what makes a file of bytes that come piece by piece, once."""
     def make(folder: int, name: str) -> None:
         with open(os.open(name, NEW_FILE, 0o600, dir_fd=folder), "wb") as it:
             it.writelines(pieces)

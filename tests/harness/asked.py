@@ -50,7 +50,7 @@ def text_of(section: str, key: str | None, answer: str, beside: str) -> str:
 
 
 def question_of(text: str) -> Question:
-    """Returns the question that a text of a case spells: '[SECTION] KEY: ANSWER', perhaps followed by ' at PLACE' and ' beside {..}'."""
+    """Returns the question that a text of a case spells: `[SECTION] KEY: ANSWER`, perhaps followed by ` at PLACE` and ` beside {..}`."""
     decoder = json.JSONDecoder()
     start = re.match(r"\[[^\]]*\]", text)
     for colon in re.finditer(": ", text) if start else ():

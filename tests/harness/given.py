@@ -124,7 +124,7 @@ class Given:
         self.things.append((word, path(place), path(target)))
 
     def expect_of_streams(self) -> None:
-        """Nothing comes of a stream that is closed or full."""
+        """Expects nothing from a stream that is closed or full."""
         shut = self.streams["closed"] + self.streams["full"]
         if 1 in shut:
             self.expected.log, self.expected.log_parts = b"", []

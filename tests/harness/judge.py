@@ -151,7 +151,7 @@ class Expected:
         self.says = True
 
     def take_order(self, content, out):
-        """The events, one in a line; the log is that of its events."""
+        """Takes the expected events, one in a line; the log is that of its events."""
         self.says, self.order = True, []
         for line in content.splitlines():
             word, _, text = line.partition(" ")

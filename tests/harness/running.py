@@ -272,7 +272,7 @@ def cut(room, path, share, shares):
 
 
 def over_present(room, whole):
-    """The same comes over a tree that holds only the files that the document lists as present, and nothing else is looked at."""
+    """Checks that the run is the same over a tree with only the files that the document lists as present, and looks at nothing else."""
     files = json.loads(whole.outputs[DOCUMENT])["buildsystem_files"]
     came = room.run({it: room.files.get(it, b"") for it in files["present"]}, traced=True)
     found = []
@@ -284,7 +284,7 @@ def over_present(room, whole):
 
 
 def in_pieces(room, whole, piece):
-    """The same comes where each read and write moves at most so many bytes."""
+    """Checks that the run is the same if each read and write moves at most so many bytes."""
     came = room.run(piece=piece)
     same = (came.status, came.log, came.complaint, came.outputs) == (whole.status, whole.log, whole.complaint, whole.outputs)
     return [] if same else [f"another run came: status {came.status}, and it said\n{shown(came.complaint)}"]

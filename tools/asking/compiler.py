@@ -237,5 +237,5 @@ class Compiler:
         return printed.rpartition('"it is"')[2].strip()
 
     def define(self, name: str, prefix: str, flags: Flags = Flags()) -> str:
-        """The same without quotation marks."""
+        """Returns what a macro expands to after a prefix, without quotation marks."""
         return self.expansion(name, prefix, flags).strip('"')

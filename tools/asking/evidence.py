@@ -69,7 +69,7 @@ def folders_in(said: str) -> list[str] | None:
 
 
 def add_headers(evidence: Evidence, source: str, said: str, headers: list[tuple[int, str]], folders: list[str] | None) -> None:
-    """The headers that a source has read, and where each of them, or one that is missing, would be found before."""
+    """Adds the headers that a source has read, and where each of them, or one that is missing, would be found before."""
     if folders is None:
         evidence.is_whole = False
         return
@@ -106,7 +106,7 @@ def text_of(path: str) -> str:
 
 
 def add_linked(evidence: Evidence, is_good: bool, printed: str, said: str) -> None:
-    """What the linker has opened, or has looked for in vain; a linker that doesn't say so leaves the evidence with a gap."""
+    """Adds what the linker has opened or not found. A linker that doesn't say so leaves a gap in the evidence."""
     opened = re.findall(OPENED, printed)
     if not opened and (is_good or re.search(LINKER_RAN, said)) and not re.search(BAD_OPTION, said):
         evidence.is_whole = False
@@ -115,7 +115,7 @@ def add_linked(evidence: Evidence, is_good: bool, printed: str, said: str) -> No
 
 
 def add_packages(name: str, folders: list[str]) -> None:
-    """The files of pkg-config that a package is made of, and where they would be found before."""
+    """Adds the files of pkg-config that make up a package, and where they would be found before."""
     evidence = at_work()
     names, known = [name], set()
     while evidence and names:

@@ -46,7 +46,7 @@ class Question:
 
     @property
     def method(self) -> str:
-        """Of a check."""
+        """Returns the method of a check."""
         return (self.key or "").partition(" ")[0] if self.section == "checks" else ""
 
     @property
@@ -92,7 +92,7 @@ class Project:
         return Told([question_of(it) for it in done.printed.split("\n") if it], done.why if done.status else "")
 
     def in_use(self, machine_file: str) -> tuple[str, list[str], list[str]]:
-        """c_std, c_args and c_link_args as the project has them in the end, by a run of its first statement alone."""
+        """Returns c_std, c_args and c_link_args as the project has them in the end, by a run of its first statement alone."""
         with tempfile.TemporaryDirectory(dir=self.scratch) as folder:
             linked_copy(self.sources, folder, {ROOT_FILE: first_statement(self.sources) + IN_USE})
             told = self.ask(machine_file, folder)

@@ -137,7 +137,7 @@ class Sandbox:
         return {**os.environ, **VARIABLES, "LC_ALL": "C", "TMPDIR": folder, "DISTCC_DIR": folder, "CCACHE_DIR": folder}
 
     def weaker(self) -> Iterator["Sandbox"]:
-        """Itself, and the sandboxes for compilers that don't work in it."""
+        """Yields this sandbox, and then those for compilers that don't work in it."""
         yield self
         if self.programs is not None:
             yield dataclasses.replace(self, programs=None, lack=OTHER_PROGRAMS)

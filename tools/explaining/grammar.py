@@ -185,7 +185,7 @@ def hint_of(parser: Parser) -> str:
 
 
 def in_brackets(opened: str, before: Token, token: Token) -> str:
-    """The same inside of brackets."""
+    """Returns the same inside of brackets."""
     if token.text == "=" and opened == "{":
         return "in a dictionary ':' follows a key"
     if before.kind == "name" and token.kind == "mark" and token.text == "=":

@@ -23,7 +23,7 @@ def section_at(lines: list[str], number: int) -> str | None:
 
 
 def cut(section: str | None, line: str) -> tuple[str, str]:
-    """Key and value of a line."""
+    """Returns the key and the value of a line."""
     key, _, value = line.rpartition("=") if section == "checks" else line.partition("=")
     return key.strip(), value.strip()
 

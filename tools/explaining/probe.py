@@ -39,7 +39,7 @@ LINES_BEFORE = 2  # that a probe adds before the statement
 
 class Probe:
     def __init__(self, room: Room, place: Place, number: int, set_to: dict[str, list[tree.Node]]) -> None:
-        """`number` is that of the fault; `set_to` says of each variable what the project sets it to."""
+        """Takes the number of the fault as `number`, and in `set_to` what the project sets each variable to."""
         self.room, self.place, self.number, self.set_to, self.asked = room, place, number, set_to, 0
         self.known: dict[tree.Node, Value] = {}
         first = place.body[0]

@@ -57,7 +57,7 @@ class Asked:
 
     @property
     def build(self) -> str | None:
-        """BUILDDIR, where the words have one that is below the sources."""
+        """Returns BUILDDIR, if the words have one that is below the sources."""
         folder = build_folder_of(self.words)
         if not folder or os.path.isabs(folder) or ".." in folder.split("/"):
             return None

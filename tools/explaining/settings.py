@@ -118,7 +118,7 @@ def plain_text(node: tree.Node) -> str:
 
 
 def of_statement(context: Context) -> Detail:
-    """`default_options` of project, or `get_option`."""
+    """Explains a fault of `default_options` of project, or of `get_option`."""
     told = context.told
     calls = [it for it in context.place.calls() if it.receiver is None]
     given = next((it.keywords["default_options"].value for it in calls if "default_options" in it.keywords), None)
