@@ -8,7 +8,7 @@
     bench/machine.py --rounds N ..      with N runs of each, of which the least is shown
 
 The command is installed into a temporary folder first, since its modules are compiled there. Each round makes a run of each, one after the
-other, in new build folders. `cold` is with an empty cache of answers, `warm` with that of the run before, and `alone` with each check
+other, in new build directories. `cold` is with an empty cache of answers, `warm` with that of the run before, and `alone` with each check
 compiled by itself and no cache. `program` is `setup` of the program alone. `meson` and `muon` are those of PATH, if they are installed and
 accept the project. Times are by the clock, in seconds; with --processor they are the processor's, which other work on the machine changes
 less.

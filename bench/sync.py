@@ -35,7 +35,7 @@ PROGRAM = os.path.join(CHECKOUT, "crates", "hawkottoman", "out", "hawkottoman")
 # How the library changes the syncs of a run, by the name of the row.
 WAYS = {"no sync": {"FAULTS_SYNC": "none"}, "as the program does": {}, "a sync of each output": {"FAULTS_SYNC": "all"}}
 
-# What the folder of the build has before the run that is measured: the value that its outputs were made with, where it has some.
+# What the build directory has before the run that is measured: the value that its outputs were made with, where it has some.
 BEFORE = {"into an empty folder": None, "over outputs of other bytes": "old", "over outputs of the same bytes": "new"}
 
 
@@ -60,7 +60,7 @@ def measured(program: str, folder: str, before: str | None, env: dict) -> float:
 
 
 def show(program: str, folder: str, library: str, rounds: int) -> None:
-    """Prints a line for each way over each folder of a build. The ways take turns, so that other work on the machine slows all of them."""
+    """Prints a line for each way over each build directory. The ways take turns, so that other work on the machine slows all of them."""
     for title, before in BEFORE.items():
         times: dict = {way: [] for way in WAYS}
         for _ in range(rounds):

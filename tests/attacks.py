@@ -379,7 +379,7 @@ def test_shown_names() -> None:
 
 
 def test_own_names() -> None:
-    """What the commands keep in a build folder is no target's."""
+    """What the commands keep in a build directory is no target's."""
     target = {"build_by_default": True, "defined_in": "meson.build", "installed": False, "name": "t", "type": "custom"}
     for name in ("meson-private", "meson-info", "meson-logs", "./meson-info"):
         configured("o", targets=[{**target, "filename": [name]}], tests=[shell("t", ":")])

@@ -212,7 +212,7 @@ def test_another_meson() -> None:
 
 
 def test_beside() -> None:
-    """The files that go with a build folder, and none of them through a link."""
+    """The files that go with a build directory, and none of them through a link."""
     fresh()
     done = meson("setup", "b", cwd=SOURCES)
     text = read("silent/b/.gitignore")
@@ -550,7 +550,7 @@ def test_refreshed() -> None:
 
 
 def test_moved_words() -> None:
-    """Words that name no absolute folder of the sources are not those of a setup here, but came with the sources."""
+    """Words that name no absolute source directory are not those of a setup here, but came with the sources."""
     fresh()
     put("silent/b/meson-private/words", "words-1\0\n.\0\n--native-file\0\nevil.ini\0\nb\0\n")
     put("silent/evil.ini", "")

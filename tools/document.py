@@ -23,7 +23,7 @@ PARTS = {"targets": list, "tests": list, "buildoptions": list, "installed": dict
 PROJECT, FILES, OPTION = {"name": str, "version": str}, {"present": list, "absent": list}, {"name": str, "type": str}
 TARGET = {"name": str, "type": str, "filename": list, "defined_in": str}
 TEST = {"cmd": list, "env": list, "name": str, "should_fail": bool, "suite": list, "timeout": int}
-# What the commands keep in a build folder for themselves.
+# What the commands keep in a build directory for themselves.
 OWN = {"meson-private", "meson-info", "meson-logs", "meson-private/words", "meson-private/machine.ini", "meson-private/executables",
        "meson-info/introspect.json", "meson-logs/testlog.txt", "meson-logs/install-log.txt", "compile_commands.json", ".gitignore"}
 # A NUL ends a path that the system gets, and half a pair of surrogates is no character.

@@ -58,7 +58,7 @@ def log_path(folder: str, name: str) -> str:
 
 
 def new_log(folder: str, name: str) -> BinaryIO:
-    """Returns a new log of a build folder. An old one is removed, and a link in place of its folder is refused."""
+    """Returns a new log of a build directory. An old one is removed, and a link in place of its folder is refused."""
     opened = [os.open(folder, FOLDER)]
     try:
         try:

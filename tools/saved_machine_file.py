@@ -1,4 +1,4 @@
-"""The machine file that `meson configure` keeps in a build folder: BUILDDIR/meson-private/machine.ini.
+"""The machine file that `meson configure` keeps in a build directory: BUILDDIR/meson-private/machine.ini.
 
 It is made again each time: the machine may have a package now that it had not. Answers that still hold come from the user's cache. What
 was filled in by hand stays where the machine has no answer. Another compiler and other flags are taken only if a variable of the
@@ -39,7 +39,7 @@ def encoded(text: str) -> bytes:
 
 
 class SavedMachineFile:
-    """The file of one build folder: `program` asks about the sources with these settings."""
+    """The file of one build directory: `program` asks about the sources with these settings."""
 
     def __init__(self, program: str, sources: str, folder: str, settings: list[str]) -> None:
         self.program, self.sources, self.folder, self.settings = program, sources, folder, settings

@@ -27,7 +27,7 @@ class Came:
     complaint: bytes
     outputs: dict
     looks: set = None
-    # What is no file below the folder of the build, and what it is; what changed of what has to stay.
+    # What is no file below the build directory, and what it is; what changed of what has to stay.
     others: dict = dataclasses.field(default_factory=dict)
     changes: list = dataclasses.field(default_factory=list)
     # The outputs that were begun, in their order; the call that failed, and whether a run may go on after that.
@@ -148,6 +148,6 @@ class Given:
             self.files[os.fsdecode(written_out(path, names))] = written_out(content, names)
 
     def is_of_build(self, path):
-        """Returns whether a path is the folder of the build, one above it, or something below it."""
+        """Returns whether a path is the build directory, one above it, or something below it."""
         path, build = path + "/", os.path.normpath(self.build) + "/"
         return path.startswith(build) or build.startswith(path)

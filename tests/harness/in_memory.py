@@ -6,7 +6,7 @@ from python import hawkottoman
 from tests.harness.given import Came, Given
 from tests.harness.judge import UNENDED
 
-# The folder of the sources, which no disk needs to have.
+# The source directory, which no disk needs to have.
 ROOT = "/s"
 
 # The most seconds that one run may take. Then the process ends and shows where it was, and no other case runs, so there are many.
@@ -30,7 +30,7 @@ class Memory(Given):
         return all(map(is_text, [*self.files, *map(os.fsdecode, self.words)])) and all(map(self.is_source, self.files))
 
     def is_source(self, path):
-        """Returns whether a path of a file is spelled as the definitions spell it, and is not of the folder of the build."""
+        """Returns whether a path of a file is spelled as the definitions spell it, and is not of the build directory."""
         return os.path.normpath(path) == path and not path.startswith(("/", "../")) and not self.is_of_build(path)
 
     def run(self, files=None, traced=False):

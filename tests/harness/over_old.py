@@ -1,4 +1,4 @@
-"""Runs a case over a folder of a build that has old outputs, with each call of a kind failing in turn: the status says what happened, each
+"""Runs a case over a build directory that has old outputs, with each call of a kind failing in turn: the status says what happened, each
 old output is as it was or the new one, whole, and the run that comes after makes all of them new."""
 import errno
 import os

@@ -114,7 +114,7 @@ class Room(Given):
         return os.path.join(self.root, self.inside, self.build)
 
     def outputs(self):
-        """Returns the files below the folder of the build, by their paths there; no looks; and what is none of these, nor a folder."""
+        """Returns the files below the build directory, by their paths there; no looks; and what is none of these, nor a folder."""
         found, others, top = {}, {}, self.build_folder()
         for folder, folders, names in os.walk(top):
             for path in (os.path.join(folder, name) for name in folders + names):

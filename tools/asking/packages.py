@@ -1,4 +1,4 @@
-"""Which package has what is missing, as far as pkg-config and the tools of the distribution can say."""
+"""Finds which package has what is missing, by pkg-config and the tools of the distribution."""
 import re
 import shutil
 

@@ -73,7 +73,7 @@ class Told:
 
 @dataclasses.dataclass(frozen=True)
 class Project:
-    """What a run of the program is given: the program, the folder of the sources, the arguments `-D..`, and a folder for temporary
+    """What a run of the program is given: the program, the source directory, the arguments `-D..`, and a folder for temporary
     files."""
     program: str
     sources: str

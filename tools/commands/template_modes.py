@@ -34,7 +34,7 @@ def templates_of(folder: str, sources: str) -> list[str]:
 
 
 def outputs_of(program: str, setup: Setup, templates: list[str]) -> list[str]:
-    """Returns the outputs that a run of the program makes of one of these templates, from the folder of the build."""
+    """Returns the outputs that a run of the program makes of one of these templates, from the build directory."""
     build = f"build-{os.urandom(8).hex()}"
     machine = machine_path(setup.words)
     if machine is not None and is_pipe(os.path.join(setup.sources, machine)):

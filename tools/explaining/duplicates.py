@@ -45,7 +45,7 @@ def named_by(call: tree.Call) -> tree.Node | None:
 
 
 def outputs_of(call: tree.Call) -> list[str]:
-    """Returns the names that a call makes, as far as they are written in it."""
+    """Returns the names that a call makes and that are written in it."""
     node = named_by(call)
     return [it.value for it in tree.inside(node) if isinstance(it, tree.Text)] if node is not None else []
 

@@ -61,7 +61,7 @@ def line_text(text: str, line: int) -> str:
 
 
 def tokens_before(text: str, end: int) -> list[Token]:
-    """Returns the tokens up to a place, as far as there are tokens."""
+    """Returns the tokens up to a place, or up to the first text that is no token."""
     while True:
         try:
             return tokens_of(text[:end])

@@ -80,7 +80,7 @@ class Probe:
         return self.printed(fault)
 
     def printed(self, fault: Fault) -> str:
-        """Returns what follows the mark, with the folder of the sources where the run had that of the links."""
+        """Returns what follows the mark, with the source directory where the run had that of the links."""
         return fault.text[len(MARK):].strip().replace(self.room.folder, self.room.asked.root)
 
     def completes(self, node: tree.Node) -> bool:

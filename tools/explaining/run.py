@@ -48,7 +48,7 @@ class Outcome:
 
 @dataclasses.dataclass(frozen=True)
 class Asked:
-    """What a run is given and when it began: the program, the folder of the sources, the arguments, and the bytes of the machine file."""
+    """What a run is given and when it began: the program, the source directory, the arguments, and the bytes of the machine file."""
     program: str
     root: str
     words: list[str]

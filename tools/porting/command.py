@@ -76,7 +76,7 @@ def chosen(words: Given) -> list[Rule]:
 
 
 def carry_out(project: Project, rules: list[Rule]) -> None:
-    """Each rule until it changes nothing, and all of them again where one may have made work for another."""
+    """Applies each rule until it changes nothing, and all rules again if one may have made work for another."""
     for _ in range(MOST_PASSES):
         before = len(project.done)
         for rule in rules:
@@ -105,7 +105,7 @@ def found_by(rule: Rule, project: Project) -> list[Change]:
 
 
 def show_patch(project: Project) -> None:
-    """The changes as a patch, which is all that a dry run writes to the standard output."""
+    """Prints the changes as a patch. A dry run writes nothing else to the standard output."""
     for path, (before, after) in project.results().items():
         old, new = (re.findall(r"[^\n]*\n|[^\n]+", text) for text in (before or "", after))
         for line in difflib.unified_diff(old, new, f"a/{path}" if before is not None else "/dev/null", f"b/{path}"):
@@ -139,7 +139,7 @@ def show_left(project: Project) -> list[Unsupported]:
 
 
 def write(project: Project) -> None:
-    """All changed files are put in their places, or none."""
+    """Puts all changed files in their places, or none."""
     encoded = lambda text: None if text is None else text.encode()
     texts = {path: (encoded(before), after.encode()) for path, (before, after) in project.results().items()}
     if texts:

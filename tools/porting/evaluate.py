@@ -1,4 +1,4 @@
-"""Works out what may happen in a project's definition files, as far as that is the same on every machine.
+"""Works out what may happen in a project's definition files, if that is the same on every machine.
 
 Of a condition that an option or the machine decides, both sides are looked at. What is never reached, as a branch for another system,
 may hold anything; so rules look only at what `reached` has.
@@ -76,7 +76,7 @@ class Evaluation:
 
     def __init__(self, root: str, body_of: Callable[[str], list[tree.Statement] | None], options: list[tree.Call],
                  most_steps: int = MOST_STEPS, is_usual: bool = False) -> None:
-        """With `is_usual` each option has its default."""
+        """Gives each option its default if `is_usual`."""
         self.root, self.body_of, self.most_steps, self.is_usual = root, body_of, most_steps, is_usual
         self.entered: list[str] = []
         self.reached: set[tree.Node] = set()
@@ -118,7 +118,7 @@ class Evaluation:
         return without_root(self.placed(node))
 
     def placed(self, node: tree.Node) -> object:
-        """The same, with ROOT for the project's folder in texts."""
+        """Returns the same, with ROOT for the project's folder in texts."""
         return self.values.get(node, UNKNOWN)
 
     # Files and statements

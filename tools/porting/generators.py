@@ -32,7 +32,7 @@ def generators(project: Project) -> Iterator[Change]:
 
 
 def of_several(project: Project, receiver: tree.Node | None, makers: tuple[Thing, ...]) -> Change | None:
-    """Of one of several generators, which one variable has, each becomes the words of its command."""
+    """Turns each of several generators that one variable may have into the words of its command."""
     sites = [it for it in project.functions("generator") if any(it.call is maker.call for maker in makers)]
     outputs = [texts_at(project, it.call.keywords["output"].value) if "output" in it.call.keywords else None for it in sites]
     words = [texts_at(project, it.call.keywords["arguments"].value) if "arguments" in it.call.keywords else None for it in sites]

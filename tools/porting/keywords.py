@@ -76,7 +76,7 @@ def visibility(project: Project) -> Iterator[Change]:
 
 
 def moved(site: Site, dropped: str, keyword: str, item: str, is_several: bool = False) -> Change:
-    """A keyword whose meaning becomes an item of another keyword, in its own place where that one is missing."""
+    """Moves the meaning of a keyword into an item of another keyword, in its own place if the other is missing."""
     word = site.call.keywords[dropped]
     what = f"{site.call.name}: `{dropped}:` becomes `{keyword}:`"
     if keyword not in site.call.keywords:

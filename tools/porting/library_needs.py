@@ -57,7 +57,7 @@ class Needs:
         return None
 
     def condition_of(self, thing: Thing, is_sure: bool) -> str | None:
-        """When a dependency is there, by an expression; none where that can't be said."""
+        """Returns when a dependency is there, as an expression, or None if that can't be said."""
         is_found = thing.keywords.get("required", True) is True
         one = None if is_sure else self.condition_of_one(thing)
         if one is not None:
@@ -85,7 +85,7 @@ class Needs:
         return None if is_found else f"{call}.found() and {call} in {holder}"
 
     def condition_of_one(self, thing: Thing) -> str | None:
-        """When a dependency is the one that a variable has, of several that it may have."""
+        """Returns when a dependency is the one that a variable has, of several that it may have."""
         for name, held in self.names.items():
             if not isinstance(held, Either) or not any(it is thing for it in held.choices):
                 continue
@@ -176,7 +176,7 @@ class Needs:
                 *(need for group in reversed(groups) for need in group if need.where != "requires")]
 
     def known_needs(self, items: list[Item]) -> list[Need]:
-        """Returns what items need, as far as that is known."""
+        """Returns what items are known to need."""
         needs: list[Need] = []
         for item in items:
             try:

@@ -109,7 +109,7 @@ class Linking(Needs):
             raise NotFollowed("what it links is not known here")
 
     def add_library(self, library: Thing, written: str | None) -> None:
-        """A library of the project; of one that may be static also what it needs."""
+        """Adds a library of the project, and what it needs if it may be static."""
         named = written or self.expression_of(library)
         needs = [it for keyword in ("link_with", "link_whole", "dependencies") for it in flat(library.keywords.get(keyword, Many([])))]
         if named is None or library.function not in ("static_library", "shared_library", "library"):
@@ -132,7 +132,7 @@ class Linking(Needs):
                 self.add(it)
 
     def add_found(self, thing: Thing, is_sure: bool, written: str | None) -> None:
-        """A library of the compiler, a package, or a dependency that has no .pc file."""
+        """Adds a library of the compiler, a package, or a dependency that has no .pc file."""
         name = thing.name
         if name is None or len(thing.arguments) != 1 or CHANGING & set(thing.keywords):
             raise NotFollowed("a dependency that it links can't be followed")

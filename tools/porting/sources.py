@@ -96,7 +96,7 @@ def sources(project: Project) -> Iterator[Change]:
 
 @dataclasses.dataclass(frozen=True)
 class Source:
-    """What a check compiles: its expression, its texts as far as they are known, and its node where that can be kept."""
+    """What a check compiles: its expression, its known texts, and its node where that can be kept."""
     source: str
     texts: list[str]
     node: tree.Node | None = None
