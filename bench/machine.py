@@ -43,7 +43,7 @@ class Measured:
         self.least: dict[str, float] = {}
 
     def run(self, words: list[str], folder: str, output: str | None = None) -> list[Ran]:
-        """Runs a command; none where it fails."""
+        """Runs a command; none if it fails."""
         try:
             return [ran(words, folder, output=output)]
         except RuntimeError:

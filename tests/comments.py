@@ -127,7 +127,7 @@ def test_finding() -> None:
 
 def test_finding_in_scripts() -> None:
     """A script in the house's words is refused: its functions without a verb, and its comments with such words."""
-    code = '"""Tests it.\n\n    told  a word\n"""\n\ndef a(told):\n    """A path behind `it`."""\n    return "beside"  # stands here\n'
+    code = '"""Tests it.\n\n    told  a word\n\nIt ends.\n"""\n\ndef a(told):\n    """A path behind `it`."""\n    return "beside"  # stands here\n'
     code += '\n\ndef b() -> Iterator[Change]:\n    """A call stays."""\n\n\ndef test_c():\n    """A file that is asked for."""\n'
     code += '\n\ndef d():\n    """Returns it."""\n    # `stands`, unasked\n'
     wanted = ["no verb first: a", "behind: A path behind `it`.", "is asked: A file that is asked for.", "stand: # stands here"]

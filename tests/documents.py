@@ -25,7 +25,7 @@ NEVER = {
 # These words hide the name of a thing. They are needed at times, so each has a bound of its own, for a thousand words.
 VAGUE = {"of it": (r"of it", 2), "that of": (r"(?:that|those) of", 4), "what": (r"what", 26), "where": (r"where", 4)}
 # Such a sentence is turned around: its first words name nothing. A question may begin so.
-TURNED = re.compile(r"[*_(]*(?:What|Of|Whether|Where|None of it) .*[^?]", re.S)
+TURNED = re.compile(r"[*_(]*(?:What|Of|Whether|Where|None of it)\b.*[^?]", re.S)
 # README has at most so many lines, so that it can be read at once.
 README_LINES = 150
 # An entry of docs/DECISIONS.md has so many sentences, so that it says the decision and why, and no more than one.

@@ -373,7 +373,7 @@ def test_bad_words() -> None:
     put("instead", "echo 'error: bad' >&2; exit 4")
     for words, said in {
             "--reconfigure": "a second setup of a folder configures it again: leave --reconfigure out",
-            "--wipe": "nothing in a build folder is needed again: remove the folder first, as `rm -r b`",
+            "--wipe": "nothing in a build directory is needed again: remove the folder first, as `rm -r b`",
             "--wrap-mode=nofallback": "there are no subprojects: leave --wrap-mode out",
             "--localstatedir=/var": "only a project that has such an option takes it, as -Dlocalstatedir=..: leave --localstatedir out",
             "--prefix=/usr": "the option is -Dprefix=/usr; `meson configure b` takes --prefix too",

@@ -11,7 +11,7 @@ OTHER_FOLDERS = ("localstatedir", "sharedstatedir", "libexecdir", "sbindir", "lo
 # The options that have no effect here, and why; then those of them that take no value.
 NO_EFFECT = {**{it: f"only a project that has such an option takes it, as -D{it}=.." for it in OTHER_FOLDERS},
              "wrap-mode": "there are no subprojects", "backend": "Ninja is the only backend"}
-NO_EFFECT_FLAGS = {"reconfigure": "a second setup of a folder configures it again", "wipe": "nothing in a build folder is needed again",
+NO_EFFECT_FLAGS = {"reconfigure": "a second setup of a folder configures it again", "wipe": "nothing in a build directory is needed again",
                    "fatal-meson-warnings": "there are no such warnings"}
 LEFT_OUT = {"cross-file": "cross builds are left out; the machine file of this machine is --native-file"}
 

@@ -38,7 +38,7 @@ class Came:
     after: tuple = ()
     # How many calls of each kind were made.
     counts: dict = dataclasses.field(default_factory=dict)
-    # The events in their order, each a word and its bytes; none where the run doesn't show it.
+    # The events in their order, each a word and its bytes; none if the run doesn't show it.
     order: list | None = None
 
     def given_up(self):
@@ -60,7 +60,7 @@ class Given:
         self.machine, self.build, self.inside, self.task = None, "build", "", b"setup"
         # What is no plain file: of each its kind, its path and what it leads to. Streams by their numbers; the folder that is locked.
         self.things, self.streams, self.locked, self.is_piped = [], {"closed": [], "full": []}, None, False
-        # How many bytes the outputs take, one a call, before a call fails; none where they take all.
+        # How many bytes the outputs take, one a call, before a call fails; none if they take all.
         self.taken = None
         self.expected = Expected()
         where = row_place(case.items, case.columns, self.names) if case.columns else None

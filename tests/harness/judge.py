@@ -196,7 +196,7 @@ class Expected:
             raise FormError(f"'no {text}' is 'no out NAME' or 'no edge TEXT'")
 
     def differences(self, came):
-        """Returns what differs, each a text of some lines; none where all is as it must be."""
+        """Returns what differs, each a text of some lines; none if all is as it must be."""
         found = [] if came.status == self.status else [f"status: {self.status} must come, and {came.status} came"]
         found += differing("log", self.log, came.log)
         found += parts_differ("log", self.log_parts, self.log_lacks, came.log)

@@ -90,7 +90,7 @@ def locked(folder: str | None) -> Iterator[None]:
 
 @contextmanager
 def pipe_of(data: bytes | None) -> Iterator[tuple]:
-    """Returns a pipe that gives these bytes, as the numbers that a program has to be handed; none where no bytes are given."""
+    """Returns a pipe that gives these bytes, as the numbers that a program has to be handed; none if no bytes are given."""
     if data is None:
         yield ()
         return

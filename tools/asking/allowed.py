@@ -76,7 +76,7 @@ class Allowed:
     sources: tuple[str, ...]
 
     def refused(self, words: list[str] | tuple[str, ...]) -> str | None:
-        """Returns the first word that a compiler is not given; none where all are."""
+        """Returns the first word that a compiler is not given; none if all are."""
         waiting = iter(words)
         for word in waiting:
             form = TAKES_NEXT.get(word)

@@ -52,7 +52,7 @@ def identity(words: tuple[str, ...]) -> tuple[object, ...]:
 
 
 def bytes_made(path: str) -> bytes:
-    """Returns the bytes of a file that the compiler has made; none where it has made none, or more than a check is answered by."""
+    """Returns the bytes of a file that the compiler has made; none if it has made none, or more than a check is answered by."""
     try:
         return read_bytes(path, MOST_BYTES)
     except OSError:

@@ -44,7 +44,7 @@ def at_work() -> Evidence | None:
 
 
 def stamp_of(path: str) -> Stamp:
-    """Returns the time and the size of what is at a path; none where nothing is."""
+    """Returns the time and the size of what is at a path; none if nothing is."""
     try:
         found = os.stat(path)
     except (OSError, ValueError):

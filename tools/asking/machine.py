@@ -110,7 +110,7 @@ class Machine:
         return settled
 
     def answered(self, question: Question) -> object:
-        """Returns the answer, none where nothing is found, or what says that there is none."""
+        """Returns the answer, none if nothing is found, or what says that there is none."""
         try:
             if question.section == "binaries":
                 return self.program(question, question.key or "")
@@ -180,7 +180,7 @@ class Machine:
         return Flags((*before, *question.texts("args")), compile_args, link_args)
 
     def words_of(self, name: str) -> dict[str, list[str]]:
-        """Returns what a dependency gives to the compiler and the linker; nothing where it isn't found, or is one that the project
+        """Returns what a dependency gives to the compiler and the linker; nothing if it isn't found, or is one that the project
         declares."""
         is_library = self.answers.get(("checks", f"find_library {name}")) is True
         found = self.answers.get((f"dependency {name}", None))

@@ -39,7 +39,7 @@ PROGRAM = os.environ.pop("HAWKOTTOMAN_PROGRAM", "")
 
 def arguments() -> Given:
     parser = Parser("meson configure", __doc__ or "", BAD_WORDS)
-    parser.add_argument("folder", metavar="BUILDDIR", nargs="?", default=".", help="the folder of the build (default: the present one)")
+    parser.add_argument("folder", metavar="BUILDDIR", nargs="?", default=".", help="the build directory (default: the present one)")
     parser.add_argument("-D", dest="words", metavar="NAME=VALUE", action="append", default=[], help="give an option this value")
     parser.add_argument("--native-file", metavar="FILE", help="a machine file of your own")
     for name in OPTIONS:

@@ -18,7 +18,7 @@ OF_PACKAGERS = (*OTHER_FOLDERS, "wrap_mode", "b_", "unity", "strip", "cpp_", "pk
 
 
 def brief(program: str, words: list[str]) -> list[str]:
-    """Returns the line that says what the fault of a run is about; none where nothing is to be said."""
+    """Returns the line that says what the fault of a run is about; none if nothing is to be said."""
     try:
         asked = Asked(program, os.getcwd(), words, machine_of(words))
         outcome = in_place(asked)

@@ -110,7 +110,7 @@ class Probe:
         return value_in(printed) if printed is not None else None
 
     def told(self, nodes: list[tuple[tree.Statement, tree.Node]]) -> list[tuple[tree.Node, str]]:
-        """Returns the texts that nodes of statements of this file were, each time before the statement; none where that isn't known."""
+        """Returns the texts that nodes of statements of this file were, each time before the statement; none if that isn't known."""
         asks = ("foreach {0}_it : [] + ({1})\n{0}_all += 1\n"
                 "meson.get_compiler('c').sizeof('{2} @0@ {3} @1@'.format({0}_all, {0}_it))\nendforeach\n")
         edits = [(statement.start, statement.start, asks.format(COUNT, self.place.source(node), MARK, number))

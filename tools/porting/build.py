@@ -106,7 +106,7 @@ class Trial:
         return [it for it in words[:at] + words[at + 2:] if it not in edge.inputs and it not in self.archives]
 
     def carry_out(self, edges: list[Edge]) -> str:
-        """Compiles side by side, then archives and links one by one: the first step that fails, and why; empty where none does."""
+        """Compiles side by side, then archives and links one by one: the first step that fails, and why; empty if none does."""
         side_by_side(self.step, [it for it in edges if it.rule == "c_compile"], None, end_all)
         for edge in edges:
             if edge.rule != "c_compile":

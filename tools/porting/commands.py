@@ -244,7 +244,7 @@ def asked_files(project: Project) -> Iterator[Change]:
 
 
 def texts_of_rounds(project: Project, site: Site) -> list[str]:
-    """Returns the paths of which a call is given one in each round of a loop; none where not all are known."""
+    """Returns the paths of which a call is given one in each round of a loop; none if not all are known."""
     texts = choices_of(project.known.value(site.call.arguments[0])) if site.call.arguments else ()
     return [str(it) for it in texts] if all(isinstance(it, str) for it in texts) else []
 
@@ -374,7 +374,7 @@ def variable_below(project: Project, site: Site, package: str, name: str) -> Cha
 
 
 def definitions_at(project: Project, site: Site) -> list[tuple[str, tree.Node]]:
-    """Returns the variables to which a call gives values, and these; none where a name is not known."""
+    """Returns the variables to which a call gives values, and these; none if a name is not known."""
     word = definition_of(site)
     node = tree.plain(word) if word else None
     items = node.items if isinstance(node, tree.List) else []

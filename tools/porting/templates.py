@@ -79,7 +79,7 @@ def shown_truth(owner: Site, node: tree.Node) -> str:
 
 
 def texts_of_templates(project: Project, site: Site, node: tree.Node) -> list[str]:
-    """Returns the texts of the templates that a call may be given; none where one can't be read."""
+    """Returns the texts of the templates that a call may be given; none if one can't be read."""
     texts = []
     for path in source_paths(project, site, node):
         try:
