@@ -72,18 +72,26 @@ def all_misfits() -> list[str]:
 
 
 def scripts() -> list[str]:
-    """Returns the paths of the Python scripts, below the checkout."""
-    paths = [it for where in ("tools/**", "tests/**", "bench/*", "python/*") for it in glob.glob(where, root_dir=CHECKOUT, recursive=True)]
-    return sorted(it for it in paths if os.path.isfile(os.path.join(CHECKOUT, it)) and is_python(it))
+    """Returns the paths of the scripts in Python and in the language of the shell, below the checkout."""
+    places = ("meson", "test", "tools/**", "tests/**", "bench/*", "python/*")
+    paths = [it for where in places for it in glob.glob(where, root_dir=CHECKOUT, recursive=True)]
+    return sorted(it for it in paths if os.path.isfile(os.path.join(CHECKOUT, it)) and is_script(it))
 
 
-def is_python(path: str) -> bool:
+def is_script(path: str) -> bool:
     with open(os.path.join(CHECKOUT, path), "rb") as it:
-        return path.endswith(".py") or re.match(rb"#!.*python", it.readline()) is not None
+        return path.endswith(".py") or re.match(rb"#!.*(python|sh\b)", it.readline()) is not None
+
+
+def is_of_shell(text: str) -> bool:
+    return re.match(r"#!.*sh\b", text) is not None
 
 
 def remarks(text: str) -> Iterator[str]:
     """Yields the comments and the documentation of a script, each line of a comment by itself."""
+    if is_of_shell(text):
+        yield from re.findall(r"^ *(#.*)", text, re.M)
+        return
     for node in ast.walk(ast.parse(text)):
         if isinstance(node, (ast.Module, ast.ClassDef, ast.FunctionDef)):
             yield inspect.cleandoc(ast.get_docstring(node) or "")
@@ -91,7 +99,7 @@ def remarks(text: str) -> Iterator[str]:
 
 
 def verbless(text: str) -> list[str]:
-    """Returns the names of the functions of a script whose documentation does not begin with a verb."""
+    """Returns the names of the functions of a Python script whose documentation does not begin with a verb."""
     functions = [it for it in ast.walk(ast.parse(text)) if isinstance(it, ast.FunctionDef) and ast.get_docstring(it)]
     others = [it for it in functions if not it.name.startswith("test_") and not (it.returns and ast.unparse(it.returns) == RULE)]
     return [it.name for it in others if not VERB.match(ast.get_docstring(it) or "")]
@@ -99,7 +107,7 @@ def verbless(text: str) -> list[str]:
 
 def misfits_of_script(name: str, text: str) -> list[str]:
     """Returns what is wrong with the comments of a script."""
-    found = [f"no verb first: {it}" for it in verbless(text)]
+    found = [] if is_of_shell(text) else [f"no verb first: {it}" for it in verbless(text)]
     for remark in remarks(text):
         words = [word for word, count in house_words(remark, {**HOUSE, **NEVER}).items() if count]
         found += [f"{' and '.join(words)}: {' '.join(remark.split())}"] if words else []
@@ -133,6 +141,8 @@ def test_finding_in_scripts() -> None:
     wanted = ["no verb first: a", "behind: A path behind `it`.", "is asked: A file that is asked for.", "stand: # stands here"]
     found = misfits_of_script("a.py", code)
     check("comments: what is wrong in a script is found", found == [f"a.py: {it}" for it in wanted], found)
+    found = misfits_of_script("b", "#!/bin/sh\n# Is `told`.\nf() {\n    # It stands here.\n    echo behind\n}\n")
+    check("comments: what is wrong in a script of the shell is found", found == ["b: stand: # It stands here."], found)
 
 
 def test_comments_of_scripts() -> None:
