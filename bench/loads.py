@@ -49,14 +49,14 @@ def template(folder: str, size: int) -> int:
 
 
 def configured(folder: str, size: int) -> int:
-    """Returns a project whose `configure_file` writes that template, each of its names from a dictionary."""
+    """Writes a project whose `configure_file` writes that template, each of its names from a dictionary."""
     entries = ", ".join(f"'{name}': '{value}'" for name, value in NAMES.items())
     write(folder, "meson.build", f"project('p','c')\nconfigure_file(input: 't.in', output: 't.out', configuration: {{{entries}}})\n")
     return template(folder, size)
 
 
 def headers(folder: str, count: int) -> int:
-    """Returns a project with so many headers by `configure_file`, each of a template of 20 lines; its option `value` is in all of them."""
+    """Writes a project with so many headers by `configure_file`, each of a template of 20 lines; its option `value` is in all of them."""
     write(folder, "meson.options", "option('value', type: 'string')\n")
     write(folder, "h.in", "".join(f'#define SETTING_{i} "@value@"\n' for i in range(20)))
     lines = ["project('p','c')", "c = configuration_data({'value': get_option('value')})", f"foreach i : range({count})"]
@@ -69,7 +69,7 @@ def headers(folder: str, count: int) -> int:
 
 
 def assignments(folder: str, count: int) -> int:
-    """Returns the smallest project, with so many assignments between its two calls."""
+    """Writes the smallest project, with so many assignments between its two calls."""
     write(folder, "main.c", "int main(void) { return 0; }\n")
     write(folder, "meson.build", f"project('p','c')\n{assigned(count)}executable('prog','main.c')\n")
     return count
@@ -151,7 +151,7 @@ growing_table = growing("{}", "{'k' + i.to_string(): i}")
 
 
 def bare_names(folder: str, size: int) -> int:
-    """Returns about so many bytes of a variable's name, alone on each line."""
+    """Writes about so many bytes of a variable's name, alone on each line."""
     begin = "project('p','c')\na = 1\n"
     return write(folder, "meson.build", begin + "a\n" * ((size - len(begin)) // 2))
 
@@ -192,13 +192,13 @@ def sources_and_programs(folder: str, count: int, keywords: str = "") -> str:
 
 
 def programs(folder: str, count: int) -> int:
-    """Returns so many sources, ten for each program."""
+    """Writes so many sources, ten for each program."""
     write(folder, "meson.build", "project('p','c')\n" + sources_and_programs(folder, count))
     return count
 
 
 def programs_in_folders(folder: str, count: int, begin: str = "", keywords: str = "") -> int:
-    """Returns so many sources, ten for each program and twenty programs in each folder; with something at the beginning, and keywords
+    """Writes so many sources, ten for each program and twenty programs in each folder; with something at the beginning, and keywords
     for each."""
     numbers = range(count // SOURCES_A_FOLDER)
     write(folder, "meson.build", f"project('p','c')\n{begin}" + "".join(f"subdir('d{i}')\n" for i in numbers))
@@ -216,7 +216,7 @@ def programs_with_arguments(folder: str, count: int) -> int:
 
 
 def one_program(folder: str, count: int) -> int:
-    """Returns one program of so many sources."""
+    """Writes one program of so many sources."""
     for i in range(count):
         write(folder, f"s{i}.c", "")
     write(folder, "meson.build", "project('p','c')\nexecutable('p',\n" + "".join(f"  's{i}.c',\n" for i in range(count)) + ")\n")
@@ -224,7 +224,7 @@ def one_program(folder: str, count: int) -> int:
 
 
 def chain(folder: str, count: int) -> int:
-    """Returns so many static libraries, each over the one before, and a program over the last."""
+    """Writes so many static libraries, each over the one before, and a program over the last."""
     write(folder, "x.c", "")
     lines = "".join(f"l = static_library('l{i}', 'x.c', link_with: l)\n" for i in range(count))
     write(folder, "meson.build", f"project('p','c')\nl = []\n{lines}executable('p', 'x.c', link_with: l)\n")
@@ -232,7 +232,7 @@ def chain(folder: str, count: int) -> int:
 
 
 def ladder(folder: str, count: int) -> int:
-    """Returns so many static libraries, each over the two before, and a program over the last two."""
+    """Writes so many static libraries, each over the two before, and a program over the last two."""
     write(folder, "x.c", "")
     step = "a = b\nb = c\n"
     lines = "".join(f"c = static_library('l{i}', 'x.c', link_with: [a, b])\n{step}" for i in range(count))
@@ -241,7 +241,7 @@ def ladder(folder: str, count: int) -> int:
 
 
 def custom_targets(folder: str, count: int) -> int:
-    """Returns so many custom targets, each with an input of its own, and with the output of the one before in its command."""
+    """Writes so many custom targets, each with an input of its own, and with the output of the one before in its command."""
     line = "g = custom_target('g{0}', input: 'g{0}.in', output: 'g{0}.out', command: ['gen', '@INPUT@', '@OUTPUT@', g])\n"
     for i in range(count):
         write(folder, f"g{i}.in", "")
@@ -250,7 +250,7 @@ def custom_targets(folder: str, count: int) -> int:
 
 
 def one_input(folder: str, count: int) -> int:
-    """Returns so many custom targets of one file of the tree, but each tenth of the one before."""
+    """Writes so many custom targets of one file of the tree, but each tenth of the one before."""
     words = "command: ['cp', '@INPUT@', '@OUTPUT@'], build_by_default: true"
     line = f"c{{0}} = custom_target('c{{0}}', input: {{1}}, output: 'out{{0}}.txt', {words})\n"
     write(folder, "in.txt", "")
@@ -298,28 +298,28 @@ def hostile_names(folder: str, kind: str) -> int:
 
 
 def hostile_dictionary(folder: str, kind: str) -> int:
-    """Returns a dictionary with so many keys."""
+    """Writes a dictionary with so many keys."""
     entries = ", ".join(f"'{key}': 1" for key in keys(kind, HOSTILE_KEYS))
     write(folder, "meson.build", f"project('p','c')\nd = {{{entries}}}\n")
     return HOSTILE_KEYS
 
 
 def hostile_options(folder: str, kind: str) -> int:
-    """Returns an option file with so many options."""
+    """Writes an option file with so many options."""
     write(folder, "meson.options", "".join(f"option('{key}', type: 'boolean')\n" for key in keys(kind, HOSTILE_KEYS)))
     write(folder, "meson.build", "project('p','c')\n")
     return HOSTILE_KEYS
 
 
 def hostile_outputs(folder: str, kind: str) -> int:
-    """Returns a custom target with so many outputs."""
+    """Writes a custom target with so many outputs."""
     names = ", ".join(f"'{name}'" for name in keys(kind, HOSTILE_KEYS))
     write(folder, "meson.build", f"project('p','c')\ncustom_target('t', output: [{names}], command: ['gen'])\n")
     return HOSTILE_KEYS
 
 
 def hostile_paths(folder: str, kind: str) -> int:
-    """Returns so many files of the tree that are looked at."""
+    """Writes so many files of the tree that are looked at."""
     for name in keys(kind, HOSTILE_KEYS):
         write(folder, name, "")
     names = ", ".join(f"'{name}'" for name in keys(kind, HOSTILE_KEYS))
@@ -328,7 +328,7 @@ def hostile_paths(folder: str, kind: str) -> int:
 
 
 def hostile_sections(folder: str, kind: str) -> int:
-    """Returns a machine file with so many values in a section that names what programs are called."""
+    """Writes a machine file with so many values in a section that names what programs are called."""
     lines = "".join(f"{name} = 'x'\n" for name in keys(kind, HOSTILE_KEYS))
     write(folder, "machine.ini", f"[binaries]\n{lines}")
     write(folder, "meson.build", "project('p','c')\n")

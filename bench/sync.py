@@ -40,7 +40,7 @@ BEFORE = {"into an empty folder": None, "over outputs of other bytes": "old", "o
 
 
 def setup(program: str, folder: str, value: str, env: dict) -> float:
-    """Returns the seconds of a run whose headers have this value."""
+    """Runs a setup whose headers have this value, and returns its seconds."""
     words = [program, "setup", f"-Dvalue={value}", "build"]
     start = time.perf_counter()
     done = subprocess.run(words, cwd=folder, env={**os.environ, **env}, capture_output=True, text=True)

@@ -159,7 +159,7 @@ def test_headers_of_the_project() -> None:
 
 
 def begun() -> tuple[subprocess.Popen[str], list[int]]:
-    """Returns a machine-file whose compiler hangs, and the compiler's number."""
+    """Starts a machine-file whose compiler hangs. Returns it, and the compiler's number."""
     fresh("s", "scratch")
     # It can write nowhere but in the folder of its check.
     hangs = put("hangs", "#!/bin/sh\ncase $* in *-Wslow*) echo $$ >$TMPDIR/pid; exec sleep 300 ;; esac\nexec cc \"$@\"\n", 0o755)

@@ -210,7 +210,7 @@ def parts_below(thing: Thing) -> tuple[list[Item], list[Item], list[Item]]:
 
 
 def is_nothing(value: object) -> bool:
-    """Returns an empty list, or a dependency that is never found."""
+    """Returns whether a value is an empty list, or a dependency that is never found."""
     return (isinstance(value, Many) and value.is_whole and not value.items) or (
         isinstance(value, Thing) and value.kind == "dependency" and value.name == "")
 
