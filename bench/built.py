@@ -10,7 +10,7 @@ HERE = os.path.dirname(os.path.realpath(__file__))
 
 @functools.cache
 def folder_of_programs() -> str:
-    """The folder, which goes when the run ends."""
+    """Returns the folder, which goes when the run ends."""
     folder = tempfile.TemporaryDirectory()
     atexit.register(folder.cleanup)
     return folder.name
@@ -18,7 +18,7 @@ def folder_of_programs() -> str:
 
 @functools.cache
 def built(name: str) -> str:
-    """The path of the program whose source is NAME.c."""
+    """Returns the path of the program whose source is NAME.c."""
     program = os.path.join(folder_of_programs(), name)
     compiler = os.environ.get("CC", "cc")
     subprocess.run([compiler, "-std=c11", "-O2", "-o", program, os.path.join(HERE, f"{name}.c")], check=True)

@@ -50,7 +50,7 @@ def milliseconds(words: list[str], folder: str) -> float:
 
 
 def least(commands: dict[str, list[str]], folder: str, rounds: int) -> dict[str, float]:
-    """The least time of each command, in turn; another program that fails has none."""
+    """Returns the least time of each command, in turn; another program that fails has none."""
     found, left_out = {}, set()
     for _ in range(rounds):
         for name, words in commands.items():
@@ -64,7 +64,7 @@ def least(commands: dict[str, list[str]], folder: str, rounds: int) -> dict[str,
 
 
 def copied(program: str, copy: str) -> str:
-    """A checkout with the sources of this one, for which this program counts as built; its command."""
+    """Returns a checkout with the sources of this one, for which this program counts as built; its command."""
     left_out = shutil.ignore_patterns("__pycache__", "out", "wrong", "must-fail")
     for name in ("tools", "docs", "packaging", "crates"):
         shutil.copytree(os.path.join(CHECKOUT, name), os.path.join(copy, name), ignore=left_out)
@@ -78,13 +78,13 @@ def copied(program: str, copy: str) -> str:
 
 
 def installed(checkout: str, prefix: str) -> str:
-    """The command of a checkout, installed below a folder."""
+    """Returns the command of a checkout, installed below a folder."""
     subprocess.run([checkout, "self-install", prefix], check=True, stdout=subprocess.DEVNULL)
     return os.path.join(prefix, "bin", "hawkottoman-meson")
 
 
 def commands_of(row: Row, program: str, command: str, checkout: str) -> dict[str, list[str]]:
-    """The commands of a row by their names: ours, what it waits for, and those of others."""
+    """Returns the commands of a row by their names: ours, what it waits for, and those of others."""
     ours = [checkout, *row.words[1:]] if row.words[0] == "checkout" else [command, *row.words]
     waits = {f"waits {number}": [program if it[0] == "program" else it[0], *it[1:]] for number, it in enumerate(row.waits_for)}
     beside = {name: [path, *OF_OTHERS[name][row.name]] for name, path in others().items() if row.name in OF_OTHERS[name]}

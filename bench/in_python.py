@@ -23,12 +23,12 @@ OPERATIONS = """\
 
 
 def looped(count: int, body: str) -> str:
-    """So many rounds, in as many loops as the project has."""
+    """Returns so many rounds, in as many loops as the project has."""
     return "".join(f"for i in range({walked}):\n{body}" for walked in loads.walks(count))
 
 
 def beside(make: loads.Maker, statements: collections.abc.Callable[[int], str]) -> loads.Maker:
-    """A generator of the project and of its statements in Python."""
+    """Returns a generator of the project and of its statements in Python."""
 
     def both(folder: str, count: int) -> int:
         loads.write(folder, SCRIPT, statements(count))

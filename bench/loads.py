@@ -21,7 +21,7 @@ def write(folder: str, path: str, text: str) -> int:
 
 
 def repeated(text: str) -> Maker:
-    """A generator of definition files with this text again and again."""
+    """Returns a generator of definition files with this text again and again."""
     return lambda folder, size: write(folder, "source.build", text * (size // len(text)))
 
 
@@ -49,14 +49,14 @@ def template(folder: str, size: int) -> int:
 
 
 def configured(folder: str, size: int) -> int:
-    """A project whose `configure_file` writes that template, each of its names from a dictionary."""
+    """Writes a project whose `configure_file` writes that template, each of its names from a dictionary."""
     entries = ", ".join(f"'{name}': '{value}'" for name, value in NAMES.items())
     write(folder, "meson.build", f"project('p','c')\nconfigure_file(input: 't.in', output: 't.out', configuration: {{{entries}}})\n")
     return template(folder, size)
 
 
 def headers(folder: str, count: int) -> int:
-    """A project with so many headers by `configure_file`, each of a template of 20 lines; its option `value` is in all of them."""
+    """Writes a project with so many headers by `configure_file`, each of a template of 20 lines; its option `value` is in all of them."""
     write(folder, "meson.options", "option('value', type: 'string')\n")
     write(folder, "h.in", "".join(f'#define SETTING_{i} "@value@"\n' for i in range(20)))
     lines = ["project('p','c')", "c = configuration_data({'value': get_option('value')})", f"foreach i : range({count})"]
@@ -69,7 +69,7 @@ def headers(folder: str, count: int) -> int:
 
 
 def assignments(folder: str, count: int) -> int:
-    """The smallest project, with so many assignments between its two calls."""
+    """Writes the smallest project, with so many assignments between its two calls."""
     write(folder, "main.c", "int main(void) { return 0; }\n")
     write(folder, "meson.build", f"project('p','c')\n{assigned(count)}executable('prog','main.c')\n")
     return count
@@ -84,7 +84,7 @@ MOST_WALKED = 60_000
 
 
 def walks(count: int) -> list[int]:
-    """How many each of the loops walks that together have so many rounds."""
+    """Returns how many each of the loops walks that together have so many rounds."""
     times, left = divmod(count, MOST_WALKED)
     return [MOST_WALKED] * times + [left] * (left > 0)
 
@@ -134,7 +134,7 @@ def additions(folder: str, count: int) -> int:
 
 
 def growing(begin: str, step: str) -> Maker:
-    """A generator of loops that put something more to a value in each round."""
+    """Returns a generator of loops that put something more to a value in each round."""
 
     def make(folder: str, count: int) -> int:
         body = f"  x += {step}\n"
@@ -151,13 +151,14 @@ growing_table = growing("{}", "{'k' + i.to_string(): i}")
 
 
 def bare_names(folder: str, size: int) -> int:
-    """About so many bytes of a variable's name, alone on each line."""
+    """Writes about so many bytes of a variable's name, alone on each line."""
     begin = "project('p','c')\na = 1\n"
     return write(folder, "meson.build", begin + "a\n" * ((size - len(begin)) // 2))
 
 
 def entered(statements: str, *sources: str) -> Maker:
-    """A generator of so many folders, each entered once, with these statements, in which {0} is its number; the root is one of them."""
+    """Returns a generator of so many folders, each entered once, with these statements, in which {0} is its number; the root is one of
+    them."""
 
     def make(folder: str, count: int) -> int:
         write(folder, "meson.build", "project('p','c')\n" + "".join(f"subdir('d{i}')\n" for i in range(count - 1)))
@@ -181,7 +182,8 @@ SOURCES_A_FOLDER = 200
 
 
 def sources_and_programs(folder: str, count: int, keywords: str = "") -> str:
-    """So many sources, and the lines of their programs, ten sources for each, with these keywords, in which {0} is a program's number."""
+    """Returns so many sources, and the lines of their programs, ten sources for each, with these keywords, in which {0} is a program's
+    number."""
     for i in range(count):
         write(folder, f"s{i}.c", "")
     named = [f"'s{i}.c'" for i in range(count)]
@@ -190,13 +192,14 @@ def sources_and_programs(folder: str, count: int, keywords: str = "") -> str:
 
 
 def programs(folder: str, count: int) -> int:
-    """So many sources, ten for each program."""
+    """Writes so many sources, ten for each program."""
     write(folder, "meson.build", "project('p','c')\n" + sources_and_programs(folder, count))
     return count
 
 
 def programs_in_folders(folder: str, count: int, begin: str = "", keywords: str = "") -> int:
-    """So many sources, ten for each program and twenty programs in each folder; with something at the beginning, and keywords for each."""
+    """Writes so many sources, ten for each program and twenty programs in each folder; with something at the beginning, and keywords
+    for each."""
     numbers = range(count // SOURCES_A_FOLDER)
     write(folder, "meson.build", f"project('p','c')\n{begin}" + "".join(f"subdir('d{i}')\n" for i in numbers))
     for i in numbers:
@@ -206,14 +209,14 @@ def programs_in_folders(folder: str, count: int, begin: str = "", keywords: str 
 
 
 def programs_with_arguments(folder: str, count: int) -> int:
-    """The same, with a folder of headers and two arguments of the compiler for each program."""
+    """Writes the same, with a folder of headers and two arguments of the compiler for each program."""
     os.mkdir(os.path.join(folder, "include"))
     begin = "headers = include_directories('include')\n"
     return programs_in_folders(folder, count, begin, """, include_directories: headers, c_args: ['-DNUMBER={0}', '-DNAME="x"']""")
 
 
 def one_program(folder: str, count: int) -> int:
-    """One program of so many sources."""
+    """Writes one program of so many sources."""
     for i in range(count):
         write(folder, f"s{i}.c", "")
     write(folder, "meson.build", "project('p','c')\nexecutable('p',\n" + "".join(f"  's{i}.c',\n" for i in range(count)) + ")\n")
@@ -221,7 +224,7 @@ def one_program(folder: str, count: int) -> int:
 
 
 def chain(folder: str, count: int) -> int:
-    """So many static libraries, each over the one before, and a program over the last."""
+    """Writes so many static libraries, each over the one before, and a program over the last."""
     write(folder, "x.c", "")
     lines = "".join(f"l = static_library('l{i}', 'x.c', link_with: l)\n" for i in range(count))
     write(folder, "meson.build", f"project('p','c')\nl = []\n{lines}executable('p', 'x.c', link_with: l)\n")
@@ -229,7 +232,7 @@ def chain(folder: str, count: int) -> int:
 
 
 def ladder(folder: str, count: int) -> int:
-    """So many static libraries, each over the two before, and a program over the last two."""
+    """Writes so many static libraries, each over the two before, and a program over the last two."""
     write(folder, "x.c", "")
     step = "a = b\nb = c\n"
     lines = "".join(f"c = static_library('l{i}', 'x.c', link_with: [a, b])\n{step}" for i in range(count))
@@ -238,7 +241,7 @@ def ladder(folder: str, count: int) -> int:
 
 
 def custom_targets(folder: str, count: int) -> int:
-    """So many custom targets, each with an input of its own, and with the output of the one before in its command."""
+    """Writes so many custom targets, each with an input of its own, and with the output of the one before in its command."""
     line = "g = custom_target('g{0}', input: 'g{0}.in', output: 'g{0}.out', command: ['gen', '@INPUT@', '@OUTPUT@', g])\n"
     for i in range(count):
         write(folder, f"g{i}.in", "")
@@ -247,7 +250,7 @@ def custom_targets(folder: str, count: int) -> int:
 
 
 def one_input(folder: str, count: int) -> int:
-    """So many custom targets of one file of the tree, but each tenth of the one before."""
+    """Writes so many custom targets of one file of the tree, but each tenth of the one before."""
     words = "command: ['cp', '@INPUT@', '@OUTPUT@'], build_by_default: true"
     line = f"c{{0}} = custom_target('c{{0}}', input: {{1}}, output: 'out{{0}}.txt', {words})\n"
     write(folder, "in.txt", "")
@@ -279,7 +282,7 @@ def colliding_prefix() -> str:
 
 
 def keys(kind: str, count: int) -> list[str]:
-    """So many names of 32 characters, of the kind 'plain' or 'colliding'."""
+    """Returns so many names of 32 characters, of the kind 'plain' or 'colliding'."""
     prefix = colliding_prefix() if kind == "colliding" else "prefix_of_a_plain_name__"
     return [f"{prefix}{i:08}" for i in range(count)]
 
@@ -295,28 +298,28 @@ def hostile_names(folder: str, kind: str) -> int:
 
 
 def hostile_dictionary(folder: str, kind: str) -> int:
-    """A dictionary with so many keys."""
+    """Writes a dictionary with so many keys."""
     entries = ", ".join(f"'{key}': 1" for key in keys(kind, HOSTILE_KEYS))
     write(folder, "meson.build", f"project('p','c')\nd = {{{entries}}}\n")
     return HOSTILE_KEYS
 
 
 def hostile_options(folder: str, kind: str) -> int:
-    """An option file with so many options."""
+    """Writes an option file with so many options."""
     write(folder, "meson.options", "".join(f"option('{key}', type: 'boolean')\n" for key in keys(kind, HOSTILE_KEYS)))
     write(folder, "meson.build", "project('p','c')\n")
     return HOSTILE_KEYS
 
 
 def hostile_outputs(folder: str, kind: str) -> int:
-    """A custom target with so many outputs."""
+    """Writes a custom target with so many outputs."""
     names = ", ".join(f"'{name}'" for name in keys(kind, HOSTILE_KEYS))
     write(folder, "meson.build", f"project('p','c')\ncustom_target('t', output: [{names}], command: ['gen'])\n")
     return HOSTILE_KEYS
 
 
 def hostile_paths(folder: str, kind: str) -> int:
-    """So many files of the tree that are looked at."""
+    """Writes so many files of the tree that are looked at."""
     for name in keys(kind, HOSTILE_KEYS):
         write(folder, name, "")
     names = ", ".join(f"'{name}'" for name in keys(kind, HOSTILE_KEYS))
@@ -325,7 +328,7 @@ def hostile_paths(folder: str, kind: str) -> int:
 
 
 def hostile_sections(folder: str, kind: str) -> int:
-    """A machine file with so many values in a section that names what programs are called."""
+    """Writes a machine file with so many values in a section that names what programs are called."""
     lines = "".join(f"{name} = 'x'\n" for name in keys(kind, HOSTILE_KEYS))
     write(folder, "machine.ini", f"[binaries]\n{lines}")
     write(folder, "meson.build", "project('p','c')\n")

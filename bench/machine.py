@@ -8,7 +8,7 @@
     bench/machine.py --rounds N ..      with N runs of each, of which the least is shown
 
 The command is installed into a temporary folder first, since its modules are compiled there. Each round makes a run of each, one after the
-other, in new build folders. `cold` is with an empty cache of answers, `warm` with that of the run before, and `alone` with each check
+other, in new build directories. `cold` is with an empty cache of answers, `warm` with that of the run before, and `alone` with each check
 compiled by itself and no cache. `program` is `setup` of the program alone. `meson` and `muon` are those of PATH, if they are installed and
 accept the project. Times are by the clock, in seconds; with --processor they are the processor's, which other work on the machine changes
 less.
@@ -43,7 +43,7 @@ class Measured:
         self.least: dict[str, float] = {}
 
     def run(self, words: list[str], folder: str, output: str | None = None) -> list[Ran]:
-        """Runs a command; none where it fails."""
+        """Runs a command; none if it fails."""
         try:
             return [ran(words, folder, output=output)]
         except RuntimeError:
@@ -59,7 +59,7 @@ class Measured:
         self.take("port", self.run([self.command, "port", "--run", "--no-build", "--no-real", self.ported], self.ported))
 
     def made(self, command: str) -> list[Ran]:
-        """`setup` into an empty folder, with the machine file that was asked last."""
+        """Runs `setup` in an empty folder, with the machine file of the last run of `machine-file`."""
         shutil.rmtree(os.path.join(self.ported, BUILD), ignore_errors=True)
         return self.run([command, "setup", "--native-file", MACHINE, BUILD], self.ported)
 

@@ -7,7 +7,7 @@ DEFINITIONS = ("meson.build", *OPTION_FILES)
 
 
 def of_sources(folder: str, build: str) -> list[str]:
-    """The lines for the sources in this folder, all of which its definition files name, except what is in its folder `build`."""
+    """Returns the lines for the sources in this folder, all of which its definition files name, except what is in its folder `build`."""
     lines = [f"look {name}" for name in OPTION_FILES if not os.path.exists(os.path.join(folder, name))]
     for top, folders, names in os.walk(folder):
         if top == folder:
@@ -19,7 +19,7 @@ def of_sources(folder: str, build: str) -> list[str]:
 
 
 def of_outputs(build: str, beside: str) -> list[str]:
-    """The lines for as many bytes as are in the files below `build`, to be written below the folder `beside`."""
+    """Returns the lines that write as many bytes as the files below `build` have, into the folder `beside`."""
     lines = []
     for top, _, names in os.walk(build):
         into = os.path.normpath(os.path.join(beside, os.path.relpath(top, build)))
@@ -29,5 +29,5 @@ def of_outputs(build: str, beside: str) -> list[str]:
 
 
 def needed_calls(folder: str, build: str, beside: str) -> str:
-    """The list for a project in this folder, whose outputs are in its folder `build`; those of the limit go into `beside`."""
+    """Returns the list for a project in this folder, whose outputs are in its folder `build`. The limit writes its own into `beside`."""
     return "".join(f"{line}\n" for line in of_sources(folder, build) + of_outputs(os.path.join(folder, build), beside))

@@ -90,7 +90,7 @@ def replace_names(load: Load, size: typing.Any) -> list[str]:
 
 
 def replace_names_otherwise(load: Load, size: typing.Any) -> dict[str, list[str]]:
-    """The same by `sed` and by Python."""
+    """Returns the commands that do the same by `sed` and by Python."""
     sed = ";".join(f"s/@{name}@/{value}/g" for name, value in loads.NAMES.items())
     python = (
         "import re; names = %r; text = open('t.in').read(); "
@@ -109,12 +109,12 @@ def setup_otherwise(load: Load, size: typing.Any) -> dict[str, list[str]]:
 
 
 def setup_for_120_seconds(load: Load, size: typing.Any) -> dict[str, list[str]]:
-    """The same, ended with status 124 after 120 seconds."""
+    """Returns the commands that do the same, but end with status 124 after 120 seconds."""
     return {name: ["timeout", "120", *command] for name, command in setup_otherwise(load, size).items()}
 
 
 def setup_sources_otherwise(load: Load, size: typing.Any) -> dict[str, list[str]]:
-    """The same without chains of libraries: thousands of these take the other programs too long to wait for."""
+    """Returns the same without chains of libraries: thousands of these take the other programs too long to wait for."""
     return {} if load.name in ("chain", "ladder") else setup_otherwise(load, size)
 
 
@@ -124,14 +124,14 @@ BESIDE_PYTHON = ("python", 1.0)
 
 
 def what_limits(load: Load, size: typing.Any) -> dict[str, list[str]]:
-    """The limit of a project, or Python on the same statements."""
+    """Returns the limit of a project, or Python on the same statements."""
     if load.over == BESIDE_LIMIT:
         return {"limit": [built("limit"), LIMIT_CALLS]}
     return {"python": [sys.executable, "-I", "-S", in_python.SCRIPT]} if load.over == BESIDE_PYTHON else {}
 
 
 def limited(name: str, size: int, make: loads.Maker, peak: float | None = None) -> Load:
-    """A project that is compared with the limit. A run before the measured ones shows its outputs."""
+    """Returns a load that is compared with the limit. A run before the measured ones shows its outputs."""
 
     def make_and_list(folder: str, count: int) -> int:
         items = make(folder, count)
@@ -148,7 +148,8 @@ def spoken(name: str, size: int, make: loads.Maker) -> Load:
 
 
 def tenfold(name: str, size: int, make: loads.Maker) -> Load:
-    """A load at a tenth of a size and the whole, whose time and memory may grow with an exponent of 1.1: 10^0.1 times as much for one."""
+    """Returns a load at a tenth of a size and at the whole. Time and memory may grow with an exponent of 1.1: 10^0.1 times as much for
+    one."""
     return Load(name, (size // 10, size), make, growth=10**0.1, memory_growth=10**0.1)
 
 
@@ -280,7 +281,8 @@ def shown_size(size: int | str) -> str:
 
 
 def least_runs(group: Group, commands: dict[str, list[str]], folder: str, rounds: int) -> dict[str, Ran]:
-    """The least run of each command, all of which take turns. What one of the others can't do is said once, and is no failure of ours."""
+    """Returns the least run of each command; the commands take turns. If one of the others fails, that is said once, and is no failure
+    of ours."""
     best: dict[str, Ran] = {}
     left_out: set[str] = set()
     for number in range(rounds):
@@ -303,7 +305,7 @@ def least_runs(group: Group, commands: dict[str, list[str]], folder: str, rounds
 
 
 def measured(group: Group, load: Load, size: typing.Any, rounds: int) -> tuple[int, dict[str, Ran]]:
-    """How many items a load of this size has, and the least runs of ours and of the others, by their names."""
+    """Returns how many items a load of this size has, and the least runs of ours and of the others, by their names."""
     with tempfile.TemporaryDirectory() as folder:
         count = load.make(folder, size) if load.make else size
         best = least_runs(group, {"ours": group.command(load, size), **group.beside(load, size)}, folder, rounds)

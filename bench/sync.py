@@ -32,15 +32,15 @@ from tests.harness.faults import faults_library  # noqa: E402
 CHECKOUT = os.path.dirname(os.path.dirname(os.path.realpath(__file__)))
 PROGRAM = os.path.join(CHECKOUT, "crates", "hawkottoman", "out", "hawkottoman")
 
-# How the library changes the syncs of a run, by what is shown of it.
+# How the library changes the syncs of a run, by the name of the row.
 WAYS = {"no sync": {"FAULTS_SYNC": "none"}, "as the program does": {}, "a sync of each output": {"FAULTS_SYNC": "all"}}
 
-# What the folder of the build has before the run that is measured: the value that its outputs were made with, where it has some.
+# What the build directory has before the run that is measured: the value that its outputs were made with, where it has some.
 BEFORE = {"into an empty folder": None, "over outputs of other bytes": "old", "over outputs of the same bytes": "new"}
 
 
 def setup(program: str, folder: str, value: str, env: dict) -> float:
-    """The seconds of a run whose headers have this value."""
+    """Runs a setup whose headers have this value, and returns its seconds."""
     words = [program, "setup", f"-Dvalue={value}", "build"]
     start = time.perf_counter()
     done = subprocess.run(words, cwd=folder, env={**os.environ, **env}, capture_output=True, text=True)
@@ -51,7 +51,7 @@ def setup(program: str, folder: str, value: str, env: dict) -> float:
 
 
 def measured(program: str, folder: str, before: str | None, env: dict) -> float:
-    """The seconds of a run over what a run before has left, once the disk has written that."""
+    """Returns the seconds of a run over what a run before has left, once the disk has written that."""
     shutil.rmtree(os.path.join(folder, "build"), ignore_errors=True)
     if before is not None:
         setup(program, folder, before, {})
@@ -60,7 +60,7 @@ def measured(program: str, folder: str, before: str | None, env: dict) -> float:
 
 
 def show(program: str, folder: str, library: str, rounds: int) -> None:
-    """A line for each way over each folder of a build: the ways in turn, so that other work on the machine strikes all of them."""
+    """Prints a line for each way over each build directory. The ways take turns, so that other work on the machine slows all of them."""
     for title, before in BEFORE.items():
         times: dict = {way: [] for way in WAYS}
         for _ in range(rounds):

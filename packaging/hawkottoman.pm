@@ -1,7 +1,7 @@
 # A build system of debhelper: `dh $@ --buildsystem=hawkottoman` configures, builds, tests and installs with `hawkottoman-meson`.
 #
 # What follows `dh_auto_configure --` goes to `machine-file` and to `setup`, as -Dname=value. If the package has a file debian/machine.ini,
-# that is the machine file, and the machine is not asked.
+# that is the machine file, and `machine-file` is not run.
 package Debian::Debhelper::Buildsystem::hawkottoman;
 
 use strict;

@@ -67,7 +67,7 @@ class Run:
 
     @property
     def outputs(self) -> dict[str, bytes]:
-        """The outputs that the run wrote whole, by their paths."""
+        """Returns the outputs that the run wrote whole, by their paths."""
         outputs: dict[str, bytes] = {}
         name, data = "", b""
         for event in self.events:
@@ -81,12 +81,12 @@ class Run:
 
     @property
     def log(self) -> str:
-        """The log."""
+        """Returns the log."""
         return b"".join(event.data for event in self.events if event.kind is Kind.LOG).decode(errors="replace")
 
     @property
     def fault(self) -> str:
-        """The fault's line, or an empty text."""
+        """Returns the fault's line, or an empty text."""
         return b"".join(event.data for event in self.events if event.kind is Kind.FAULT).decode(errors="replace")
 
 

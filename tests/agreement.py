@@ -7,9 +7,9 @@
     tests/agreement.py DIR.. --program PATH  another program than this checkout's
     tests/agreement.py DIR.. -DNAME=VALUE    an option, for both programs
 
-Each project is copied, and configured by the real Meson, whose log says what it has asked and found. A check that it asks with two
-answers is compared with the first. What one side asks alone is listed and is no failure. Machine files are made twice, with checks that
-are answered together and with --alone, and have to be the same. The last line is 'N passed, M failed'.
+The script copies each project and has the real Meson configure it. Its log has each check with the answer. If a check has two answers
+there, the first counts. A check that only one side makes is listed and is no failure. Machine files are made twice, with checks that run
+together and with --alone, and have to be the same. The last line is 'N passed, M failed'.
 """
 import argparse
 import os
@@ -97,7 +97,7 @@ Answers = dict[str, object]
 
 
 def real_answers(log: str) -> Answers:
-    """What a log of the real Meson says, by the keys of machine files."""
+    """Returns what a log of the real Meson says, by the keys of machine files."""
     plain = {"YES": True, "NO": False}
     found: Answers = {}
     for line in re.sub("\x1b\\[[0-9;]*m", "", log).split("\n"):
@@ -114,7 +114,7 @@ def real_answers(log: str) -> Answers:
 
 
 def our_answers(text: bytes) -> Answers:
-    """What a machine file answers, by the same keys; what it doesn't name is not found."""
+    """Returns what a machine file answers, by the same keys; what it doesn't name is not found."""
     sections = machine_lines(text)
     found: Answers = dict(sections.get("checks", {}))
     found.update({it: sections[it].get("version", "found") for it in sections if it.startswith("dependency ")})
@@ -132,7 +132,7 @@ class Comparison:
             print(f"{name}: FAILED {shown}", flush=True)
 
     def compare(self, name: str, folder: str) -> None:
-        """A project in a folder of its own."""
+        """Compares a project, in a folder of its own."""
         done = subprocess.run([self.meson, "setup", *self.words, "build-real"], cwd=folder,
                               capture_output=True, text=True, errors="replace")
         if done.returncode != 0:

@@ -1,7 +1,7 @@
-"""Whether checks that are asked together get the answers of checks that are asked alone: tests/machine_files runs these too.
+"""Tests that checks that run together get the same answers as checks that run alone. tests/machine_files runs these too.
 
-Each compiler that is installed is asked both ways: names that are there and names that aren't, mixed with what a bundle can't settle, as a
-text before the checks that leaves something open.
+Each installed compiler runs the checks both ways: of names that exist and names that don't, mixed with checks that a bundle can't settle,
+such as checks after a text with an open comment or bracket.
 """
 import os
 import shutil

@@ -1,6 +1,6 @@
-"""What was seen to harm those who use the scripts, each tried again: tests/scripts runs these too.
+"""Tries again each attack that once harmed users of the scripts. tests/scripts runs these too.
 
-What must not be touched lies in a folder `outside`, beside what a script is given.
+The files that no script may touch are in a folder `outside`, next to the folder that a script is given.
 """
 import os
 import re
@@ -16,7 +16,7 @@ ROOT = os.path.realpath(WORK)
 
 
 def files_below(folder: str) -> dict[str, bytes]:
-    """The files and links below a folder of WORK, each with its bytes or with where it leads."""
+    """Returns the files and links below a folder of WORK, each with its bytes or with where it leads."""
     found = {}
     for place, folders, names in os.walk(os.path.join(WORK, folder)):
         for path in (os.path.join(place, name) for name in folders + names):
@@ -42,13 +42,13 @@ def link(target: str, place: str) -> None:
 # install: destinations
 
 def to_install(*destinations: str) -> None:
-    """A configured folder `i` that installs a header to each of these places."""
+    """Makes a configured folder `i` that installs a header to each of these places."""
     configured("i", installed={put(f"i{n}/a.h", f"{n}\n"): place for n, place in enumerate(destinations)})
     put("i/build.ninja", "")
 
 
 def leaves(name: str, destination: str, text: str, status: int = 2) -> None:
-    """Refused at once: neither the place before nor anything outside is written, and nothing is built."""
+    """Checks that a command is refused at once: it writes neither to the place before nor to anything outside, and builds nothing."""
     to_install("/first/before.h", destination)
     before = files_below("d"), files_below("outside")
     refuses(f"{name}: is refused", over("install", "i", "--destdir", "d"), status, text,
@@ -162,7 +162,7 @@ STATUS = {"test": 126, "install": 1}
 
 
 def try_streams(script: str, words: list[str], status: int) -> None:
-    """A script over streams that can't be written."""
+    """Tries a script over streams that can't be written."""
     for given in (words, ["meson", script, "--help"]):
         name = " ".join(given[::len(given) - 1])
         with open("/dev/full", "w") as full:
@@ -294,7 +294,7 @@ def test_signals() -> None:
 
 
 def heed_hangups() -> None:
-    """Where these tests run under `nohup`, SIGHUP is ignored, and what they start would ignore it too."""
+    """Restores SIGHUP. If these tests run under `nohup`, it is ignored, and the commands that they start would ignore it too."""
     signal.signal(signal.SIGHUP, signal.SIG_DFL)
 
 
@@ -307,7 +307,7 @@ def wait_for_pids(names: list[str]) -> list[int]:
 
 
 def is_running(number: int) -> bool:
-    """Whether a process is still there after a while, and no mere entry of one that has ended."""
+    """Returns whether a process is still there after a while, and no mere entry of one that has ended."""
     for _ in range(600):
         try:
             with open(f"/proc/{number}/stat", encoding="utf-8") as it:
@@ -379,7 +379,7 @@ def test_shown_names() -> None:
 
 
 def test_own_names() -> None:
-    """What the commands keep in a build folder is no target's."""
+    """What the commands keep in a build directory is no target's."""
     target = {"build_by_default": True, "defined_in": "meson.build", "installed": False, "name": "t", "type": "custom"}
     for name in ("meson-private", "meson-info", "meson-logs", "./meson-info"):
         configured("o", targets=[{**target, "filename": [name]}], tests=[shell("t", ":")])

@@ -7,7 +7,7 @@ from tools.building.plan import Check, Plan
 
 
 def crate(name: str, *below: str, work: float = 100, size: float = 1000) -> Crate:
-    """A crate of so many seconds and MiB, over these, which are all that are below."""
+    """Returns a crate of so many seconds and MiB, over these, which are all that are below."""
     return Crate(name, list(below), set(below), "", work, size)
 
 
@@ -16,7 +16,7 @@ def plan(*crates: Crate, jobs: int = 4, size: float = 8000) -> Plan:
 
 
 def begun(made: Plan, at_work: Sequence[Check] = (), now: float = 0) -> set[str]:
-    """The crates whose checks begin now."""
+    """Returns the crates whose checks begin now."""
     return {it.crate.name for it in made.begin([*at_work], now, 1)}
 
 
@@ -31,7 +31,7 @@ def test_order() -> None:
     check("build-program: side by side", begun(one) == {"a", "b"})
     check("build-program: none before all below it", begun(one, [Check(crate("b"), 0, 100)], 90) == set())
     check("build-program: and then it", begun(one, [], 100) == {"c"})
-    # Beside b there is a processor for a, but c and e, which d waits for, then want both.
+    # While b runs there is a processor for a, but then c and e, for which d waits, need both.
     both = crate("c", "b", work=SHORT), crate("e", "b", work=SHORT)
     last = crate("d", "b", "c", "e", work=SHORT / 3), crate("f", "a", "b", "c", "d", "e", work=SHORT / 3)
     one = plan(crate("a", work=SHORT), crate("b", work=SHORT / 30), *both, *last, jobs=2)
@@ -60,7 +60,7 @@ def test_memory() -> None:
 
 
 def processors(made: Plan, at_work: Sequence[Check] = (), now: float = 0) -> dict[str, int]:
-    """The processors of the checks that begin now."""
+    """Returns the processors of the checks that begin now."""
     return {it.crate.name: it.processors for it in made.begin([*at_work], now, 1)}
 
 
@@ -89,7 +89,7 @@ def test_idle_processors() -> None:
 
 
 def minutes_of_build(jobs: int, room: float) -> float:
-    """How long the whole build takes by the plan, if each check takes what the model says."""
+    """Returns how long the whole build takes by the plan, if each check takes what the model says."""
     made, at_work, now = Plan(longest_way_first(crates_of()), jobs, room), [], 0.0
     while begun := [*at_work, *made.begin(at_work, now, 1)]:
         ended = min(begun, key=lambda it: it.end)

@@ -18,8 +18,8 @@ from tools.setup_arguments import build_folder_of
 
 COPY = os.path.join(WORK, "checkout")
 MESON = os.path.join(COPY, "meson")
-# It shows its words, is another command where a file `instead` says so, and writes what stands in `template`. Its questions stand in
-# `questions`, and what it tells of a fault in `told`.
+# It prints its arguments, runs the file `instead` if there is one, and writes the text of `template`. The file `questions` has its
+# questions, and the file `told` what it prints of a fault.
 PROGRAM = f"""#!/bin/sh
 if test "$1" = questions; then . {WORK}/questions; exit; fi
 if test "$1" = fault && test -f {WORK}/told; then . {WORK}/told; exit; fi
@@ -31,7 +31,7 @@ case $* in
 setup*) echo "$PWD" "$@" >>{WORK}/configured; mkdir -p "$last" && cp -r {WORK}/template/. "$last" ;;
 esac
 """
-# Of a project that asks nothing: the options in use, where these are asked for.
+# Of a project without questions: prints the options in use if a run queries them.
 NOTHING_ASKED = """test "$(tail -n 1 meson.build | cut -c 1-5)" != meson || for it in 1 2; do
 echo '{"section":"checks","key":"sizeof in use","answer":null,"file":"meson.build","line":2,"beside":{"prefix":["none"],"args":[]}}'
 done
@@ -48,7 +48,7 @@ while test $# -gt 0; do
     shift
 done
 """
-# Of the toolchain: what proves a crate, which tells which and makes a library or code; what links code; and `rt`.
+# Of the toolchain: the prover, which prints the crate's name and makes a library or code; the linker; and `rt`.
 RATTLE = f"""#!/bin/sh
 for last; do :; done
 echo "$(basename "$PWD") build" >>{WORK}/proved
@@ -77,7 +77,7 @@ def meson(*words: str, cwd: str = WORK, **how: object) -> subprocess.CompletedPr
 
 
 def taken(name: str) -> str:
-    """The text of a file of WORK, which is removed."""
+    """Returns the text of a file of WORK, which is removed."""
     if not os.path.exists(f"{WORK}/{name}"):
         return ""
     text = read(name)
@@ -189,7 +189,7 @@ def test_building() -> None:
 
 
 def test_ending_a_build() -> None:
-    """A build that is ended by a signal leaves no check behind it."""
+    """A build that is ended by a signal leaves no check running."""
     put("checkout/crates/low/src/lib.rt", "// changed again\n")
     put("slow", "")
     build = subprocess.Popen([f"{COPY}/tools/build-program"], env=environment(with_tools()), stderr=subprocess.DEVNULL)
@@ -203,7 +203,7 @@ def test_ending_a_build() -> None:
 
 
 def make_archives() -> None:
-    """The archive of a library for C, and that of the toolchain's C part."""
+    """Makes the archive of a library for C, and that of the toolchain's C part."""
     put("library.c", "int part(void);\nint hawkottoman_setup(void) { return part(); }\n")
     put("part.c", "int part(void) { return 0; }\n")
     os.makedirs(f"{WORK}/kit/c")
@@ -436,7 +436,7 @@ def test_explain() -> None:
 
 
 def test_reasons() -> None:
-    """A file system that can be read alone is told as such, and not as a permission that is lacking."""
+    """A read-only file system is reported as such, and not as a missing permission."""
     kept, os.statvfs = os.statvfs, lambda path: types.SimpleNamespace(f_flag=os.ST_RDONLY)
     try:
         told = unwritable(WORK)
@@ -463,7 +463,7 @@ def explains_what_is_unread(explains: Callable[..., None], sources: str) -> None
 
 
 def explains_odd_files(explains: Callable[..., None]) -> None:
-    """What is named in a branch that isn't taken is read no further than a file goes, and deep expressions are followed or left."""
+    """Checks that a file named in a branch that isn't taken is read only to its end, and that deep expressions are followed or left."""
     path, fault = f"{WORK}/explained/sub/meson.build", "echo 'meson.build:2: ERROR: E5 undefined name: nmae' >&2; exit 1"
     put("explained/meson.build", "project('p', 'c', name: nmae)\nmessage(nmae)\nif false\n  subdir('sub')\nendif\nname = 1\n")
     os.makedirs(os.path.dirname(path))
@@ -510,7 +510,7 @@ def test_compile() -> None:
 
 
 def fails(name: str, given: list[str], status: int, text: str) -> None:
-    """A `meson compile` that says in one line what is wrong, where `meson setup` says nothing."""
+    """Checks that `meson compile` says in one line what is wrong, if `meson setup` says nothing."""
     put("instead", "exec >/dev/null")
     refuses(name, [MESON, "compile", *given], status, text, env=with_tools())
     os.remove(f"{WORK}/instead")
@@ -616,7 +616,7 @@ def test_completion() -> None:
 
 
 def try_name(installed: str) -> None:
-    """The name of the installed command, in what it says itself and in what is said by those that it calls."""
+    """Checks the name of the installed command, in its own messages and in those of the commands that it calls."""
     put("instead", "exit 1")
     for command, what in (("test", "no test was run"), ("install", "nothing was installed"), ("introspect", "nothing is printed")):
         done = run([installed, command, *(["c"] if command == "introspect" else ["-C", "c"])], with_tools(), cwd=f"{WORK}/sources")

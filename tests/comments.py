@@ -1,10 +1,16 @@
-"""Whether the comments of the crates are plain English: each public item and each module says in its first sentence what it does or holds,
-with the verb first, and no sentence is too long. tests/scripts runs this too; `python3 -B -m tests.comments` prints what it finds."""
+"""Tests that comments are plain English. In the crates each public item and each module says in its first sentence what it does or holds,
+with the verb first, and no sentence is too long. In the scripts each function begins with a verb, and no comment has a word of the house.
+tests/scripts runs this too; `python3 -B -m tests.comments` prints what it finds."""
+import ast
 import glob
+import inspect
+import io
 import os
 import re
+import tokenize
+from collections.abc import Iterator
 
-from tests.documents import LONGEST, long_sentences
+from tests.documents import HOUSE, LONGEST, NEVER, house_words, long_sentences
 from tests.workshop import CHECKOUT, check
 
 # What begins a comment in code and in a definition.
@@ -12,6 +18,8 @@ MARKS = {".rt": r"//[/!]?", ".antt": "--"}
 ITEM = re.compile(r"""\s*pub (?:(?:const|unsafe|async|extern "C") )*(?:fn|struct|enum|trait|type|const)\b""")
 # A first word such as "Returns".
 VERB = re.compile(r"(?:[A-Z][a-z]*s|Does)\b")
+# A rule of `meson port` has a sentence about the project in place of that, as does a test about the command.
+RULE = "Iterator[Change]"
 
 
 def sources() -> list[str]:
@@ -63,6 +71,57 @@ def all_misfits() -> list[str]:
     return found
 
 
+def scripts() -> list[str]:
+    """Returns the paths of the scripts in Python and in the language of the shell, below the checkout."""
+    places = ("meson", "test", "tools/**", "tests/**", "bench/*", "python/*")
+    paths = [it for where in places for it in glob.glob(where, root_dir=CHECKOUT, recursive=True)]
+    return sorted(it for it in paths if os.path.isfile(os.path.join(CHECKOUT, it)) and is_script(it))
+
+
+def is_script(path: str) -> bool:
+    with open(os.path.join(CHECKOUT, path), "rb") as it:
+        return path.endswith(".py") or re.match(rb"#!.*(python|sh\b)", it.readline()) is not None
+
+
+def is_of_shell(text: str) -> bool:
+    return re.match(r"#!.*sh\b", text) is not None
+
+
+def remarks(text: str) -> Iterator[str]:
+    """Yields the comments and the documentation of a script, each line of a comment by itself."""
+    if is_of_shell(text):
+        yield from re.findall(r"^ *(#.*)", text, re.M)
+        return
+    for node in ast.walk(ast.parse(text)):
+        if isinstance(node, (ast.Module, ast.ClassDef, ast.FunctionDef)):
+            yield inspect.cleandoc(ast.get_docstring(node) or "")
+    yield from (it.string for it in tokenize.generate_tokens(io.StringIO(text).readline) if it.type == tokenize.COMMENT)
+
+
+def verbless(text: str) -> list[str]:
+    """Returns the names of the functions of a Python script whose documentation does not begin with a verb."""
+    functions = [it for it in ast.walk(ast.parse(text)) if isinstance(it, ast.FunctionDef) and ast.get_docstring(it)]
+    others = [it for it in functions if not it.name.startswith("test_") and not (it.returns and ast.unparse(it.returns) == RULE)]
+    return [it.name for it in others if not VERB.match(ast.get_docstring(it) or "")]
+
+
+def misfits_of_script(name: str, text: str) -> list[str]:
+    """Returns what is wrong with the comments of a script."""
+    found = [] if is_of_shell(text) else [f"no verb first: {it}" for it in verbless(text)]
+    for remark in remarks(text):
+        words = [word for word, count in house_words(remark, {**HOUSE, **NEVER}).items() if count]
+        found += [f"{' and '.join(words)}: {' '.join(remark.split())}"] if words else []
+    return [f"{name}: {it}" for it in found]
+
+
+def all_misfits_of_scripts() -> list[str]:
+    found = []
+    for name in scripts():
+        with open(os.path.join(CHECKOUT, name), encoding="utf-8") as it:
+            found += misfits_of_script(name, it.read())
+    return found
+
+
 def test_finding() -> None:
     """What is found, in files of a few lines."""
     long = " ".join(["word"] * 31)
@@ -74,14 +133,32 @@ def test_finding() -> None:
     check("comments: a definition without a sentence is found", found == [[], [], ["a.antt: it begins with no sentence"]], found)
 
 
+def test_finding_in_scripts() -> None:
+    """A script in the house's words is refused: its functions without a verb, and its comments with such words."""
+    code = '"""Tests it.\n\n    told  a word\n\nIt ends.\n"""\n\ndef a(told):\n    """A path behind `it`."""\n    return "beside"  # stands here\n'
+    code += '\n\ndef b() -> Iterator[Change]:\n    """A call stays."""\n\n\ndef test_c():\n    """A file that is asked for."""\n'
+    code += '\n\ndef d():\n    """Returns it."""\n    # `stands`, unasked\n'
+    wanted = ["no verb first: a", "behind: A path behind `it`.", "is asked: A file that is asked for.", "stand: # stands here"]
+    found = misfits_of_script("a.py", code)
+    check("comments: what is wrong in a script is found", found == [f"a.py: {it}" for it in wanted], found)
+    found = misfits_of_script("b", "#!/bin/sh\n# Is `told`.\nf() {\n    # It stands here.\n    echo behind\n}\n")
+    check("comments: what is wrong in a script of the shell is found", found == ["b: stand: # It stands here."], found)
+
+
+def test_comments_of_scripts() -> None:
+    found = all_misfits_of_scripts()
+    is_plain = len(scripts()) > 150 and not found
+    check("comments: of the scripts, each function begins with a verb, and no comment has a word of the house", is_plain, "\n".join(found))
+
+
 def test_comments() -> None:
     found = all_misfits()
     check("comments: of the crates, each item and module says what it does, in short sentences", bool(sources()) and not found,
           "\n".join(found))
 
 
-TESTS = (test_finding, test_comments)
+TESTS = (test_finding, test_comments, test_finding_in_scripts, test_comments_of_scripts)
 
 
 if __name__ == "__main__":
-    print("\n".join(all_misfits()))
+    print("\n".join([*all_misfits(), *all_misfits_of_scripts()]))

@@ -1,6 +1,6 @@
-"""Whether the documents are plain English: no sentence is too long, and house words are rare; whether their links lead somewhere; whether
-crates/library_tests calls each call of docs/LIBRARY.md. The same English of the help texts and the messages of the commands, which have no
-house words. tests/scripts runs this too; `python3 -B -m tests.documents` in the checkout prints the counts."""
+"""Tests that the documents are plain English: no sentence is too long or turned around, and house words are rare or absent. Also tests that
+their links lead somewhere, and that crates/library_tests calls each call of docs/LIBRARY.md. The help texts and messages of the commands have
+no house words at all. tests/scripts runs this too; `python3 -B -m tests.documents` in the checkout prints the counts."""
 import ast
 import glob
 import itertools
@@ -13,9 +13,19 @@ from tests.workshop import CHECKOUT, check, run
 LONGEST = 30
 # What ends a sentence of a document. In a help text it is also what ends a part of a list, as that of the exit statuses.
 ENDS, ENDS_OF_PARTS = ".!?", ".!?:;"
-# Each house word, with its forms, is in a document at most so often in a thousand words.
+# Each house word, with its forms, is in a document less often than this in a thousand words.
 OFTEN = 2
 HOUSE = {"tell": r"tell|tells|telling|told", "stand": r"stand|stands|standing|stood", "beside": r"beside|besides", "behind": r"behind"}
+# English has plain words in place of these, so no document has them: *before*, *out of memory*, *similar*, *run*, *build directory*.
+NEVER = {
+    "in front of": r"in front of", "want of": r"want of", "its like": r"(?:its|their) like|(?:and|or) the like", "at work": r"at work",
+    "as far as": r"(?:as|so) far as", "is asked": r"(?:is|are|was|were|be|been|being|not) asked", "in vain": r"in vain",
+    "build folder": r"build folders?|folder of (?:the|a) build", "source folder": r"source folders?|folder of (?:the )?sources",
+}
+# These words hide the name of a thing. They are needed at times, so each has a bound of its own, for a thousand words.
+VAGUE = {"of it": (r"of it", 2), "that of": (r"(?:that|those) of", 4), "what": (r"what", 26), "where": (r"where", 4)}
+# Such a sentence is turned around: its first words name nothing. A question may begin so.
+TURNED = re.compile(r"[*_(]*(?:What|Of|Whether|Where|None of it)\b.*[^?]", re.S)
 # README has at most so many lines, so that it can be read at once.
 README_LINES = 150
 # An entry of docs/DECISIONS.md has so many sentences, so that it says the decision and why, and no more than one.
@@ -35,7 +45,7 @@ def text_of(name: str) -> str:
 
 
 def without_code(text: str) -> str:
-    """A document without its blocks of code, with `x` in place of code inside of a sentence."""
+    """Returns a document without its blocks of code, with `x` in place of code inside of a sentence."""
     kept, is_code = [], False
     for line in text.split("\n"):
         if line.lstrip().startswith("```"):
@@ -46,7 +56,7 @@ def without_code(text: str) -> str:
 
 
 def sentences(text: str, ends: str = ENDS) -> list[str]:
-    """The sentences of a document; each item of a list is one of its own, and tables and headings have none."""
+    """Returns the sentences of a document; each item of a list is one of its own, and tables and headings have none."""
     lines = ["" if line.startswith(("|", "#")) else re.sub(r"^ *([-*]|\d+\.) ", "\n\n", line) for line in without_code(text).split("\n")]
     paragraphs = re.split(r"\n\s*\n", "\n".join(lines))
     return [it for part in paragraphs for it in re.split(rf"(?<=[{ends}])[*_)]*\s+", " ".join(part.split())) if it]
@@ -57,21 +67,38 @@ def long_sentences(text: str, ends: str = ENDS) -> list[str]:
 
 
 def uneven_entries(text: str) -> dict[str, int]:
-    """The entries of docs/DECISIONS.md that have too few or too many sentences, and how many."""
+    """Returns the entries of docs/DECISIONS.md that have too few or too many sentences, and how many."""
     entries = re.split(r"^### (.*)$", re.sub(r"^## .*$", "", text, flags=re.M), flags=re.M)[1:]
     counts = {title: len(sentences(entry)) for title, entry in zip(entries[::2], entries[1::2])}
     return {title: count for title, count in counts.items() if count not in ENTRY_SENTENCES}
 
 
-def house_words(text: str) -> dict[str, float]:
-    """Of each house word how often it is in a thousand words, tables and headings too."""
+def turned_sentences(text: str) -> list[str]:
+    return [it for it in sentences(text) if TURNED.fullmatch(it)]
+
+
+def house_words(text: str, words: dict[str, str] = HOUSE) -> dict[str, float]:
+    """Returns how often each of these words is in a thousand words, tables and headings too."""
     plain = without_code(text)
     count = max(len(re.findall(r"[\w']+", plain)), 1)
-    return {word: 1000 * len(re.findall(rf"\b(?:{forms})\b", plain, re.I)) / count for word, forms in HOUSE.items()}
+    return {word: 1000 * len(re.findall(rf"\b(?:{forms})\b", plain, re.I)) / count for word, forms in words.items()}
+
+
+def too_often(text: str) -> dict[str, float]:
+    """Returns the words that a document has too often, and how often it has them in a thousand words."""
+    rare, vague = house_words(text), house_words(text, {word: forms for word, (forms, _) in VAGUE.items()})
+    found = {word: it for word, it in rare.items() if it >= OFTEN}
+    found |= {word: it for word, it in vague.items() if it >= VAGUE[word][1]}
+    found |= {word: it for word, it in house_words(text, NEVER).items() if it}
+    return {word: round(it, 1) for word, it in found.items()}
+
+
+def has_house_words(text: str) -> bool:
+    return any(house_words(text, {**HOUSE, **NEVER}).values())
 
 
 def anchors(text: str) -> set[str]:
-    """The names by which links lead to the headings of a document."""
+    """Returns the names by which links lead to the headings of a document."""
     titles = re.findall(r"^#+ (.*)$", text, re.M)
     return {re.sub(r"[^\w -]", "", it.lower()).replace(" ", "-") for it in titles}
 
@@ -89,14 +116,14 @@ def broken_links(name: str) -> list[str]:
 
 
 def used_paths(source: str) -> set[str]:
-    """The paths below `meson` that Rattle sources name, those of `use` lists too."""
+    """Returns the paths below `meson` that Rattle sources name, those of `use` lists too."""
     lists = re.findall(r"\buse (meson[\w:]*)::\{([^}]*)\}", source)
     listed = {f"{module}::{name}" for module, names in lists for name in re.findall(r"\w+", names)}
     return listed | set(re.findall(r"\bmeson(?:::\w+)+", source))
 
 
 def uncalled(page: str, source: str) -> list[str]:
-    """The calls in the tables of docs/LIBRARY.md that Rattle sources don't use: methods by name, all others by their path."""
+    """Returns the calls in the tables of docs/LIBRARY.md that Rattle sources don't use: methods by name, all others by their path."""
     missing, used = [], used_paths(source)
     for calls, place in re.findall(r"^\| (`.*?) \| (.*?) \|", page.partition(LIBRARY_END)[0], re.M):
         path = re.search(r"[\w:]+::\w+", place)
@@ -122,12 +149,35 @@ def test_counting() -> None:
     check("documents: house words are found", found == wanted, found)
 
 
+def test_refusing() -> None:
+    """A document in the house's words is refused, and the same text in plain English is accepted."""
+    page = "Of lines that say the same the first alone stands here. What is indented is called. What is it? *None of it* is asked.\n\n"
+    page += "- Where it fails, a run at work in its build folder is told.\n\nWhat `it`\nsays.\n"
+    wanted = ["Of lines that say the same the first alone stands here.", "What is indented is called.", "*None of it* is asked.",
+              "Where it fails, a run at work in its build folder is told.", "What x says."]
+    check("documents: turned sentences are found", turned_sentences(page) == wanted, turned_sentences(page))
+    found = too_often(page)
+    wanted = {"tell", "stand", "of it", "what", "where", "at work", "is asked", "build folder"}
+    check("documents: words of the house are found", set(found) == wanted, found)
+    page = "It is in front of\nit, for want of memory, as far as known. He and the like look in vain in the folder of the sources. "
+    page += "Unasked, no question is\n`asked`. That of one. Those of two. " + "word " * 300
+    found = too_often(page)
+    wanted = {"in front of", "want of", "as far as", "its like", "in vain", "source folder", "that of"}
+    check("documents: words that no document may have are found", set(found) == wanted, found)
+    page = "Lines that differ only in place appear once. Each function calls the functions indented below it, in its build directory. "
+    page += "What is a case? If a call fails, the run reports it. Its work is here.\n\n```\nWhat stands behind it\n```\n"
+    check("documents: plain English is accepted", (turned_sentences(page), too_often(page + "word " * 100)) == ([], {}),
+          (turned_sentences(page), too_often(page + "word " * 100)))
+
+
 def test_documents() -> None:
     for name in documents():
         text = text_of(name)
         found = long_sentences(text)
         check(f"documents: {name}: no sentence over {LONGEST} words", not found, "\n".join(found))
-        often = {word: round(it, 1) for word, it in house_words(text).items() if it >= OFTEN}
+        turned = turned_sentences(text)
+        check(f"documents: {name}: no sentence is turned around", not turned, "\n".join(turned))
+        often = too_often(text)
         check(f"documents: {name}: house words", not often, often)
         broken = broken_links(name)
         check(f"documents: {name}: links", not broken, broken)
@@ -149,12 +199,12 @@ def test_helps() -> None:
         check(f"meson {command} --help: begins with a sentence", usage.lower().startswith("usage: ") and is_sentence, first)
         found = long_sentences("\n\n".join([first, *rest]), ENDS_OF_PARTS)
         check(f"meson {command} --help: no part of a sentence over {LONGEST} words", not found, "\n".join(found))
-        often = {word for word, count in house_words(text).items() if count}
+        often = {word for word, count in house_words(text, {**HOUSE, **NEVER}).items() if count}
         check(f"meson {command} --help: no house words", not often, often)
 
 
 def help_of(path: str) -> str:
-    """The help of a script that nobody calls by `meson`: its documentation, or the comment at the head of a shell script."""
+    """Returns the help of a script that nobody calls by `meson`: its documentation, or the comment at the head of a shell script."""
     text = text_of(path)
     if "python" in text.partition("\n")[0]:
         return ast.get_docstring(ast.parse(text)) or ""
@@ -166,12 +216,12 @@ def test_helps_of_tests() -> None:
     """The help of the tests, of the benchmark and of what builds: its first word is a verb, and it has no house words."""
     paths = sorted(it for where in ("tests/*", "bench/*", "tools/build-*", "test") for it in glob.glob(where, root_dir=CHECKOUT)
                    if os.path.isfile(os.path.join(CHECKOUT, it)) and os.access(os.path.join(CHECKOUT, it), os.X_OK))
-    wrong = [it for it in paths if not re.match(r"[A-Z][a-z]+s\b", help_of(it)) or any(house_words(help_of(it)).values())]
+    wrong = [it for it in paths if not re.match(r"[A-Z][a-z]+s\b", help_of(it)) or has_house_words(help_of(it))]
     check("the help of each test: a verb first, no house words", len(paths) > 20 and not wrong, f"{len(paths)} scripts: {wrong}")
 
 
 def messages(path: str) -> list[str]:
-    """The texts in a script that have a blank, without those that document it."""
+    """Returns the texts in a script that have a blank, without those that document it."""
     with open(path, encoding="utf-8") as it:
         nodes = list(ast.walk(ast.parse(it.read())))
     bodies = [it.body for it in nodes if isinstance(it, (ast.Module, ast.ClassDef, ast.FunctionDef)) and it.body]
@@ -208,10 +258,12 @@ def test_calls() -> None:
     check("documents: crates/library_tests calls each call of docs/LIBRARY.md", bool(source) and not missing, missing)
 
 
-TESTS = [test_counting, test_calls, test_documents, test_helps, test_helps_of_tests, test_messages]
+TESTS = [test_counting, test_refusing, test_calls, test_documents, test_helps, test_helps_of_tests, test_messages]
 
 
 if __name__ == "__main__":
     for document in documents():
-        words = " ".join(f"{word} {it:.1f}" for word, it in house_words(text_of(document)).items())
-        print(f"{document}: {len(long_sentences(text_of(document)))} long sentences, in a thousand words {words}")
+        page = text_of(document)
+        counts = {**house_words(page), **house_words(page, {word: forms for word, (forms, _) in VAGUE.items()})}
+        words = " ".join(f"{word} {it:.1f}" for word, it in counts.items())
+        print(f"{document}: {len(long_sentences(page))} long sentences, {len(turned_sentences(page))} turned, in a thousand words {words}")

@@ -8,7 +8,7 @@ from tests.workshop import CHECKOUT, check
 
 
 def wrong_bodies() -> ModuleType:
-    """The command that tries them, which has no ending."""
+    """Returns the command that tries them, which has no ending."""
     loader = SourceFileLoader("wrong_bodies", f"{CHECKOUT}/tests/wrong_bodies")
     made = module_from_spec(spec_from_loader(loader.name, loader))
     loader.exec_module(made)

@@ -1,6 +1,6 @@
-"""Whether the answers that `meson machine-file` keeps are good, and only while everything is as it was: tests/machine_files runs these too.
+"""Tests that the answers that `meson machine-file` keeps are used while nothing has changed, and only then. tests/machine_files runs these.
 
-The commands that a run starts are counted, which shows whether a question was asked again.
+The tests count the commands that a run starts, which shows whether a check ran again.
 """
 import json
 import os
@@ -30,7 +30,7 @@ HAS_PACKAGES = shutil.which("pkg-config") is not None
 PACKAGE = "Name: it\nDescription: it\nVersion: %s\nLibs: -l%s\nRequires: %s\n"
 
 
-# Runs a script that tells each command which it starts.
+# Runs a script and records each command that it starts.
 COUNTING = """import os, runpy, subprocess, sys
 begin, log = subprocess.Popen, os.environ.pop('COUNTED')
 def counted(words, **how):
@@ -44,7 +44,7 @@ runpy.run_path(sys.argv[0], run_name='__main__')
 
 
 def library(name: str, function: str) -> None:
-    """A library with one function."""
+    """Makes a library with one function."""
     source = put(f"kept/{name}.c", f"int {function}(void) {{ return 0; }}\n")
     subprocess.run(["cc", "-shared", "-fPIC", source, "-o", f"{WORK}/kept/lib/lib{name}.so"], check=True)
 
@@ -123,7 +123,7 @@ def test_other_definitions() -> None:
     check("kept answers: the first definitions", again.lines == first.lines and again.calls == [], again.lines ^ first.lines)
 
 
-# What changes on the machine, and a line of the machine file that comes of it.
+# The changes on the machine, each with a line of the machine file after it.
 CHANGES: dict[str, tuple[Callable[[], object], str]] = {
     "a header that was read": (lambda: put("kept/second/own.h", "struct own { char a[77]; };\n"), "sizeof struct own = 77"),
     "a header that a header reads": (lambda: put("kept/second/inner.h", "typedef int later_t;\n"), "has_type later_t = true"),

@@ -1,4 +1,4 @@
-"""The parts that stand for slower ones of the standard library: the words of a command, and records; tests/scripts runs this too."""
+"""Tests the replacements of slower parts of the standard library: the arguments of a command, and records. tests/scripts runs this too."""
 
 from tests.workshop import check
 from tools import records
@@ -7,7 +7,7 @@ from tools.ending import Stop
 
 
 def parsed(*words: str) -> dict[str, object] | str:
-    """What a command with some options gets from these words; or what is said of bad ones."""
+    """Returns what a command with some options gets from these words; or what is said of bad ones."""
     parser = Parser("meson x", "Does it.", 4)
     parser.add_folder()
     parser.add_argument("names", metavar="NAME", nargs="*", help="a name")

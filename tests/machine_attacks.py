@@ -1,6 +1,6 @@
-"""What was seen to harm those who use `meson machine-file`, each tried again: tests/machine_files runs these too.
+"""Tries again each attack that once harmed users of `meson machine-file`. tests/machine_files runs these too.
 
-What must not be touched lies in a folder `outside`, beside the sources in `m`.
+The files that must not change are in a folder `outside`, next to the sources in `m`.
 """
 import glob
 import os
@@ -101,7 +101,7 @@ def test_what_a_project_gives() -> None:
 
 
 def test_sizes() -> None:
-    """They are asked of the compiler; a program that is made would write a file as it begins."""
+    """The compiler answers them; a program that is made would write a file as it begins."""
     fresh("outside")
     begins = f"#include <fcntl.h>\n__attribute__((constructor)) static void f(void) {{ creat(\"{WORK}/outside/ran\", 0600); }}"
     sizes = {"char": 1, "char [16]": 16, "char [17]": 17, "char [100000]": 100000, "struct { char a[3]; }": 3, "struct {}": 0,
@@ -159,7 +159,7 @@ def test_headers_of_the_project() -> None:
 
 
 def begun() -> tuple[subprocess.Popen[str], list[int]]:
-    """A machine-file whose compiler hangs, and the compiler's number."""
+    """Starts a machine-file whose compiler hangs. Returns it, and the compiler's number."""
     fresh("s", "scratch")
     # It can write nowhere but in the folder of its check.
     hangs = put("hangs", "#!/bin/sh\ncase $* in *-Wslow*) echo $$ >$TMPDIR/pid; exec sleep 300 ;; esac\nexec cc \"$@\"\n", 0o755)

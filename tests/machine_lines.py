@@ -71,7 +71,7 @@ def check_place(section, key, value):
 
 
 def machine_lines(data):
-    """From section to key to value."""
+    """Maps each section to its keys, and each key to its value."""
     sections, section = {}, None
     for number, line in enumerate(data.decode("utf-8").split("\n"), 1):
         line = line.strip(BLANKS)

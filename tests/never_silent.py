@@ -19,7 +19,7 @@ SOURCES = os.path.join(os.path.realpath(WORK), "silent")
 
 
 def ask(*questions: tuple[str, str, str, int]) -> None:
-    """The questions of a run: of each section, key and answer as JSON, and the line."""
+    """Writes the questions of a run: of each the section, the key and the answer as JSON, and the line."""
     put("asked", "".join(ASKED % it + "\n" for it in questions))
     put("questions", f"cat {WORK}/asked; return 0\n")
 
@@ -35,7 +35,7 @@ def fresh(text: str = "", **parts: object) -> None:
 
 
 def says(name: str, lines: list[str], *words: str, status: int = 0) -> None:
-    """A setup that says these lines on the standard error, and no others."""
+    """Checks that a setup prints these lines on the standard error, and no others."""
     done = meson("setup", *words, "b", cwd=SOURCES)
     check(f"meson setup: {name}", (done.returncode, done.stderr.splitlines()) == (status, lines), f"{done}")
 
@@ -212,7 +212,7 @@ def test_another_meson() -> None:
 
 
 def test_beside() -> None:
-    """The files that go with a build folder, and none of them through a link."""
+    """The files that go with a build directory, and none of them through a link."""
     fresh()
     done = meson("setup", "b", cwd=SOURCES)
     text = read("silent/b/.gitignore")
@@ -311,7 +311,7 @@ COMMAND_LINE = "rule c_link\n command = $COMMAND\nbuild p: c_link\n COMMAND = %s
 
 
 def test_long_commands() -> None:
-    """A command that the system doesn't take is told, and none that it takes."""
+    """The report names a command that the system refuses, and no command that it accepts."""
     for name, command, is_told in (("131,071 bytes", "a" * 131071, False), ("131,072 bytes", "a" * 131072, True),
                                    ("131,071 bytes with dollars", "$$" * 131071, False), ("letters of two bytes", "ä" * 65536, True)):
         fresh()
@@ -323,7 +323,7 @@ def test_long_commands() -> None:
 
 
 def test_own_faults() -> None:
-    """What the command itself refuses is told once, and is no fault that `explain` could say more of."""
+    """A refusal by the command itself is printed once, and is no fault that `explain` could explain."""
     fresh()
     put("template/build.ninja", "build meson-logs: phony\n")
     refuses("a target of a name that is the command's own", [MESON, "setup", "b"], 1, "a target would be meson-logs, which this command",
@@ -373,7 +373,7 @@ def test_bad_words() -> None:
     put("instead", "echo 'error: bad' >&2; exit 4")
     for words, said in {
             "--reconfigure": "a second setup of a folder configures it again: leave --reconfigure out",
-            "--wipe": "nothing in a build folder is needed again: remove the folder first, as `rm -r b`",
+            "--wipe": "nothing in a build directory is needed again: remove the folder first, as `rm -r b`",
             "--wrap-mode=nofallback": "there are no subprojects: leave --wrap-mode out",
             "--localstatedir=/var": "only a project that has such an option takes it, as -Dlocalstatedir=..: leave --localstatedir out",
             "--prefix=/usr": "the option is -Dprefix=/usr; `meson configure b` takes --prefix too",
@@ -409,7 +409,7 @@ def test_streams_of_setup() -> None:
 
 
 def test_names_of_its_own() -> None:
-    """A target in the place of what the commands keep is told before anything is built, and again each time."""
+    """A target at the place of a file that the commands keep is reported before anything is built, and again each time."""
     fresh()
     put("template/build.ninja", "build sub/x meson-logs: custom ../a\n COMMAND = x\nbuild compile_commands.json: phony\n")
     for round_number in (1, 2):
@@ -425,7 +425,7 @@ def test_configure_that_is_ended() -> None:
     scratch = os.path.join(WORK, "scratch of configure")
     os.makedirs(scratch)
     hangs = put("hangs", "#!/bin/sh\n[ $1 != --version ] || exit 0\necho $$ >>$TMPDIR/pids; exec sleep 300\n", 0o755)
-    # What is asked of the compiler itself is asked without a sandbox, in a folder of the script's own.
+    # The queries of the compiler itself run without a sandbox, in a folder of the script's own.
     env = environment({**with_tools(), "CC": hangs, "TMPDIR": scratch})
     process = subprocess.Popen([MESON, "configure", "b"], cwd=SOURCES, env=env, stdout=subprocess.PIPE, stderr=subprocess.PIPE, text=True)
     pids = os.path.join(scratch, "pids")
@@ -550,7 +550,7 @@ def test_refreshed() -> None:
 
 
 def test_moved_words() -> None:
-    """Words that name no absolute folder of the sources are not those of a setup here, but came with the sources."""
+    """Words that name no absolute source directory are not those of a setup here, but came with the sources."""
     fresh()
     put("silent/b/meson-private/words", "words-1\0\n.\0\n--native-file\0\nevil.ini\0\nb\0\n")
     put("silent/evil.ini", "")
@@ -586,7 +586,7 @@ def test_configure_that_refuses() -> None:
 
 
 def on_terminal(*words: str) -> str:
-    """What a command shows whose output is a terminal."""
+    """Returns what a command prints if its output is a terminal."""
     master, slave = pty.openpty()
     process = subprocess.Popen([MESON, *words], cwd=SOURCES, env=environment(with_tools()), stdout=slave, stderr=subprocess.DEVNULL)
     os.close(slave)

@@ -6,7 +6,7 @@ import sys
 
 @dataclasses.dataclass
 class Case:
-    """Of each directive its word, what stands behind it, and the lines that are indented below it."""
+    """Yields the word of each directive, the rest of its line, and the lines that are indented below it."""
     title: str
     place: str
     directives: list[tuple[str, str, str]]
@@ -16,7 +16,7 @@ class Case:
 
 
 def cases_of(path: str, words: tuple[str, ...]) -> list[Case]:
-    """The cases of a file, whose directives have these words."""
+    """Returns the cases of a file, whose directives have these words."""
     cases: list[Case] = []
     shown = os.path.relpath(path)
     with open(path, encoding="utf-8") as it:

@@ -1,6 +1,6 @@
-"""What was seen to harm those who use `meson port`, each tried again: tests/scripts runs these too.
+"""Tries again each attack that once harmed users of `meson port`. tests/scripts runs these too.
 
-What must not be touched lies in a folder `outside`, beside the sources in `p`.
+The files that must not change are in a folder `outside`, next to the sources in `p`.
 """
 import contextlib
 import errno
@@ -32,7 +32,7 @@ HAS_LANDLOCK = version_of_landlock() > 0
 
 
 def port(*words: str) -> subprocess.CompletedProcess:
-    """The command in this process: most of a run of its own would be Python's beginning."""
+    """Runs the command in this process, since most of a run of its own would be Python's beginning."""
     out, said = (io.TextIOWrapper(io.BytesIO(), "utf-8", newline="") for _ in range(2))
     with contextlib.redirect_stdout(out), contextlib.redirect_stderr(said):
         try:
@@ -162,7 +162,7 @@ OLD_STATE, NEW_STATE = ("old a", "old b", ""), ("new a", "new b", "new c")
 
 
 def is_killed(action: Callable[[journal.Journal], object], step: int) -> bool:
-    """Whether a process that does this was ended by SIGKILL before a step: one of the calls of the system that change files."""
+    """Returns whether a process that does this was ended by SIGKILL before a step: one of the calls of the system that change files."""
     child = os.fork()
     if child == 0:
         left = step
@@ -301,7 +301,7 @@ TRIED = {
 
 
 def built(c_args: str = "", link_args: str = "", *words: str) -> subprocess.CompletedProcess:
-    """A trial whose program writes this build file."""
+    """Returns a trial whose program writes this build file."""
     outside = f"{WORK}/outside"
     text = EDGES.replace("@C_ARGS@", c_args).replace("@LINK_ARGS@", link_args).replace("OUTSIDE", outside)
     put("edges", text)
@@ -309,7 +309,7 @@ def built(c_args: str = "", link_args: str = "", *words: str) -> subprocess.Comp
 
 
 def program_that_sets_up() -> str:
-    """A program that takes all, and writes the build file `edges` and a document."""
+    """Returns a program that takes all, and writes the build file `edges` and a document."""
     configured("empty")
     copies = f"cp -R {WORK}/empty $1\ncp {WORK}/edges $1/build.ninja\n"
     return put("program", f"#!/bin/sh\n[ $1 = setup ] || exit 0\nshift $(($# - 1))\n{copies}", 0o755)
@@ -381,7 +381,7 @@ def test_doubts() -> None:
 
 
 def carried_out_all_the_same(words: str) -> None:
-    """The build of these words, which no table looks at."""
+    """Runs the build of these words, which no table looks at."""
     put("edges", EDGES.replace("@C_ARGS@", "").replace("@LINK_ARGS@", words).replace("OUTSIDE", f"{WORK}/outside"))
     fresh("trial", "scratch")
     for name in ("a.c", "m.c", "evil.so", "evil"):
@@ -462,7 +462,7 @@ def test_early_signals() -> None:
 
 
 def is_reading(number: int) -> bool:
-    """Whether a process heeds signals by a function of its own, or is gone."""
+    """Returns whether a process heeds signals by a function of its own, or is gone."""
     try:
         with open(f"/proc/{number}/status", encoding="ascii") as it:
             caught = next(int(line.split()[1], 16) for line in it if line.startswith("SigCgt"))
@@ -491,7 +491,7 @@ def test_costs() -> None:
     check("meson port: fs.name without arguments", "rule" not in done.stdout and "x = 'b'" in read("p/meson.build"), f"{done}")
 
 
-# Statements that make a value greater each time, and what stands before them.
+# Statements that make a value greater each time, and the statement before them.
 GROWING = {
     "t = 'aaaaaaaa'": "t += t", "r = 'aa'": "r = r.replace('a', r)", "j = 'aa'": "j = j.join([j, j, j])",
     "f = 'aa'": "f = '@0@@0@'.format(f)", "p = 'a/b'": "p = p / p", "l = ['a']": "l += l", "n = ['a']": "n = [n, n]",
@@ -549,7 +549,7 @@ def special_file(place: str, kind: str) -> None:
 
 
 def run_in_memory(*words: str) -> tuple[subprocess.CompletedProcess, int]:
-    """The command in a process of its own, and the memory that it has used, in KiB."""
+    """Runs the command in a process of its own. Returns the memory that it used too, in KiB."""
     with tempfile.TemporaryFile("w+", dir=WORK) as said:
         process = subprocess.Popen([*PORT, *words, "p"], cwd=WORK, env=environment(), stdout=subprocess.DEVNULL, stderr=said)
         _, status, used = os.wait4(process.pid, 0)
@@ -571,7 +571,7 @@ def test_installed() -> None:
 
 
 def test_budget() -> None:
-    """Past the budget what was not tried is told."""
+    """Once the budget is spent, the command reports what it has not tried."""
     project()
     it = Project(f"{WORK}/p")
     before, it.spent = it.has_spent_all, 1 << 40
@@ -579,7 +579,7 @@ def test_budget() -> None:
 
 
 def test_rules_by_name() -> None:
-    """The rules that have to be asked for are listed, and what is left names none that isn't there."""
+    """The report lists the rules that need an option, and names no rule that does not exist."""
     done = port("--also", "help")
     names = {line.split()[0] for line in done.stdout.splitlines()}
     is_good = done.returncode == 0 and names == {it.name for it in RULES if not it.is_sure} and "test-protocol" in names
@@ -590,7 +590,7 @@ def test_rules_by_name() -> None:
     check("meson port: what is left names rules that are there", named and named <= names, named - names)
 
 
-# Stands for the real Meson: refuses what has the name `bad`, and notes where it was run.
+# Replaces the real Meson: refuses what has the name `bad`, and notes where it was run.
 REAL = """#!/bin/sh
 case $1 in --version) echo 1.7.0; exit ;; esac
 pwd >>"$0.ran"

@@ -1,7 +1,7 @@
-"""How a project could have its own code run while `meson machine-file` asks a compiler: tests/machine_files runs these too.
+"""Tries to run a project's own code while `meson machine-file` runs a compiler. tests/machine_files runs these too.
 
-Each way is tried twice. Once the sandbox alone stands in it: the words are given to the compiler as they are, as if no table refused them.
-Once the table of words alone does, with a system that has no Landlock. The ways are those that were seen to work without both.
+Each attack is tried twice. First only the sandbox prevents it: the compiler gets the arguments as if no table refused them. Then only the
+table of arguments prevents it, on a system without Landlock. Each attack has worked without both.
 """
 import contextlib
 import ctypes
@@ -22,7 +22,7 @@ from tools.asking.sandbox import Sandbox, version_of_landlock
 
 HAS_LANDLOCK = version_of_landlock() > 0
 MAIN = "int main(void) { return 0; }"
-# Begins with a call that leaves a file behind wherever the program is run.
+# Begins with a call that makes a file wherever the program is run.
 RUNS = '#include <fcntl.h>\n__attribute__((constructor)) static void f(void) { creat("%s/outside/ran", 0600); }\n' + MAIN
 
 
@@ -37,7 +37,7 @@ class Program(ctypes.Structure):
 
 
 def forget_landlock() -> None:
-    """From here on the system has no Landlock: the call that asks for it is one that the system doesn't know."""
+    """Has the system lose Landlock: from here on it does not know the call that sets it up."""
     steps = (Filter * 4)(Filter(0x20, 0, 0, 0), Filter(0x15, 0, 1, 444), Filter(0x06, 0, 0, 0x00050000 | 38),
                          Filter(0x06, 0, 0, 0x7FFF0000))
     libc = ctypes.CDLL(None, use_errno=True)
@@ -53,7 +53,7 @@ def compiler_in(sources: str) -> Iterator[Compiler]:
 
 
 def tool() -> str:
-    """A program of the project, which leaves a file behind wherever it is run."""
+    """Returns the path of a program of the project, which makes a file wherever it is run."""
     return put("m/tool", f"#!/bin/sh\necho ran >{WORK}/outside/ran\n", 0o755)
 
 
@@ -66,7 +66,7 @@ def in_sandbox(name: str, words: list[str], source: str = MAIN, mode: str = "lin
 
 
 def without_sandbox(name: str, text: str, env: dict[str, str] | None = None, cwd: str = WORK) -> None:
-    """A project over a system that can't sandbox: nothing runs all the same."""
+    """Tries a project on a system that can't sandbox: nothing runs all the same."""
     put("m/meson.build", f"project('p', 'c')\ncc = meson.get_compiler('c')\n{text}\n")
     words = ["meson", "machine-file", *([] if cwd != WORK else ["m"])]
     done = run(words, env, cwd, preexec_fn=forget_landlock)
@@ -109,7 +109,7 @@ def test_what_a_check_has_compiled() -> None:
     without_sandbox("the assembler is what was compiled", f"cc.has_function('puts', prefix: '''{prefix}''', args: [{listed}])")
 
 
-# A link of several parts is made by a makefile, in which these words stand between quotes that they could close.
+# The compiler makes a link of several parts by a makefile, which has these arguments between quotes that they could close.
 IN_MAKEFILES = ("-fdebug-prefix-map=a=$(shell echo ran >'%s')", "-ffile-prefix-map=a=';echo ran >'%s", "-L/'$(shell echo ran >'%s')'")
 
 
@@ -152,7 +152,7 @@ def test_the_table() -> None:
 
 
 def test_packages() -> None:
-    """A name by which pkg-config reads a file of the project, in which words for the compiler stand."""
+    """A name by which pkg-config reads a file of the project that holds arguments for the compiler is refused."""
     fresh("outside", "m")
     put("m/evil.pc", f"Name: own\nDescription: own\nVersion: 1\nCflags: -wrapper {tool()}\n")
     for name in ("evil.pc,", "evil.pc >= 0", "../../proc/self/cwd/evil", f"{WORK}/m/evil.pc", "--evil", ""):
@@ -183,7 +183,7 @@ def test_the_sources_as_libraries() -> None:
 
 
 def test_precompiled_headers() -> None:
-    """GCC would load the bytes beside a header in its place, where it is the first that is included."""
+    """GCC would load the bytes next to a header in its place, if it is the first that is included."""
     fresh("outside", "m", "made")
     put("m/x.h", "\n")
     put("made/x.h", "typedef int precompiled;\n")
@@ -195,7 +195,7 @@ def test_precompiled_headers() -> None:
 
 
 def test_limits() -> None:
-    """A source without end ends by the memory, the size of files or the time; what is left of it goes with its folder."""
+    """A source without end stops at the limit of memory, of file size or of time. Its folder is removed with all that it made."""
     fresh("outside", "m", "scratch")
     begun = time.monotonic()
     put("m/meson.build", "project('p', 'c')\ncc = meson.get_compiler('c')\ncc.has_type('int', prefix: '#include \"/dev/zero\"')\n"
@@ -216,7 +216,7 @@ def test_limits() -> None:
 
 
 def test_launchers() -> None:
-    """Compilers behind a cache or a distributor: the check asks the compiler itself."""
+    """If a compiler runs through a cache or a distributor, the check calls the compiler itself."""
     for names in (("ccache", "gcc"), ("distcc", "gcc")):
         if all(map(shutil.which, names)):
             done = run(["meson", "machine-file", "--require-sandbox", "--ask", "has_function puts"], {"CC": " ".join(names)})

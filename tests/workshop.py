@@ -34,14 +34,14 @@ def carry_out(*tests: Callable[[], object]) -> int:
 
 
 def words_of(words: list[str]) -> list[str]:
-    """A command; `meson` is that of the checkout."""
+    """Returns the words of a command; `meson` is that of the checkout."""
     if words[:2] == ["meson", "machine-file"] and PROGRAMS:
         return [os.path.join(CHECKOUT, "tools", "machine-file"), PROGRAMS[0], *words[1:]]
     return [os.path.join(CHECKOUT, "meson"), *words[1:]] if words[0] == "meson" else words
 
 
 def over(command: str, folder: str, *words: str) -> list[str]:
-    """A command of `meson` over a folder."""
+    """Returns the words of a command of `meson` over a folder."""
     return ["meson", command, *([] if command == "machine-file" else ["-C"]), folder, *words]
 
 
@@ -51,13 +51,13 @@ def environment(env: dict[str, str] | None = None) -> dict[str, str]:
 
 
 def run(words: list[str], env: dict[str, str] | None = None, cwd: str = WORK, **how: object) -> subprocess.CompletedProcess:
-    """What a command answers: its status, output and errors."""
+    """Runs a command. Returns its status, output and errors."""
     how = {"stdout": subprocess.PIPE, "stderr": subprocess.PIPE, **how}
     return subprocess.run(words_of(words), env=environment(env), cwd=cwd, text=True, timeout=600, **how)
 
 
 def wait_until(is_so: Callable[[], bool], seconds: float = 20) -> bool:
-    """Whether it is so within this time, which is asked again and again."""
+    """Returns whether a condition holds within this time; it is checked again and again."""
     end = time.monotonic() + seconds
     while not (answer := is_so()) and time.monotonic() < end:
         time.sleep(0.05)
@@ -79,7 +79,7 @@ def read(path: str) -> str:
 
 
 def refuses(name: str, words: list[str], status: int, text: str, **how: object) -> None:
-    """A bad input: a status, and one clear line on the standard error."""
+    """Checks that a bad input ends with a status, and one clear line on the standard error."""
     done = run(words, **how)
     is_one_line = done.stderr.endswith("\n") and done.stderr.count("\n") == 1
     is_good = done.returncode == status and text in done.stderr and is_one_line
@@ -96,7 +96,7 @@ def configured(folder: str, **parts: object) -> None:
 
 
 def shell(name: str, script: str, suite: tuple[str, ...] = (), **parts: object) -> dict[str, object]:
-    """A test of the document, which runs a script."""
+    """Returns a test of the document, which runs a script."""
     return {"cmd": ["sh", "-c", script], "env": [], "name": name, "should_fail": False, "suite": list(suite), "timeout": 30, **parts}
 
 
@@ -105,7 +105,7 @@ COMMAND = ("bash", "dirname", "env", "python3", "readlink")
 
 
 def only_on_path(*tools: str) -> str:
-    """A folder with these tools, for a PATH that has no others."""
+    """Returns a folder with these tools, for a PATH that has no others."""
     folder = tempfile.mkdtemp(dir=WORK)
     for tool in tools:
         os.symlink(sys.executable if tool == "python3" else shutil.which(tool), os.path.join(folder, tool))

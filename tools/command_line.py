@@ -46,7 +46,7 @@ class Option:
         return self.action in ("store", "append")
 
     def shown(self) -> str:
-        """The option as help lists it."""
+        """Returns the option as help lists it."""
         if self.is_word:
             return self.metavar
         return ", ".join(it + (" " + self.metavar if self.takes_value else "") for it in self.names)
@@ -75,7 +75,7 @@ class Parser:
         raise Stop(f"{message} (--help says more)", self.status)
 
     def parse_args(self, words: list[str] | None = None) -> Any:
-        """The values of all options; without words those of the command line."""
+        """Returns the values of all options; without words those of the command line."""
         given = Given()
         for option in self.options:
             setattr(given, option.dest, list(option.default) if isinstance(option.default, list) else option.default)
@@ -113,7 +113,7 @@ class Parser:
         return True
 
     def find(self, name: str) -> Option | None:
-        """The option of this name, or the only one of which it is the beginning."""
+        """Returns the option of this name, or the only one of which it is the beginning."""
         named = {it: option for option in self.options for it in option.names if not option.is_word}
         if name in named:
             return named[name]
@@ -183,7 +183,7 @@ def filled(first: str, parts: list[str], column: int | None = None) -> str:
 
 
 def listed(option: Option) -> str:
-    """The line of an option in the help, with what it does."""
+    """Returns the line of an option in the help, with what it does."""
     head = f"  {option.shown()}".ljust(COLUMN - 1)
     first = head if len(head) < COLUMN else head + "\n" + " " * (COLUMN - 1)
     return filled(first, option.help.split(), COLUMN)

@@ -23,10 +23,10 @@ PARTS = {"targets": list, "tests": list, "buildoptions": list, "installed": dict
 PROJECT, FILES, OPTION = {"name": str, "version": str}, {"present": list, "absent": list}, {"name": str, "type": str}
 TARGET = {"name": str, "type": str, "filename": list, "defined_in": str}
 TEST = {"cmd": list, "env": list, "name": str, "should_fail": bool, "suite": list, "timeout": int}
-# What the commands keep in a build folder for themselves.
+# What the commands keep in a build directory for themselves.
 OWN = {"meson-private", "meson-info", "meson-logs", "meson-private/words", "meson-private/machine.ini", "meson-private/executables",
        "meson-info/introspect.json", "meson-logs/testlog.txt", "meson-logs/install-log.txt", "compile_commands.json", ".gitignore"}
-# A NUL ends what the system is told, and half a pair of surrogates is no character.
+# A NUL ends a path that the system gets, and half a pair of surrogates is no character.
 NO_NAME = re.compile("[\0\ud800-\udfff]")
 
 
@@ -43,7 +43,7 @@ def document_path(folder: str) -> str:
 
 
 def read_content(folder: str) -> dict[str, Any]:
-    """The document with all its parts; of targets, tests and what is installed the form is not looked at."""
+    """Returns the document with all its parts; of targets, tests and what is installed the form is not looked at."""
     path = document_path(folder)
     if not os.path.isdir(folder):
         raise Stop(f"{folder}: there is no such folder")
@@ -61,7 +61,7 @@ def read_content(folder: str) -> dict[str, Any]:
 
 
 def is_document(content: object) -> bool:
-    """Whether it has all parts, each of its own kind."""
+    """Returns whether it has all parts, each of its own kind."""
     if not isinstance(content, dict) or not all(isinstance(content.get(part), kind) for part, kind in PARTS.items()):
         return False
     if not has_form(content["projectinfo"], PROJECT) or not has_form(content["buildsystem_files"], FILES):
@@ -101,7 +101,7 @@ def refuse_own_names(folder: str) -> None:
 
 
 def has_form(it: object, form: dict[str, type]) -> bool:
-    """Whether it is an object with these keys, whose lists are lists of texts. A truth value is no number here."""
+    """Returns whether it is an object with these keys, whose lists are lists of texts. A truth value is no number here."""
     return isinstance(it, dict) and all(type(it.get(key)) is kind for key, kind in form.items()) and all(
         isinstance(text, str) for key, kind in form.items() if kind is list for text in it[key])
 

@@ -1,7 +1,7 @@
-"""Ends a script that is asked to end before it has begun; each script imports this first.
+"""Ends a script that gets a signal before it has begun. Each script imports this first.
 
-Nothing is there yet that would have to be cleaned up, so the script ends at once, with one line and the status of one that was interrupted.
-Later `run_script` takes the signals over.
+There is nothing to clean up yet, so the script ends at once, with one line and the status of an interrupted script. Later `run_script`
+handles the signals.
 """
 from __future__ import annotations
 

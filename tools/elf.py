@@ -40,7 +40,7 @@ class Elf:
         raise ValueError(f"no segment has the address {address}")
 
     def dynamic(self) -> Iterator[tuple[int, int, int]]:
-        """The place, tag and value of each entry, with the first that ends them."""
+        """Yields the place, tag and value of each entry, with the first that ends them."""
         for at, size in ((at, size) for kind, at, _, size in self.segments if kind == DYNAMIC):
             for place in range(at, at + size, self.entry.size):
                 tag, value = self.entry.unpack_from(self.data, place)
@@ -60,6 +60,6 @@ class Elf:
             if new and new != old:
                 self.data[start:start + len(new) + 1] = new + b"\0"
             elif not new:
-                # The entries behind it move up, and one more ends them.
+                # The entries after it move up, and an empty one ends them.
                 last = entries[-1][0] + self.entry.size
                 self.data[place:last] = self.data[place + self.entry.size:last] + bytes(self.entry.size)

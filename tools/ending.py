@@ -104,7 +104,7 @@ def interrupt(number: int, frame: FrameType | None) -> NoReturn:
 
 
 def heed_signals() -> None:
-    """Ctrl-C, SIGTERM and SIGHUP interrupt the script, but where they are ignored, as `nohup` has it."""
+    """Lets Ctrl-C, SIGTERM and SIGHUP interrupt the script, unless they are ignored, as under `nohup`."""
     for number in SIGNALS:
         if signal.getsignal(number) != signal.SIG_IGN:
             signal.signal(number, interrupt)

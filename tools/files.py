@@ -58,7 +58,7 @@ def log_path(folder: str, name: str) -> str:
 
 
 def new_log(folder: str, name: str) -> BinaryIO:
-    """Returns a new log of a build folder. An old one is removed, and a link in place of its folder is refused."""
+    """Returns a new log of a build directory. An old one is removed, and a link in place of its folder is refused."""
     opened = [os.open(folder, FOLDER)]
     try:
         try:
@@ -82,7 +82,7 @@ def new_log(folder: str, name: str) -> BinaryIO:
 
 
 def unnamed_file(folder: str) -> BinaryIO:
-    """A file of this folder that has no name there, to be written and read."""
+    """Returns a file of this folder that has no name there, to be written and read."""
     try:
         return open(os.open(folder, os.O_TMPFILE | os.O_RDWR | os.O_CLOEXEC, 0o600), "w+b")
     except OSError:

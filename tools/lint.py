@@ -14,7 +14,7 @@ SERIAL = "serial"
 
 
 def notes(folder: str) -> list[str]:
-    """What is noted, each with its file and its line."""
+    """Returns what is noted, each with its file and its line."""
     content = read_content(folder)
     known = {it["name"] for it in content["buildoptions"]}
     found: list[str] = []

@@ -8,16 +8,16 @@ OPTIONS["warnlevel"] = "warning_level"
 FLAGS = {"debug": "-Ddebug=true", "werror": "-Dwerror=true"}
 # Folders that are options of projects only.
 OTHER_FOLDERS = ("localstatedir", "sharedstatedir", "libexecdir", "sbindir", "localedir", "infodir", "licensedir")
-# What has no effect here, and why; and that of it which takes no value.
+# The options that have no effect here, and why; then those of them that take no value.
 NO_EFFECT = {**{it: f"only a project that has such an option takes it, as -D{it}=.." for it in OTHER_FOLDERS},
              "wrap-mode": "there are no subprojects", "backend": "Ninja is the only backend"}
-NO_EFFECT_FLAGS = {"reconfigure": "a second setup of a folder configures it again", "wipe": "nothing in a build folder is needed again",
+NO_EFFECT_FLAGS = {"reconfigure": "a second setup of a folder configures it again", "wipe": "nothing in a build directory is needed again",
                    "fatal-meson-warnings": "there are no such warnings"}
 LEFT_OUT = {"cross-file": "cross builds are left out; the machine file of this machine is --native-file"}
 
 
 def named_in(words: list[str]) -> tuple[str, str, list[str]]:
-    """The first argument of the real Meson among words of `setup`, without its dashes, its value, and the words that are none."""
+    """Returns the first argument of the real Meson among words of `setup`, without its dashes, its value, and the words that are none."""
     takes_value, rest = {**OPTIONS, **NO_EFFECT, **LEFT_OUT}, []
     found, waiting = ("", ""), iter(words)
     for word in waiting:

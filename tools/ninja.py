@@ -26,7 +26,7 @@ def is_on_path(name: str) -> bool:
 
 
 def find_ninja() -> list[str]:
-    """The words of the command; the variable NINJA names another."""
+    """Returns the words of the command; the variable NINJA names another."""
     named = os.environ.get("NINJA", "")
     if NO_WORD.search(named):
         from tools.variables import words_of
@@ -38,14 +38,14 @@ def find_ninja() -> list[str]:
 
 
 def escaped(path: str) -> str:
-    """A path as Ninja's files have it."""
+    """Returns a path as Ninja's files have it."""
     if NO_PATH.search(path):
         raise Stop(f"{path}: no file of Ninja's can have this name")
     return re.sub(r"[$ :]", r"$\g<0>", path)
 
 
 def plain(path: str) -> str:
-    """A path of Ninja's files as it is."""
+    """Returns a path of Ninja's files as it is."""
     return re.sub(r"\$(.)", r"\1", path)
 
 
@@ -55,7 +55,7 @@ def paths_in(text: str) -> list[str]:
 
 
 def call(words: list[str], env: dict[str, str] | None = None, shows_output: bool = True, cwd: str | None = None) -> int:
-    """The status of a command, which is asked to end where this script is."""
+    """Returns the status of a command. Ends the command first if this script is to end."""
     before = [] if shows_output else [(os.POSIX_SPAWN_OPEN, 1, os.devnull, os.O_WRONLY, 0)]
     if cwd is not None:
         words = ["env", "-C", cwd, *words]

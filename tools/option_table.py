@@ -42,7 +42,7 @@ def spelled(value: object) -> str:
 
 
 def source_of(call: tree.Call, name: str, text: str) -> str:
-    """The text of a keyword's value."""
+    """Returns the text of a keyword's value."""
     word = call.keywords.get(name)
     if word is None:
         return ""
@@ -72,7 +72,7 @@ def choices_of(call: tree.Call, text: str) -> str:
 
 
 def setters(setup: Setup, content: dict[str, Any]) -> dict[str, str]:
-    """What set an option, where something did: the last place counts."""
+    """Returns what set an option, where something did: the last place counts."""
     found: dict[str, str] = {}
     root = os.path.join(setup.sources, "meson.build")
     try:

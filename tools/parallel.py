@@ -31,14 +31,15 @@ class Lanes:
                 self.stop(fault)
 
     def stop(self, fault: BaseException) -> None:
-        """Begins no more, and ends what is at work; the first fault counts."""
+        """Starts no more work, and ends what is running; the first fault counts."""
         with self.lock:
             self.fault = self.fault or fault
         self.end()
 
 
 def side_by_side(work: Callable[[Any], Any], items: list[Any], jobs: int | None, end: Callable[[], None]) -> list[Any]:
-    """What comes of work on each item. Where one fails, or the script is interrupted, `end` ends what is at work, and no more is begun."""
+    """Returns the results of work on each item. If one fails, or the script is interrupted, `end` ends what is running, and no more
+    starts."""
     lanes, begun = Lanes(work, items, end), []
     try:
         for _ in range(min(jobs or (os.cpu_count() or 1) + 4, len(items))):

@@ -43,7 +43,7 @@ else:
         return cls
 
     def filled(self, *values, **named):
-        """The method `__init__`."""
+        """Returns the method `__init__`."""
         fields = self.__fields__
         given = self.__dict__
         if len(values) > len(fields):
@@ -76,9 +76,9 @@ else:
         raise AttributeError(f"{type(self).__name__} is not changed: {name!r}")
 
     def astuple(record):
-        """The values of the fields, in their order."""
+        """Returns the values of the fields, in their order."""
         return values_of(record)
 
     def replace(record, **changes):
-        """Another record with some fields changed."""
+        """Returns another record with some fields changed."""
         return type(record)(**{**{name: record.__dict__[name] for name in record.__fields__}, **changes})

@@ -1,8 +1,8 @@
-"""A folder below which files are put, and nothing outside of it.
+"""Writes files below one folder, and nothing outside of it.
 
 A destination is an absolute path whose root this folder is. Its `.` and `..` are carried out first, by its text. On the way down each
 folder is opened in the one above it; a link there is read, and its text followed by the same rules: one that leads out of the root is
-refused. So no place is reached by a path that could be changed behind the check.
+refused. So no place is reached by a path that could change after the check.
 """
 import errno
 import os
@@ -19,7 +19,7 @@ class Outside(Exception):
 
 
 def parts_of(destination: str) -> list[str]:
-    """The parts of a destination after its `.` and `..` are carried out."""
+    """Returns the parts of a destination after its `.` and `..` are carried out."""
     if not destination.startswith("/"):
         raise Outside("is a relative path; the option prefix has to be an absolute one")
     parts: list[str] = []
@@ -40,7 +40,7 @@ class Root:
         self.path = os.path.abspath(path) if path else "/"
 
     def place(self, destination: str) -> str:
-        """The path of a destination, to be shown."""
+        """Returns the path of a destination, to be shown."""
         return os.path.join(self.path, *parts_of(destination))
 
     def check(self, destination: str) -> None:
@@ -57,7 +57,7 @@ class Root:
             raise FileNotFoundError(errno.ENOENT, os.strerror(errno.ENOENT))
 
     def put(self, destination: str, make: Callable[[int, str], None]) -> None:
-        """Has a file made beside its place, by the folder's number and a name, and renames it there."""
+        """Makes a file next to its place, by the folder's number and a name, and renames it there."""
         *folders, name = parts_of(destination)
         os.makedirs(self.path, exist_ok=True)
         opened = self.descend(folders, makes=True)
@@ -75,7 +75,7 @@ class Root:
             close(opened)
 
     def read(self, destination: str) -> bytes | None:
-        """The bytes of a file that is no link, reached without leaving the root; none where it is not there."""
+        """Returns the bytes of a file that is no link, reached without leaving the root, or None if it is not there."""
         *folders, name = parts_of(destination)
         opened = self.descend(folders, makes=False)
         try:
@@ -145,7 +145,7 @@ class Root:
             raise
 
     def below(self, path: str) -> str:
-        """The part of an absolute path behind that of the root."""
+        """Returns the part of an absolute path after that of the root."""
         for root in (self.path, os.path.realpath(self.path)):
             if (path + "/").startswith(root.rstrip("/") + "/"):
                 return path[len(root.rstrip("/")):]
@@ -153,7 +153,7 @@ class Root:
 
 
 def open_folder(path: str, above: int | None) -> int | None:
-    """The number of a folder that is no link, but for the root, which has none above it."""
+    """Returns the number of a folder that is no link, but for the root, which has none above it."""
     try:
         return os.open(path, FOLDER if above is None else FOLDER | os.O_NOFOLLOW, dir_fd=above)
     except FileNotFoundError:
@@ -203,12 +203,12 @@ def remove(folder: int, name: str) -> None:
 
 
 def write_file(data: bytes | bytearray, mode: int, times: tuple[int, int]) -> Callable[[int, str], None]:
-    """What makes a file with these bytes, mode and times (in nanoseconds)."""
+    """Returns what makes a file with these bytes, mode and times (in nanoseconds)."""
     return write_pieces([data], mode, times)
 
 
 def write_pieces(pieces: Iterable[bytes | bytearray], mode: int, times: tuple[int, int]) -> Callable[[int, str], None]:
-    """The same of bytes that come piece by piece, once."""
+    """Returns what makes a file of bytes that come piece by piece, once."""
     def make(folder: int, name: str) -> None:
         with open(os.open(name, NEW_FILE, 0o600, dir_fd=folder), "wb") as it:
             it.writelines(pieces)
@@ -219,5 +219,5 @@ def write_pieces(pieces: Iterable[bytes | bytearray], mode: int, times: tuple[in
 
 
 def write_link(target: str) -> Callable[[int, str], None]:
-    """What makes a link."""
+    """Returns what makes a link."""
     return lambda folder, name: os.symlink(target, name, dir_fd=folder)

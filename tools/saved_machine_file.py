@@ -1,4 +1,4 @@
-"""The machine file that `meson configure` keeps in a build folder: BUILDDIR/meson-private/machine.ini.
+"""The machine file that `meson configure` keeps in a build directory: BUILDDIR/meson-private/machine.ini.
 
 It is made again each time: the machine may have a package now that it had not. Answers that still hold come from the user's cache. What
 was filled in by hand stays where the machine has no answer. Another compiler and other flags are taken only if a variable of the
@@ -39,7 +39,7 @@ def encoded(text: str) -> bytes:
 
 
 class SavedMachineFile:
-    """The file of one build folder: `program` asks about the sources with these settings."""
+    """The file of one build directory: `program` asks about the sources with these settings."""
 
     def __init__(self, program: str, sources: str, folder: str, settings: list[str]) -> None:
         self.program, self.sources, self.folder, self.settings = program, sources, folder, settings
@@ -61,8 +61,8 @@ class SavedMachineFile:
         return True
 
     def ask(self) -> str:
-        """Has the machine asked. Returns the text of the machine file, empty if the run ended in a fault first."""
-        # If `configure` is interrupted, the command is asked to end first, since it ends its compilers and removes its folder.
+        """Queries the machine. Returns the text of the machine file, empty if the run ended in a fault first."""
+        # If `configure` is interrupted, the command gets a signal before it is killed, since it ends its compilers and removes its folder.
         done = run([MESON, "machine-file", *self.settings, self.sources], seconds=LONGEST, most=MOST_TOLD, errors="surrogateescape",
                    variables={**os.environ, "HAWKOTTOMAN_CALLED": CALLED}, is_asked_first=True)
         if done.printed:
@@ -82,7 +82,7 @@ class SavedMachineFile:
                 raise Stop(f"{self.path} was made with {words}, which is not set now: set it, or remove that file")
 
     def filled_in(self, text: str, path: str, old: Sections) -> str:
-        """The text, with what the old file answers to questions that this machine leaves open."""
+        """Returns the text, with what the old file answers to questions that this machine leaves open."""
         os.chdir(self.sources)
         sections, is_changed = read_sections(path), False
         for name in open_questions(self.program, [*self.settings, "--native-file", path, "--", self.folder], text):

@@ -66,7 +66,7 @@ def settings_of(words: list[str]) -> list[str]:
 
 
 def is_pipe(path: str) -> bool:
-    """Whether a machine file was a pipe or a device when it was read, so that it can't be read again."""
+    """Returns whether a machine file was a pipe or a device when it was read, so that it can't be read again."""
     return path.startswith(("/dev/", "/proc/")) or os.path.exists(path) and not os.path.isfile(path)
 
 

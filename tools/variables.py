@@ -5,7 +5,7 @@ from tools.ending import Stop
 
 
 def words_in(text: str, named: str) -> list[str]:
-    """The words of a text as a shell cuts them."""
+    """Returns the words of a text as a shell cuts them."""
     if not text:
         return []
     import shlex
@@ -24,5 +24,5 @@ def pkg_config() -> list[str]:
 
 
 def words_of(variable: str) -> list[str]:
-    """The words that a variable of the environment holds."""
+    """Returns the words that a variable of the environment holds."""
     return words_in(os.environ.get(variable, ""), variable)

@@ -11,15 +11,15 @@ KEYS = ["section", "key", "answer", "file", "line", "beside"]
 # A question up to its answer: its section, and its key where it has one.
 HEAD = re.compile(r"\[(?P<section>[^\]]*)\](?: (?P<key>.*?))?: ", re.S)
 
-# What may stand behind an answer: a place, and what the call said beside the question.
+# What may follow an answer: a place, and what else the call says.
 TAIL = re.compile(r"(?: at (?:(?P<file>[^:]+):)?(?P<line>\d+))?(?: beside (?P<beside>\{.*\}))?\Z", re.S)
 
-# What a case writes where nothing may be asked.
+# What a case writes if no question may come.
 NOTHING = "nothing"
 
 
 def compact(value: object) -> str:
-    """A value as the program writes it: no blank between its parts, the keys of objects in their order."""
+    """Returns a value as the program writes it: no blank between its parts, the keys of objects in their order."""
     return json.dumps(value, separators=(",", ":"), ensure_ascii=False)
 
 
@@ -34,7 +34,7 @@ class Question:
     place: tuple | None
 
     def fits(self, line: dict) -> bool:
-        """Whether a line tells this question."""
+        """Returns whether a line reports this question."""
         same = (self.section, self.key, self.answer, self.beside) == (
             line["section"], line["key"], compact(line["answer"]), compact(line["beside"]))
         return same and self.place in (None, (line["file"], line["line"]))
@@ -50,7 +50,7 @@ def text_of(section: str, key: str | None, answer: str, beside: str) -> str:
 
 
 def question_of(text: str) -> Question:
-    """The question that a text of a case is: '[SECTION] KEY: ANSWER', and behind it ' at PLACE' and ' beside {..}' where they are told."""
+    """Returns the question that a text of a case spells: `[SECTION] KEY: ANSWER`, perhaps followed by ` at PLACE` and ` beside {..}`."""
     decoder = json.JSONDecoder()
     start = re.match(r"\[[^\]]*\]", text)
     for colon in re.finditer(": ", text) if start else ():
@@ -68,12 +68,12 @@ def question_of(text: str) -> Question:
 
 
 def questions_of(texts: list) -> list:
-    """The questions of some texts; none for the word 'nothing' alone."""
+    """Returns the questions of some texts; none for the word 'nothing' alone."""
     return [] if texts == [NOTHING] else [question_of(it) for it in texts]
 
 
 def lines_of(log: bytes) -> list:
-    """The lines that a program wrote, each an object. ValueError where one has another form than all must have."""
+    """Returns the lines that a program wrote, each an object. ValueError where one has another form than all must have."""
     lines = []
     for number, text in enumerate(log.decode().splitlines(keepends=True), 1):
         line = json.loads(text)
@@ -84,7 +84,7 @@ def lines_of(log: bytes) -> list:
 
 
 def is_of_project(line: dict) -> bool:
-    """Whether the call of 'project' asked this, which is the first line of the root's file."""
+    """Returns whether this question is of the call of 'project', which is the first line of the root's file."""
     return (line["file"], line["line"]) == ("meson.build", 1)
 
 
@@ -93,7 +93,7 @@ def shown_line(line: dict) -> str:
 
 
 def differing_questions(wanted: list, came: list, name: str) -> list:
-    """Where the questions that came are not those that must come, in their order."""
+    """Returns where the questions that came are not those that must come, in their order."""
     for number, (question, line) in enumerate(zip(wanted, came), 1):
         if not question.fits(line):
             return [f"{name}, question {number}: this must come\n  {question}\nand this came\n  {shown_line(line)}"]
@@ -103,7 +103,8 @@ def differing_questions(wanted: list, came: list, name: str) -> list:
 
 
 def asked_differs(behind: list | None, of_project: list | None, log: bytes) -> list:
-    """What differs of the questions that a run told: those behind the call of 'project', and those of that call. A line is there once."""
+    """Returns what differs of the questions that a run reports: those after the call of 'project', and those of that call. A line occurs
+    once."""
     try:
         lines = lines_of(log)
     except ValueError as error:

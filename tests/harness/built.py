@@ -8,7 +8,7 @@ CHECKOUT = pathlib.Path(__file__).resolve().parents[2]
 
 
 def built_by(command: str, *words: str) -> str:
-    """What a command of the checkout prints that builds something."""
+    """Returns what a command of the checkout prints that builds something."""
     done = subprocess.run([CHECKOUT / command, *words], stdout=subprocess.PIPE, text=True)
     if done.returncode != 0:
         sys.exit(f"{command}: nothing was built")
@@ -16,11 +16,11 @@ def built_by(command: str, *words: str) -> str:
 
 
 def program_of_checkout() -> pathlib.Path:
-    """The path of the program."""
+    """Returns the path of the program."""
     built_by("meson", "--help")
     return CHECKOUT / "crates/hawkottoman/out/hawkottoman"
 
 
 def library_of_checkout() -> pathlib.Path:
-    """The path of libhawkottoman.so: the one that HAWKOTTOMAN_LIBRARY names, or that of this checkout."""
+    """Returns the path of libhawkottoman.so: the one that HAWKOTTOMAN_LIBRARY names, or that of this checkout."""
     return pathlib.Path(os.environ.get("HAWKOTTOMAN_LIBRARY") or built_by("tools/build-library").split()[-1]).resolve()

@@ -1,4 +1,4 @@
-"""Some runs of a program that begin at the same moment, and what is seen of their outputs while they are at work."""
+"""Runs a program several times at the same moment, and watches the outputs while these runs go on."""
 import dataclasses
 import os
 import subprocess

@@ -1,9 +1,9 @@
-/* Stands before the C library of a program that is tested (LD_PRELOAD), and has one of its calls fail, or does them otherwise, as the
+/* Replaces calls of the C library in a program under test (LD_PRELOAD), and makes one of these calls fail, or do something else, as the
  * environment says:
  *
  *   FAULTS_KIND    which calls are numbered for FAULTS_AT: memory, device (each call on files, folders and streams), put: a write into
  *                  a file that was made, or late: such a write that seems to succeed and is lost, so that the next fsync, fdatasync or
- *                  close of that file fails, as where a disk over a network or a quota tells only then what became of earlier writes
+ *                  close of that file fails, as when a network disk or a quota reports the failure of earlier writes only then
  *   FAULTS_AT      the number, from 1, of the call that fails once; the calls after it go on, but a put and all puts after it fail
  *   FAULTS_ERROR   the number of the error with which a call of a device fails; EIO where it is not set
  *   FAULTS_PIECE   the most bytes that one read or write moves
@@ -11,10 +11,10 @@
  *   FAULTS_COUNTS  a file of 32 bytes: how many calls of memory, of devices, late ones and writes were made so far
  *   FAULTS_TRACE   a file to which the paths are added that were looked at ('look PATH'), made ('make PATH'), synced ('sync PATH') and
  *                  renamed to ('end PATH'), the call that failed and the path that it is of ('fail NAME PATH'), each call of a device
- *                  that came after that ('after NAME PATH'), and the one that told of a write that was lost ('told NAME PATH')
+ *                  that came after that ('after NAME PATH'), and the one that reported a lost write ('told NAME PATH')
  *
- * Where none is set, nothing is changed. A path is told as the call has it, also where it begins at a folder that is open; of an open
- * file it is that with which it was opened, and of the standard streams '<1>' and '<2>'. */
+ * If none is set, nothing changes. The trace has a path as the call has it, even if it is relative to an open folder. For an open file it
+ * has the path with which the file was opened, and for the standard streams '<1>' and '<2>'. */
 #define _GNU_SOURCE
 #include <dirent.h>
 #include <dlfcn.h>
@@ -38,7 +38,7 @@ enum kind { MEMORY, DEVICE, LATE, PUT, KINDS };
 
 enum sync { AS_ASKED, NONE, ALL };
 
-/* An open file: its path, whether it was made, and whether a write into it was lost that nobody was told of. */
+/* An open file: its path, whether it was made, and whether a write into it was lost and not yet reported. */
 struct file {
     char path[PATH_MAX];
     int is_made, is_lost;
@@ -169,7 +169,7 @@ static int opened(int fd, const char *path, int flags)
     return fd;
 }
 
-/* Whether a call tells of a write that was lost; one does so. */
+/* Returns whether a call reports a lost write; only one call does. */
 static int is_told(int fd, const char *name)
 {
     struct file *file = file_of(fd);
@@ -181,7 +181,7 @@ static int is_told(int fd, const char *name)
     return 1;
 }
 
-/* The call of this name that stands behind this library. */
+/* The C library's own call of this name. */
 #define REAL(call) \
     static __typeof__(&call) real; \
     if (!real) \
@@ -399,7 +399,7 @@ int fdatasync(int fd)
     return fails_to_sync(fd, __func__) ? -1 : sync_how == NONE ? 0 : real(fd);
 }
 
-/* Syncs a file that is about to be renamed, where that is asked for. */
+/* Syncs a file before it is renamed, if FAULTS_SYNC is `all`. */
 static void sync_before_rename(const char *path)
 {
     if (sync_how != ALL)

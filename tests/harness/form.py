@@ -1,4 +1,4 @@
-"""The form of cases: reads the files of tests/cases, whose README.md says what stands in them."""
+"""Reads the files of tests/cases. Their README.md describes the form."""
 import dataclasses
 import itertools
 import os
@@ -10,7 +10,7 @@ HOLE = re.compile(r"…(\d?)")
 # Parts of a row of which each makes a row of its own: '‹a¦b¦c›'; in a result the part at the same place, or '‹1›' for the chosen one.
 CHOICE = re.compile(r"‹([^›]*)›")
 
-# What stands between a row and its result, and between the columns of a row.
+# The separators between a row and its result, and between the columns of a row.
 ARROW, COLUMN = " -> ", re.compile(r"(?:^| )\|(?: |$)")
 
 # The most bytes that one text of a case may have once it is written out.
@@ -61,7 +61,7 @@ class Case:
 
 
 def written_out(text, names):
-    """The bytes that a text stands for: what stands between « and » is written out, the rest is itself."""
+    """Returns the bytes that a text spells: `special` reads what is between « and », and the rest is itself."""
     made, at = bytearray(), 0
     while True:
         start = text.find("«", at)
@@ -81,7 +81,7 @@ def written_out(text, names):
 
 
 def special(inner, names):
-    """What stands between « and »: a name, bytes, or a text that is repeated."""
+    """Returns what the text between « and » spells: a name, bytes, or a text that is repeated."""
     if inner in names:
         return str(names[inner]).encode()
     if inner.startswith("x "):
@@ -110,14 +110,14 @@ def special(inner, names):
 
 
 def block(lines):
-    """The text of lines that were indented by two blanks, each with its end, without empty ones behind."""
+    """Returns the text of lines that were indented by two blanks, each with its newline, without empty lines at the end."""
     while lines and not lines[-1].strip():
         lines.pop()
     return "".join(line[2:] + "\n" for line in lines)
 
 
 def items_of(path, shown):
-    """The titles of a file of cases, each with its directives."""
+    """Returns the titles of a file of cases, each with its directives."""
     found = []
     with open(path, encoding="utf-8", newline="\n") as file:
         lines = file.read().split("\n")
@@ -146,7 +146,7 @@ def items_of(path, shown):
 
 
 def cases_of(path, group, shown):
-    """The cases of a file."""
+    """Returns the cases of a file."""
     cases = []
     for title, place, raw in items_of(path, shown):
         items, rows = [], None
@@ -168,7 +168,7 @@ def cases_of(path, group, shown):
 
 
 def rows_of(group, title, items, rows, shown):
-    """The cases of a table."""
+    """Returns the cases of a table."""
     text, content, place = rows
     if text not in ("", "printed"):
         raise FormError(f"{place}: rows are 'rows' or 'rows printed'")
@@ -198,7 +198,7 @@ def rows_of(group, title, items, rows, shown):
 
 
 def choices_of(source, result, place):
-    """The rows that a row stands for, each with its result: one for each of the parts between '‹' and '›', where it has some."""
+    """Returns the rows that a row abbreviates, each with its result: one for each of the parts between '‹' and '›', if it has any."""
     choices = [it.split("¦") for it in CHOICE.findall(source)]
     between = CHOICE.split(source)[::2]
     for numbers in itertools.product(*(range(len(parts)) for parts in choices)):
@@ -208,8 +208,8 @@ def choices_of(source, result, place):
 
 
 def part_of_result(inner, choices, numbers, place):
-    """What stands for '‹inner›' in a result: the chosen part of the choice with this number, or the part that stands at the same place as
-    the chosen one of the first choice of the row that has as many."""
+    """Returns the replacement of '‹inner›' in a result. It is the chosen part of the choice with this number, or the part at the same
+    place as the chosen one of the first choice of the row that has as many."""
     parts = inner.split("¦")
     if len(parts) == 1 and inner.isdigit() and 0 < int(inner) <= len(choices):
         return choices[int(inner) - 1][numbers[int(inner) - 1]]
@@ -227,7 +227,7 @@ def columns_of(source, count, place):
 
 
 def with_hole(items, prints, place):
-    """The directives of a table that shows no hole: it stands in a line of its own, the last of meson.build."""
+    """Returns the directives of a table that shows no hole: the hole is a line of its own, the last of meson.build."""
     line = "message(…)\n" if prints else "…\n"
     made = [dataclasses.replace(it, content=it.content + line) if it.word == "L2" else it for it in items]
     if any(it.word == "file" and it.text == "meson.build" for it in items):
@@ -236,12 +236,13 @@ def with_hole(items, prints, place):
 
 
 def fault_of(text):
-    """A fault that is written short, 'E6', 'E6 at 3', 'E5 at a/meson.build:3: name': number, place and what stands behind; or none."""
+    """Returns the parts of a fault in short form, 'E6', 'E6 at 3', 'E5 at a/meson.build:3: name': number, place and the text after them,
+    or none."""
     return re.fullmatch(r"E(\d+)(?: at ((?:[^:]+:)?\d+))?(?:: (.*))?", text.strip(), re.S)
 
 
 def groups_of(top):
-    """The groups below a folder, the name of each with its file: its path there, without '.txt'."""
+    """Returns the groups below a folder, the name of each with its file: its path there, without '.txt'."""
     found = {}
     for folder, folders, files in os.walk(top):
         folders.sort()

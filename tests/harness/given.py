@@ -1,4 +1,4 @@
-"""What a run of a case is given and must come to, and what came of it, on a disk and in memory alike."""
+"""Holds what a run of a case is given, what it must come to, and what came of it, on a disk and in memory alike."""
 import dataclasses
 import os
 
@@ -27,7 +27,7 @@ class Came:
     complaint: bytes
     outputs: dict
     looks: set = None
-    # What is no file below the folder of the build, and what it is; what changed of what has to stay.
+    # What is no file below the build directory, and what it is; what changed of what has to stay.
     others: dict = dataclasses.field(default_factory=dict)
     changes: list = dataclasses.field(default_factory=list)
     # The outputs that were begun, in their order; the call that failed, and whether a run may go on after that.
@@ -38,15 +38,15 @@ class Came:
     after: tuple = ()
     # How many calls of each kind were made.
     counts: dict = dataclasses.field(default_factory=dict)
-    # The events in their order, each a word and its bytes; none where the run doesn't show it.
+    # The events in their order, each a word and its bytes; none if the run doesn't show it.
     order: list | None = None
 
     def given_up(self):
-        """The outputs that were begun and not ended, where the run was traced: the disk has none of them."""
+        """Returns the outputs that were begun and not ended, where the run was traced: the disk has none of them."""
         return [it for it in self.begun if it not in self.outputs]
 
     def left_over(self):
-        """The unfinished files that are left, which the run has to remove, unless it is the call to remove one that failed."""
+        """Returns the unfinished files that are left, which the run has to remove, unless it is the call to remove one that failed."""
         return [it + UNENDED for it in self.begun if it + UNENDED in self.outputs and self.failed not in REMOVALS]
 
 
@@ -60,7 +60,7 @@ class Given:
         self.machine, self.build, self.inside, self.task = None, "build", "", b"setup"
         # What is no plain file: of each its kind, its path and what it leads to. Streams by their numbers; the folder that is locked.
         self.things, self.streams, self.locked, self.is_piped = [], {"closed": [], "full": []}, None, False
-        # How many bytes the outputs take, one a call, before a call fails; none where they take all.
+        # How many bytes the outputs take, one a call, before a call fails; none if they take all.
         self.taken = None
         self.expected = Expected()
         where = row_place(case.items, case.columns, self.names) if case.columns else None
@@ -124,7 +124,7 @@ class Given:
         self.things.append((word, path(place), path(target)))
 
     def expect_of_streams(self) -> None:
-        """Nothing comes of a stream that is closed or full."""
+        """Expects nothing from a stream that is closed or full."""
         shut = self.streams["closed"] + self.streams["full"]
         if 1 in shut:
             self.expected.log, self.expected.log_parts = b"", []
@@ -148,6 +148,6 @@ class Given:
             self.files[os.fsdecode(written_out(path, names))] = written_out(content, names)
 
     def is_of_build(self, path):
-        """Whether a path is the folder of the build, one above it, or something below it."""
+        """Returns whether a path is the build directory, one above it, or something below it."""
         path, build = path + "/", os.path.normpath(self.build) + "/"
         return path.startswith(build) or build.startswith(path)

@@ -6,7 +6,7 @@ from python import hawkottoman
 from tests.harness.given import Came, Given
 from tests.harness.judge import UNENDED
 
-# The folder of the sources, which no disk needs to have.
+# The source directory, which no disk needs to have.
 ROOT = "/s"
 
 # The most seconds that one run may take. Then the process ends and shows where it was, and no other case runs, so there are many.
@@ -20,7 +20,7 @@ class Memory(Given):
         super().__init__(case, ROOT)
 
     def is_whole(self):
-        """Whether memory has all that the case is about: nothing of it is of a disk, a device or the command line."""
+        """Returns whether memory has all that the case is about: no part of it needs a disk, a device or the command line."""
         of_disk = [self.things, self.folders, self.inside, self.locked, self.is_piped, *self.streams.values(), self.expected.stays]
         asked = [self.command, self.taken, self.expected.looks]
         # The command line reads `-D=1` as the value `1`.
@@ -30,7 +30,7 @@ class Memory(Given):
         return all(map(is_text, [*self.files, *map(os.fsdecode, self.words)])) and all(map(self.is_source, self.files))
 
     def is_source(self, path):
-        """Whether a path of a file is spelled as the definitions spell it, and is not of the folder of the build."""
+        """Returns whether a path of a file is spelled as the definitions spell it, and is not of the build directory."""
         return os.path.normpath(path) == path and not path.startswith(("/", "../")) and not self.is_of_build(path)
 
     def run(self, files=None, traced=False):
@@ -45,7 +45,7 @@ class Memory(Given):
 
 
 def is_text(text):
-    """Whether the library takes this as one of its texts."""
+    """Returns whether the library takes this as one of its texts."""
     try:
         return "\0" not in text and text.encode() is not None
     except UnicodeEncodeError:
@@ -53,7 +53,7 @@ def is_text(text):
 
 
 def came_of(run):
-    """What came of a run, as on a disk: an output that was begun and not ended stands beside its place."""
+    """Returns what came of a run, as on a disk: an output that was begun and not ended is next to its place."""
     order, name = [], b""
     for event in run.events:
         name = event.data if event.kind is hawkottoman.Kind.OPEN else name

@@ -7,7 +7,7 @@ import re
 from tests.harness.asked import asked_differs, questions_of
 from tests.harness.form import FormError, HOLE, fault_of, written_out
 
-# The words of each fault, behind its number.
+# The words of each fault, after its number.
 WORDS = {
     1: "not UTF-8", 2: "token", 3: "grammar", 4: "nesting over 64", 5: "undefined name", 6: "type in operator or condition",
     7: "number range or zero divisor", 8: "unknown function or method", 9: "arguments", 10: "index or key", 11: "duplicate",
@@ -26,13 +26,13 @@ FAULT_LINE = re.compile(rb"[^\n]+:[0-9]+: ERROR: E([0-9]+) [^\n]*\n")
 
 DOCUMENT = "meson-info/introspect.json"
 
-# The outputs that are synced before they are renamed. What is lost of others late is told by nobody.
+# The outputs that are synced before they are renamed. No call reports that a later write to the others was lost.
 SYNCED = ("build.ninja", DOCUMENT)
 
 # The events of a run: an output is begun, gets bytes and is ended; there are bytes of the log, and of a fault's line.
 EVENTS = ("open", "bytes", "close", "log", "fault")
 
-# What stands behind the name of an output that is begun and not ended: no output's name can have it, since '|' is refused there.
+# The suffix of an output that is begun and not ended. No output's name can end so, since '|' is refused there.
 UNENDED = "|new"
 
 
@@ -52,9 +52,9 @@ class Expected:
         self.looks = None
         # The events in their order, each a word and its bytes, or none where it may have any.
         self.order = None
-        # Whether the run tells its questions; the texts of those behind the call of 'project', and of those of that call.
+        # Whether the run reports its questions; the texts of those after the call of 'project', and of those of that call.
         self.tells, self.asked, self.asked_by_project = False, None, None
-        # What 'fault' tells in the log of the run's fault, where the case says so.
+        # What 'fault' writes to the log about the run's fault, if the case says so.
         self.about = None
         # The paths below which nothing may change.
         self.stays = []
@@ -151,7 +151,7 @@ class Expected:
         self.says = True
 
     def take_order(self, content, out):
-        """The events, one in a line; the log is that of its events."""
+        """Takes the expected events, one in a line; the log is that of its events."""
         self.says, self.order = True, []
         for line in content.splitlines():
             word, _, text = line.partition(" ")
@@ -162,7 +162,7 @@ class Expected:
         self.log = None if None in of_log else b"".join(of_log)
 
     def order_differs(self, came):
-        """What differs of the order of the events, where the case says it and the run shows it."""
+        """Returns what differs of the order of the events, where the case says it and the run shows it."""
         if self.order is None or came is None:
             return []
         pairs = itertools.zip_longest(self.order, came, fillvalue=("", b""))
@@ -171,7 +171,7 @@ class Expected:
         return differing("order", lines_of_events(wanted[: len(self.order)]), lines_of_events(came))
 
     def take_questions(self, text, content, out):
-        """Questions behind the call of 'project', or with the word 'project' those of that call; several directives add up."""
+        """Demands questions after the call of 'project', or with the word 'project' those of that call. Several directives add up."""
         self.says, self.tells, self.log = True, True, None
         lines = [it for it in content.split("\n") if it] or [out(text.replace("¶", "\n")).decode()]
         if text == "project" and content:
@@ -180,7 +180,7 @@ class Expected:
             self.asked = (self.asked or []) + lines
 
     def questions_differ(self, log):
-        """What differs of the questions told, where the case says which must come."""
+        """Returns what differs of the reported questions, if the case says which must come."""
         if not self.tells:
             return []
         wanted = [None if texts is None else questions_of(texts) for texts in (self.asked, self.asked_by_project)]
@@ -196,7 +196,7 @@ class Expected:
             raise FormError(f"'no {text}' is 'no out NAME' or 'no edge TEXT'")
 
     def differences(self, came):
-        """What differs, each a text of some lines; none where all is as it must be."""
+        """Returns what differs, each a text of some lines; none if all is as it must be."""
         found = [] if came.status == self.status else [f"status: {self.status} must come, and {came.status} came"]
         found += differing("log", self.log, came.log)
         found += parts_differ("log", self.log_parts, self.log_lacks, came.log)
@@ -270,7 +270,7 @@ class Expected:
 
 
 def shown(text):
-    """A text as it is shown: what can't be read by its number, long parts left out."""
+    """Returns a text as it is shown: what can't be read by its number, long parts left out."""
     text = text.decode("utf-8", "backslashreplace")
     text = "".join(c if c.isprintable() or c == "\n" else f"«x {c.encode('utf-8', 'replace').hex(' ')}»" for c in text)
     return text if len(text) < 4000 else f"{text[:2000]}\n[..]\n{text[-1500:]}"
@@ -282,13 +282,13 @@ def lines_of_events(order: list) -> bytes:
 
 
 def parts_differ(name: str, has: list, lacks: list, came: bytes) -> list:
-    """What a stream lacks of the parts that it must have, and has of those that it must not have."""
+    """Returns what a stream lacks of the parts that it must have, and has of those that it must not have."""
     found = [f"the {name} has no\n{shown(it)}\nit is\n{shown(came)}" for it in has if it not in came]
     return found + [f"the {name} has\n{shown(it)}\nit is\n{shown(came)}" for it in lacks if it in came]
 
 
 def differing(name, wanted, came):
-    """What differs between two texts: short ones one above the other, others line by line."""
+    """Returns what differs between two texts: short ones one above the other, others line by line."""
     if wanted is None or wanted == came:
         return []
     wanted, came = shown(wanted).removesuffix("\n").split("\n"), shown(came).removesuffix("\n").split("\n")
@@ -302,7 +302,7 @@ def differing(name, wanted, came):
 
 
 def row_place(items, columns, names):
-    """The place of the first hole of a table, as a fault tells it."""
+    """Returns the place of the first hole of a table, as a fault reports it."""
     word = 0
     for it in items:
         word += it.word == "word"
@@ -317,13 +317,13 @@ def row_place(items, columns, names):
 
 
 def filled(text, columns):
-    """A text of a table with a row's columns in its holes, and no newline behind its mark «end»."""
+    """Returns a text of a table with a row's columns in its holes, and no newline after its mark «end»."""
     text = HOLE.sub(lambda it: columns[int(it[1] or 1) - 1], text) if columns else text
     return text.removesuffix("«end»\n")
 
 
 def result_parts(case):
-    """The directives that a row's result stands for: a word and the rest of its line."""
+    """Returns the directives that a row's result abbreviates: a word and the rest of its line."""
     words = "log|fault|status|complaint|has|lacks|json|out|no|edge|looks|stays|asks|about"
     parts = re.split(rf" & (?=(?:ok$|E\d+(?:$| at |: )|(?:{words}) ))", case.result)
     made = []

@@ -1,4 +1,4 @@
-"""Runs a case over a folder of a build that has old outputs, with each call of a kind failing in turn: the status says what happened, each
+"""Runs a case over a build directory that has old outputs, with each call of a kind failing in turn: the status says what happened, each
 old output is as it was or the new one, whole, and the run that comes after makes all of them new."""
 import errno
 import os
@@ -14,7 +14,8 @@ LATE_ERRORS = (errno.EIO, errno.ENOSPC, errno.EDQUOT)
 NEVER_WHOLE = b"of a run before\n"
 
 def old_sets(whole) -> dict:
-    """The old outputs over which a case is run, by what they are: of other bytes, as long as those that come, and of the same bytes."""
+    """Returns the old outputs over which a case is run, by what they are: of other bytes, as long as those that come, and of the same
+    bytes."""
     names = {*whole.begun, "build.ninja", DOCUMENT}
     ended = {name: whole.outputs[name] for name in names if whole.outputs.get(name)}
     other = {name: ended[name][:-1] + b"?" if name in ended else NEVER_WHOLE for name in names}
@@ -33,13 +34,13 @@ def put_old(room, old: dict) -> None:
 
 
 def times(room, names: set) -> dict:
-    """When outputs that are there were written."""
+    """Returns when existing outputs were written."""
     paths = {name: os.path.join(room.build_folder(), name) for name in names}
     return {name: int(os.stat(path).st_mtime) for name, path in paths.items() if os.path.exists(path)}
 
 
 def each_fails_over_old(room, whole, kind: str, share: int, shares: int) -> list:
-    """What is wrong with the first such run that isn't right."""
+    """Returns what is wrong with the first such run that isn't right."""
     for which, old in old_sets(whole).items():
         put_old(room, old)
         calls = room.run_here(traced=True).counts[kind]
@@ -62,12 +63,12 @@ def each_fails_over_old(room, whole, kind: str, share: int, shares: int) -> list
 
 
 def in_place(outputs: dict) -> dict:
-    """The outputs that are not beside their places."""
+    """Returns the outputs in their places, without the unfinished ones next to them."""
     return {name: data for name, data in outputs.items() if not name.endswith(UNENDED)}
 
 
 def why_not_kept(came, stamps: dict, old: dict, whole, kind: str) -> str | None:
-    """Why a run in which a call failed is none that keeps old outputs and says so, if it is none."""
+    """Returns why a run in which a call failed is none that keeps old outputs and says so, if it is none."""
     after = {**old, **in_place(whole.outputs)}
     said_the_same = (came.status, came.log, came.complaint) == (whole.status, whole.log, whole.complaint)
     if said_the_same and in_place(came.outputs) == after and (came.may_go_on or kind == "late"):
@@ -89,7 +90,7 @@ def why_not_kept(came, stamps: dict, old: dict, whole, kind: str) -> str | None:
 
 
 def why_not_mended(room, old: dict, whole) -> str | None:
-    """Why the run that comes after, in which nothing fails, doesn't make all outputs new, if it does not."""
+    """Returns why the run that comes after, in which nothing fails, doesn't make all outputs new, if it does not."""
     came = room.run_here()
     wanted = {**old, **whole.outputs}
     if (came.status, came.log, came.complaint) != (whole.status, whole.log, whole.complaint):

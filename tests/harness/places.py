@@ -1,5 +1,5 @@
-"""What stands at places of a disk and is no plain file, as links, FIFOs and sockets: it is made, told and compared; and streams that are
-closed or full."""
+"""Makes, describes and compares what is at places of a disk and is no plain file, such as links, FIFOs and sockets. Also closes and
+fills streams."""
 import fcntl
 import os
 import stat
@@ -15,7 +15,7 @@ KINDS = {
 
 
 def kind_of(path: str) -> str:
-    """What stands at a path itself: a link is not followed; nothing where nothing is there."""
+    """Returns the kind of what is at a path, without following a link; 'nothing' if nothing is there."""
     try:
         return KINDS[stat.S_IFMT(os.lstat(path).st_mode)]
     except (FileNotFoundError, NotADirectoryError):
@@ -23,7 +23,7 @@ def kind_of(path: str) -> str:
 
 
 def make_thing(kind: str, path: str, target: str = "") -> None:
-    """Makes a link, a hard link, a FIFO or a socket at a path, and the folders above it; not where something stands."""
+    """Makes a link, a hard link, a FIFO or a socket at a path, and the folders above it. Keeps what is there already."""
     os.makedirs(os.path.dirname(path), exist_ok=True)
     if kind_of(path) != "nothing":
         return
@@ -38,7 +38,7 @@ def make_thing(kind: str, path: str, target: str = "") -> None:
 
 
 def state_of(path: str) -> tuple:
-    """What stands at a path: its kind, and a file's bytes or what a link says."""
+    """Returns what is at a path: its kind, and a file's bytes or a link's target."""
     kind = kind_of(path)
     if kind == "file":
         with open(path, "rb") as file:
@@ -47,7 +47,7 @@ def state_of(path: str) -> tuple:
 
 
 def states_below(top: str) -> dict:
-    """What stands at a path and at all paths below it, none of which is reached by a link."""
+    """Returns what is at a path and at all paths below it, none of which is reached by a link."""
     found = {top: state_of(top)}
     for folder, folders, names in os.walk(top):
         found.update((path, state_of(path)) for path in (os.path.join(folder, name) for name in folders + names))
@@ -55,7 +55,7 @@ def states_below(top: str) -> dict:
 
 
 def changes(before: dict, after: dict) -> list:
-    """What changed between two states, a line for each path."""
+    """Returns what changed between two states, a line for each path."""
     nothing = ("nothing", "")
     told = lambda states, path: f"{states.get(path, nothing)[0]} {states.get(path, nothing)[1][:60]!r}"
     paths = sorted(path for path in before.keys() | after.keys() if before.get(path, nothing) != after.get(path, nothing))
@@ -63,7 +63,7 @@ def changes(before: dict, after: dict) -> list:
 
 
 def stream_changer(closed: list, full: list) -> Callable | None:
-    """What a process does with its streams before a program begins: closes those of these numbers, and has others take no byte."""
+    """Returns what a process does with its streams before a program begins: closes those of these numbers, and has others take no byte."""
     def change() -> None:
         for number in full:
             device = os.open("/dev/full", os.O_WRONLY)
@@ -90,7 +90,7 @@ def locked(folder: str | None) -> Iterator[None]:
 
 @contextmanager
 def pipe_of(data: bytes | None) -> Iterator[tuple]:
-    """A pipe that gives these bytes, as the numbers that a program has to be handed; none where no bytes are given."""
+    """Returns a pipe that gives these bytes, as the numbers that a program has to be handed; none if no bytes are given."""
     if data is None:
         yield ()
         return

@@ -48,7 +48,7 @@ class Room(Given):
         self.folder, self.program, self.library = folder, program, library
 
     def line(self, pipe=()):
-        """The words of the command line; a machine file that comes through a pipe has that pipe's number."""
+        """Returns the words of the command line; a machine file that comes through a pipe has that pipe's number."""
         if self.command is not None:
             return self.command
         line = [self.task, *self.words]
@@ -107,14 +107,14 @@ class Room(Given):
         return came
 
     def what_stays(self):
-        """What stands at the paths at which nothing may change, and below them."""
+        """Returns what is at the paths at which nothing may change, and below them."""
         return {path: it for top in self.expected.stays for path, it in states_below(os.path.join(self.root, top)).items()}
 
     def build_folder(self):
         return os.path.join(self.root, self.inside, self.build)
 
     def outputs(self):
-        """The files below the folder of the build, by their paths there; no looks; and what is none of these, nor a folder."""
+        """Returns the files below the build directory, by their paths there; no looks; and what is none of these, nor a folder."""
         found, others, top = {}, {}, self.build_folder()
         for folder, folders, names in os.walk(top):
             for path in (os.path.join(folder, name) for name in folders + names):
@@ -132,7 +132,7 @@ class Room(Given):
         # The sources are looked at below the current folder.
         below = [os.path.join(self.root, self.inside, path.removeprefix("./")).removeprefix(self.root + "/") for _, path in lines]
         looks = [path for (word, _), path in zip(lines, below) if word == "look"]
-        # The machine file lies beside the sources.
+        # The machine file is next to the sources.
         came.looks = {path for path in looks if not path.startswith(("/", "../")) and not self.is_of_build(path)}
         made = [path.removeprefix(f"{self.build}/") for (word, _), path in zip(lines, below) if word == "make"]
         came.begun = tuple(dict.fromkeys(path.removesuffix(UNENDED) for path in made))
@@ -146,9 +146,9 @@ class Room(Given):
         came.order = order_of(came)
 
     def may_go_on(self, failed, path, begun):
-        """Whether a run may end as if the call of this name on this path had not failed."""
-        # Nobody is told that a file could not be closed, since what it holds is known as written before, nor that a folder could not be
-        # made which is there, nor that what stood beside an output could not be removed where nothing stood there.
+        """Returns whether a run may end as if the call of this name on this path had not failed."""
+        # A run reports no failure to close a file, since its content was written before; nor to make a folder that exists; nor to remove an
+        # old file next to an output if none was there.
         if failed in ("close", "mkdir", *REMOVALS):
             return True
         # A list that is collected is given room by a guess first, and where that is refused, by what comes: a run that came to just what
@@ -161,7 +161,7 @@ class Room(Given):
 
 
 def parts_of(case, jobs):
-    """The parts in which a case is run: the run itself, and each further run that it asks for, the long ones in so many shares."""
+    """Returns the parts in which a case is run: the run itself, and each further run that it asks for, the long ones in so many shares."""
     parts = [("", "", 0, 1)]
     for it in case.items:
         if it.word == "cut":
@@ -174,7 +174,8 @@ def parts_of(case, jobs):
 
 
 def failing_parts(text, jobs):
-    """The parts of a directive 'fail': its kinds of calls, and what is looked for in these runs, or that they are over old outputs."""
+    """Yields the parts of a directive 'fail': its kinds of calls, and what is looked for in these runs, or that they are over old
+    outputs."""
     text, begun, output = text.partition(" begun ")
     kinds = (" " + text).removesuffix(OVER_OLD)
     over = (" " + text)[len(kinds) :]
@@ -186,8 +187,8 @@ def failing_parts(text, jobs):
 
 
 def run_case(case, part, means, is_sampled):
-    """Runs a part of a case: through the library where memory has all of it, by the program where it has not, and both ways where the case
-    is of the sample. The answer is for each of these ways what differs: nothing where it is right."""
+    """Runs a part of a case: through the library if memory has all of it, by the program if not, and both ways if the case is of the
+    sample. Returns what differs for each of these ways: nothing if it is right."""
     found = {}
     memory = in_memory(case, part) if means.has_library else None
     if memory is not None:
@@ -199,7 +200,7 @@ def run_case(case, part, means, is_sampled):
 
 
 def in_memory(case, part):
-    """The case in memory, or none where this part of it needs the disk."""
+    """Returns the case in memory, or None if this part of it needs the disk."""
     try:
         memory = Memory(case) if not part[0] or part[0].startswith("cut") else None
     except (FormError, ValueError):
@@ -209,7 +210,7 @@ def in_memory(case, part):
 
 
 def judged(part, room_of):
-    """What differs of a part of a case, which is run in the room that is made."""
+    """Returns what differs of a part of a case, which is run in the room that is made."""
     label, text, share, shares = part
     try:
         room = room_of()
@@ -243,12 +244,13 @@ def as_it_is(room):
 
 
 def is_traced(expected):
-    """Whether a run shows what is expected only if its calls are traced: looks, the order of events, and outputs that it gives up."""
+    """Returns whether a run shows what is expected only if its calls are traced: looks, the order of events, and outputs that it gives
+    up."""
     return expected.looks is not None or expected.order is not None or (expected.status != 0 and expected.outputs != [])
 
 
 def told_otherwise(room, whole):
-    """Where 'fault' doesn't tell the fault of the whole run and what it is about, or writes something."""
+    """Returns where 'fault' does not report the fault of the whole run with its detail, or writes something."""
     room.task = b"fault"
     if room.command and room.command[0] == b"setup":
         room.command[0] = room.task
@@ -259,7 +261,7 @@ def told_otherwise(room, whole):
 
 
 def cut(room, path, share, shares):
-    """Each front of a file gives status 0, or a fault line and status 1."""
+    """Checks that each beginning of a file gives status 0, or a fault line and status 1."""
     data = room.files[path]
     for end in range(share, len(data) + 1, shares):
         came = room.run({**room.files, path: data[:end]})
@@ -270,7 +272,7 @@ def cut(room, path, share, shares):
 
 
 def over_present(room, whole):
-    """The same comes over a tree that holds only the files that the document lists as present, and nothing else is looked at."""
+    """Checks that the run is the same over a tree with only the files that the document lists as present, and looks at nothing else."""
     files = json.loads(whole.outputs[DOCUMENT])["buildsystem_files"]
     came = room.run({it: room.files.get(it, b"") for it in files["present"]}, traced=True)
     found = []
@@ -282,14 +284,15 @@ def over_present(room, whole):
 
 
 def in_pieces(room, whole, piece):
-    """The same comes where each read and write moves at most so many bytes."""
+    """Checks that the run is the same if each read and write moves at most so many bytes."""
     came = room.run(piece=piece)
     same = (came.status, came.log, came.complaint, came.outputs) == (whole.status, whole.log, whole.complaint, whole.outputs)
     return [] if same else [f"another run came: status {came.status}, and it said\n{shown(came.complaint)}"]
 
 
 def each_fails(room, whole, kind, share, shares):
-    """Whichever call of a kind fails, a beginning of the whole run comes, with that kind's status; one of them where 'begun' says so."""
+    """Checks that a beginning of the whole run comes, with the kind's status, whichever call of a kind fails. One of them has to come if
+    'begun' says so."""
     kind, _, begun = kind.partition(" begun ")
     is_seen = not begun
     calls = whole.counts[kind]
@@ -305,11 +308,11 @@ def each_fails(room, whole, kind, share, shares):
 
 
 def differs_from_failing(came, whole, kind):
-    """Why what came is not what a run comes to in which a call of this kind fails, if it is not."""
+    """Returns why what came is not what a run comes to in which a call of this kind fails, if it is not."""
     said_the_same = (came.status, came.log, came.complaint) == (whole.status, whole.log, whole.complaint)
     if said_the_same and in_place(came.outputs) == in_place(whole.outputs) and came.may_go_on:
         return None
-    # Want of memory in a call of a device is a device fault.
+    # If a call of a device runs out of memory, that is a device fault.
     statuses = (3, 2) if kind == "memory" else (2,)
     if came.status not in statuses:
         return f"status {' or '.join(map(str, statuses))} must come, and {came.status} came"
@@ -327,15 +330,15 @@ def differs_from_failing(came, whole, kind):
 
 
 def is_of_the_end(call):
-    """Whether a call, which is told with its path, may come after one that failed: what was taken before is written, the end is told,
-    files are closed, and an unfinished one is removed. Nothing is looked at, read, made, synced or renamed any more."""
+    """Returns whether a call, with its path, may come after one that failed. The run writes what was taken before, reports its end,
+    closes files, and removes an unfinished one. It looks at, reads, makes, syncs and renames nothing any more."""
     name, _, path = call.partition(" ")
     return name in ("write", "close") or (name in REMOVALS and path.endswith(UNENDED))
 
 
 def order_of(came):
-    """The events of a run on a disk in their order: outputs as they were begun, then the fault. Where the log comes between isn't seen, nor
-    what was written of an output that was given up."""
+    """Returns the events of a run on a disk in their order: outputs as they were begun, then the fault. Where the log comes between
+    isn't seen, nor what was written of an output that was given up."""
     if came.log or came.given_up():
         return None
     order = []
@@ -347,7 +350,8 @@ def order_of(came):
 
 
 def why_no_beginning(came, whole, order):
-    """Why the outputs in their places are no beginning of those of the whole run, which were begun in this order, if they are not."""
+    """Returns why the outputs in their places are no beginning of those of the whole run, which were begun in this order, if they are
+    not."""
     for name, text in came.items():
         if whole.get(name) != text:
             return f"the output {name} is not that of the whole run:\n{shown(text)}"

@@ -1,4 +1,4 @@
-# Builds a package's expression without nixpkgs: what `stdenv.mkDerivation` does in a build, as far as the phases are given as text.
+# Builds a package's expression without nixpkgs: what `stdenv.mkDerivation` does in a build for the phases that are given as text.
 # `package` is its folder, `tools` the prefix of the installed copy, `hook` its hook, `path` where the other tools are.
 { package, tools, path, hook }:
 let

@@ -44,7 +44,7 @@ class Names:
 
 
 def is_between(word: str, before: str, after: str) -> bool:
-    """Whether a `*` matches what is between the beginning of a word and this end."""
+    """Returns whether a `*` matches what is between the beginning of a word and this end."""
     rest = word[len(before):]
     return rest.endswith(after) and STARRED.issuperset(rest[:len(rest) - len(after)])
 
@@ -66,7 +66,7 @@ KNOWN = read_tables()
 
 
 def is_package(name: str) -> bool:
-    """Whether pkg-config looks up this name, and reads no file that it names."""
+    """Returns whether pkg-config looks up this name, and reads no file that it names."""
     return PACKAGE.fullmatch(name) is not None and not name.endswith(".pc")
 
 
@@ -76,7 +76,7 @@ class Allowed:
     sources: tuple[str, ...]
 
     def refused(self, words: list[str] | tuple[str, ...]) -> str | None:
-        """Returns the first word that a compiler is not given; none where all are."""
+        """Returns the first word that a compiler is not given; none if all are."""
         waiting = iter(words)
         for word in waiting:
             form = TAKES_NEXT.get(word)
@@ -88,7 +88,7 @@ class Allowed:
         return None
 
     def is_allowed(self, word: str) -> bool:
-        """Whether a word can be given alone."""
+        """Returns whether a word can be given alone."""
         if FORMS.fullmatch(word) or word in KNOWN["words"] or is_attached(word):
             return True
         if is_named(word, "-f", "f") or is_named(word, "-m", "m"):
@@ -101,7 +101,7 @@ class Allowed:
         return self.is_outside(word) if LIBRARY.fullmatch(word) else is_linker_word(word)
 
     def is_outside(self, path: str) -> bool:
-        """Whether an absolute path is none of the project's files and folders."""
+        """Returns whether an absolute path is none of the project's files and folders."""
         if not os.path.isabs(path) or "\0" in path:
             return False
         roots = map(os.path.realpath, self.sources)
@@ -109,12 +109,12 @@ class Allowed:
 
 
 def is_attached(word: str) -> bool:
-    """Whether a word is a folder of headers with its option."""
+    """Returns whether a word is a folder of headers with its option."""
     return any(word.startswith(it) and TAKES_NEXT[it].fullmatch(word, len(it)) for it in OF_FOLDERS)
 
 
 def is_named(word: str, option: str, table: str) -> bool:
-    """Whether a word is this option with a name of the table, perhaps denied, perhaps with a value."""
+    """Returns whether a word is this option with a name of the table, perhaps denied, perhaps with a value."""
     if not word.startswith(option):
         return False
     name, _, value = word.removeprefix(option).partition("=")
@@ -122,7 +122,7 @@ def is_named(word: str, option: str, table: str) -> bool:
 
 
 def is_linker_word(word: str) -> bool:
-    """Whether a word hands only known options on to the linker."""
+    """Returns whether a word hands only known options on to the linker."""
     first, *parts = word.split(",")
     if first != "-Wl" or not parts:
         return False

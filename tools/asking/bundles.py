@@ -1,13 +1,13 @@
-"""Checks that are asked together: one compilation, link or preprocessor run answers many.
+"""Runs checks together: one compilation, link or preprocessor run answers many.
 
-Two checks are asked together where they have the same words and the same text before them. A bundle gives an answer only where a run
-for this check alone would give the same beyond doubt:
+Two checks run together if they have the same arguments and the same text before them. A bundle gives an answer only if a run for this
+check alone would surely give the same:
 
-- true, where the compiler accepts a source that holds this check and others;
-- false, where an error at the lines of this check, or the linker, names what is missing;
-- a number, where the linked program holds its digits.
+- true, if the compiler accepts a source that holds this check and others;
+- false, if an error at the lines of this check, or the linker, names what is missing;
+- a number, if the linked program holds its digits.
 
-Every other check has to be asked alone.
+Every other check has to run alone.
 """
 import os
 import re
@@ -64,19 +64,19 @@ Answers = dict[Check, bool | int]
 
 
 def argument_of(check: Check) -> str:
-    """The first argument."""
+    """Returns the first argument."""
     return arguments_of(check.key)[1][0]
 
 
 def is_closed(prefix: str) -> bool:
-    """Whether a text consists of whole directives, so that what follows it is read as it is written."""
+    """Returns whether a text consists of whole directives, so that what follows it is read as it is written."""
     lines = prefix.split("\n")
     opens = sum(re.match(r"\s*#\s*if", it) is not None for it in lines)
     return all(re.fullmatch(LINE, it) for it in lines) and opens == sum(re.match(r"\s*#\s*endif", it) is not None for it in lines)
 
 
 def set_of(check: Check) -> tuple[str, str, Flags] | None:
-    """Returns the set whose checks are asked together: its family, what is before them, their flags. None if a check is asked alone."""
+    """Returns the set whose checks run together: its family, what is before them, their flags. None if a check runs alone."""
     method, (a, b) = arguments_of(check.key)[0], (*arguments_of(check.key)[1], "")[:2]
     if method == "has_argument" and re.fullmatch(FREE, a):
         return method, "", Flags()
@@ -95,7 +95,7 @@ def set_of(check: Check) -> tuple[str, str, Flags] | None:
 
 
 def bundles_of(checks: list[Check]) -> tuple[list[list[Check]], list[Check]]:
-    """The sets of these checks, and those that are asked alone."""
+    """Returns the sets of these checks, and those that run alone."""
     sets: dict[tuple[str, str, Flags], list[Check]] = {}
     alone = []
     for check in checks:
@@ -110,7 +110,7 @@ def bundles_of(checks: list[Check]) -> tuple[list[list[Check]], list[Check]]:
 
 
 def ask_together(compiler: Compiler, bundle: list[Check]) -> Answers:
-    """What one set of checks settles."""
+    """Returns what one set of checks settles."""
     which = set_of(bundle[0])
     assert which is not None
     family, before, flags = which
@@ -175,7 +175,7 @@ class Unit:
         return f"{self.mark}_{self.bundle.index(check)}"
 
     def accepted(self, mode: str, source: Callable[[list[Check]], str]) -> tuple[list[Check], bytes]:
-        """The checks that are accepted together, and what is made of them."""
+        """Returns the checks that are accepted together, and what is made of them."""
         left = list(self.bundle)
         for _ in range(ROUNDS):
             if not left:
@@ -194,7 +194,7 @@ class Unit:
         return f"#line 1 \"{self.name(check)}\"\n{text}\n"
 
     def refused(self, said: str) -> dict[str, bool] | None:
-        """By the name of a check whether its first error names what is missing. None where an error is none of the checks'."""
+        """Returns, by the name of a check, whether its first error names what is missing. None if an error belongs to no check."""
         checks = {self.name(it): it for it in self.bundle}
         by_function = {argument_of(it): self.name(it) for it in self.bundle}
         found: dict[str, bool] = {}
@@ -215,7 +215,7 @@ class Unit:
 
 
 def is_understood(said: str, check: Check) -> bool:
-    """Whether an error says that a name is not known that this check asks for."""
+    """Returns whether an error says that a name is not known that this check asks for."""
     match = re.match(NOT_KNOWN, said)
     if not match:
         return re.match(NOT_COMPLETE, said) is not None
@@ -236,7 +236,7 @@ def ask_compilation(unit: Unit, before: str) -> Answers:
 
 
 def ask_numbers(unit: Unit, method: str, before: str) -> Answers:
-    """Numbers whose digits a linked program holds behind a mark."""
+    """Returns the numbers whose digits a linked program holds after a mark."""
     expression, text, kind = NUMBERS[method]
 
     def block(check: Check) -> str:
@@ -276,7 +276,7 @@ def ask_functions(unit: Unit, before: str) -> Answers:
 
 
 def ask_builtins(unit: Unit, before: str) -> Answers:
-    """Of functions that can't be linked, which the compiler has itself, where it says so: then the rest alone is left to be linked."""
+    """Returns the functions of a failed link that the compiler has itself, if it says so; then the rest is linked without them."""
     tests = [BUILTIN_TEST.format(mark=unit.mark, **names_of_function(argument_of(it), before)) for it in unit.missing]
     *is_builtin, says_so = marked(unit.compiler, before, unit.flags, [*tests, "#ifdef __has_builtin"])
     found = {check: it for check, it in zip(unit.missing, is_builtin) if it is not None}

@@ -26,7 +26,7 @@ FREE = {"PWD", "OLDPWD", "SHLVL", "_", "TERM", "COLUMNS", "LINES", "HOSTNAME", "
 
 
 def cache_path() -> str | None:
-    """Where answers are kept; none where the environment names no such place."""
+    """Returns where answers are kept; None if the environment names no such place."""
     base = os.environ.get("XDG_CACHE_HOME", "")
     if not os.path.isabs(base):
         home = os.environ.get("HOME", "")
@@ -35,7 +35,7 @@ def cache_path() -> str | None:
 
 
 def label_of(question: object) -> str:
-    """A question with the environment, as a short name."""
+    """Returns a question with the environment, as a short name."""
     around = sorted((name, it) for name, it in os.environ.items() if name not in FREE)
     return blake2b(json.dumps([FORM, question, around]).encode(), digest_size=16).hexdigest()
 
@@ -73,7 +73,7 @@ class Kept:
 
 
 def read_own(path: str) -> bytes:
-    """The bytes of a file that is the user's own; none of another, or of one that is too great."""
+    """Returns the bytes of a file that is the user's own; none of another, or of one that is too great."""
     try:
         with open(os.open(path, os.O_RDONLY | os.O_NOFOLLOW | os.O_NONBLOCK | os.O_CLOEXEC), "rb") as it:
             found = os.fstat(it.fileno())
@@ -97,7 +97,7 @@ class Cache:
         return self.now[path]
 
     def get(self, label: str) -> tuple[object, bool]:
-        """A kept answer, and whether there is one that is still good."""
+        """Returns a kept answer, and whether there is one that is still good."""
         found, number = self.kept.answers.get(label, (None, -1))
         if number < 0:
             return None, False
@@ -113,7 +113,7 @@ class Cache:
             self.new.append((stamps, answers))
 
     def save(self) -> None:
-        """Writes what is new, beside what others have kept meanwhile; the file is replaced as a whole."""
+        """Writes the new answers, together with those that other runs have kept meanwhile. Replaces the file as a whole."""
         if not self.path or not self.new:
             return
         kept = Kept(read_own(self.path))

@@ -38,7 +38,7 @@ METHODS = (*SOURCES, *NUMBERS, *OF_WORDS, "has_function")
 
 
 def arguments_of(key: str) -> tuple[str, list[str]]:
-    """The method and the arguments of a key of `[checks]`."""
+    """Returns the method and the arguments of a key of `[checks]`."""
     method, _, rest = key.partition(" ")
     return method, rest.rsplit(" ", 1) if method in OF_TWO else [rest]
 
@@ -63,14 +63,14 @@ def answer(compiler: Compiler, key: str, prefix: str = "", flags: Flags = Flags(
 
 
 def words_to_try(word: str) -> list[str]:
-    """A word, behind that of the warning which it leaves out: GCC takes the one where it knows no such warning either."""
+    """Returns the arguments to try for one: GCC accepts an unknown -Wno-NAME without an error, so -WNAME comes before it."""
     if not word.startswith("-Wno-") or word.startswith("-Wno-attributes="):
         return [word]
     return ["-W" + word[5:], word]
 
 
 def has_function(compiler: Compiler, name: str, prefix: str, flags: Flags) -> bool:
-    """Whether it can be linked or, as a builtin, needn't be."""
+    """Returns whether it can be linked or, as a builtin, needn't be."""
     names = names_of_function(name, prefix)
     return any(compiler.takes("link", it.format(**names), flags) for it in (DECLARED if "#include" in prefix else UNDECLARED, BUILTIN))
 
@@ -83,7 +83,7 @@ def names_of_function(name: str, prefix: str) -> dict[str, object]:
 
 
 def number(compiler: Compiler, expression: str, before: str, flags: Flags) -> int:
-    """The value of a constant, or -1 where the compiler knows none: found by halves, with a compilation for each question."""
+    """Returns the value of a constant, or -1 where the compiler knows none: found by halves, with a compilation for each question."""
     # A program that shows it has to be linked, as in the real Meson, and is not run.
     if not compiler.takes("link", f'{before}\nint main(void) {{ printf("%ld", {expression}); return 0; }}', flags):
         return -1

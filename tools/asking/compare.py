@@ -11,7 +11,7 @@ ABSENT = object()
 
 
 def value_of(text: str) -> object:
-    """The value that a line of a machine file gives to its key; its text where it is none."""
+    """Returns the value that a line of a machine file gives to its key; its text where it is none."""
     import ast
     plain = {"true": True, "false": False}
     try:
@@ -21,7 +21,7 @@ def value_of(text: str) -> object:
 
 
 def read_sections(path: str) -> Sections:
-    """The sections of a machine file, each with its keys and their values."""
+    """Returns the sections of a machine file, each with its keys and their values."""
     sections: Sections = {}
     try:
         lines = read_text(path).split("\n")
@@ -44,12 +44,12 @@ def shown(value: object) -> str:
 
 
 def as_list(value: object) -> object:
-    """A text and a list of it alone mean the same."""
+    """Returns the form in which a text and a list with only this text are equal."""
     return [value] if isinstance(value, str) else value
 
 
 def differences(path: str, known: Sections) -> list[str]:
-    """What would change if the file were written now: a line for each key that this machine answers otherwise."""
+    """Returns what would change if the file were written now: a line for each key that this machine answers otherwise."""
     said, found = read_sections(path), []
     for title, answers in known.items():
         of_file = said.get(title, {})
@@ -64,7 +64,7 @@ def differences(path: str, known: Sections) -> list[str]:
 
 
 def gone(path: str, absent: set[str]) -> list[str]:
-    """What the file has and this machine no longer: programs and dependencies, by the names that questions have."""
+    """Returns what the file has and this machine no longer: programs and dependencies, by the names that questions have."""
     said = read_sections(path)
     names = {**{it: f"[{it}]" for it in said}, **{f"program {it}": f"[binaries] {it}" for it in said.get("binaries", {})}}
     return [f"{names[it]}: is in the file, and this machine has none" for it in sorted(absent & set(names))]

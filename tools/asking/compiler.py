@@ -1,8 +1,8 @@
-"""The C compiler: which it is, the flags in use, and whether it takes a source.
+"""Runs the C compiler: finds which it is, the flags in use, and whether it accepts a source.
 
-What is compiled is the text of a project that nobody has to trust, and what comes of it is not run. Each source has a folder of its own,
-the current one, and the last words name the output in it. The words of a project are those of an allowlist (allowed.py), and the compiler
-runs in a sandbox (sandbox.py).
+The compiler reads the text of a project that nobody has to trust, and no result is run. Each source has a folder of its own, the current
+one, and the last arguments name the output in it. The arguments of a project are those of an allowlist (allowed.py), and the compiler runs
+in a sandbox (sandbox.py).
 """
 import functools
 import os
@@ -29,12 +29,12 @@ from tools.variables import pkg_config, words_of
 TOOLS = ("cc1", "as", "collect2", "ld")
 OF_INTEREST = ("__clang__", "__GNUC__", "__VERSION__", "__x86_64__", "__BYTE_ORDER__")
 MAIN = "int main(void) { return 0; }"
-# Included first, so that no header of the project is the first one: in place of that GCC would load a precompiled header beside it, whose
+# Included first, so that no header of the project is the first one: in its place GCC would load a precompiled header next to it, whose
 # bytes it trusts.
 INCLUDED_FIRST = ["-include", os.devnull]
 ASSEMBLY = (".s", ".S")
-# Behind the words of a check, and of a project: a word of the linker that changes nothing, so that an option there, which takes the next
-# word as the name of a file to be written, has none of the compiler's own files.
+# Comes after the arguments of a check and of a project, and changes nothing. If the last of these takes the next argument as the name of
+# a file to write, it gets this one, and none of the compiler's own files.
 GUARD = "-Wl,-O0"
 MOST_BYTES = 1 << 26  # of a program that holds answers
 ALL_SECONDS = 1800  # that all commands may take together: a project can ask any number of questions
@@ -46,13 +46,13 @@ OF_CLANG_THAT_COMPILES = ["-Werror=unknown-warning-option", "-Werror=unused-comm
 
 @functools.cache
 def identity(words: tuple[str, ...]) -> tuple[object, ...]:
-    """Which program these words are."""
+    """Returns which program these arguments run."""
     path = os.path.realpath(shutil.which(words[0]) or words[0])
     return (words, path, stamp_of(path), run([*words, "--version"]).printed)
 
 
 def bytes_made(path: str) -> bytes:
-    """The bytes of a file that the compiler has made; none where it has made none, or more than a check is answered by."""
+    """Returns the bytes of a file that the compiler has made; none if it has made none, or more than a check is answered by."""
     try:
         return read_bytes(path, MOST_BYTES)
     except OSError:
@@ -61,7 +61,8 @@ def bytes_made(path: str) -> bytes:
 
 @dataclasses.dataclass(frozen=True)
 class Flags:
-    """Words beside those in use: the arguments of a check, and what its dependencies give to the compiler and the linker."""
+    """Holds the arguments that are added to those in use: of a check, and those that its dependencies give to the compiler and the
+    linker."""
     args: tuple[str, ...] = ()
     compile_args: tuple[str, ...] = ()
     link_args: tuple[str, ...] = ()
@@ -99,7 +100,7 @@ class Compiler:
         self.host = {"system": system.sysname.lower(), "cpu_family": family, "cpu": cpu, "endian": endian}
 
     def found_out(self) -> tuple[dict[str, str], list[str]]:
-        """What the compiler defines before all sources, and the programs that it runs."""
+        """Returns what the compiler defines before all sources, and the programs that it runs."""
         label = label_of(["compiler", self.itself])
         kept, is_good = self.cache.get(label)
         if is_good and isinstance(kept, list):
@@ -116,7 +117,7 @@ class Compiler:
         return shutil.which(printed) or "" if printed else ""
 
     def words(self) -> list[object]:
-        """What an answer depends on beside its question: the compiler, and the words in use."""
+        """Returns what an answer depends on in addition to its question: the compiler, and the arguments in use."""
         return [self.itself, self.sandbox.lack, self.standard, self.c_args, self.c_link_args]
 
     def use(self, c_std: str, c_args: list[str], c_link_args: list[str], given: list[str]) -> None:
@@ -159,7 +160,7 @@ class Compiler:
         return faults[0]
 
     def fault_of_empty(self) -> str:
-        """Why it can't compile and link an empty program; empty where it can."""
+        """Returns why it can't compile and link an empty program; empty if it can."""
         # Other compilers than GCC compile with words of their own. GCC compiles to link, so what it links it compiles.
         fault = (self.id != "gcc" and self.fault_of("compile")) or self.fault_of("link")
         if fault:
@@ -169,7 +170,7 @@ class Compiler:
         return "pkg-config doesn't work in the sandbox" if is_broken else ""
 
     def fault_of(self, mode: str) -> str:
-        """Why it can't take an empty program in this way; empty where it can."""
+        """Returns why it can't take an empty program in this way; empty if it can."""
         done = self.attempt(mode, MAIN, Flags(tuple(self.standard)), hears=True)
         given = shlex.join([*self.c, *self.standard, *self.c_args, *(self.c_link_args if mode == "link" else [])])
         return "" if done.is_good else f"the C compiler can't {mode} an empty program: `{given}`: {done.why}"
@@ -189,8 +190,8 @@ class Compiler:
 
     def attempt(self, mode: str, source: str, flags: Flags = Flags(), hears: bool = False, ending: str = ".c",
                 reads: bool = False) -> Done:
-        """How it takes a source, in a file of this ending, with the words of a check in the order of the real Meson. What is made is
-        read where that is asked for."""
+        """Returns how the compiler takes a source, in a file of this ending, with the arguments of a check in the order of the real
+        Meson. Reads the output if the caller requests it."""
         with tempfile.TemporaryDirectory(dir=self.scratch) as folder:
             # The words of a check can't name the source, whose text is the project's too.
             file = os.path.join(folder, os.urandom(8).hex() + ending)
@@ -219,7 +220,7 @@ class Compiler:
         return dataclasses.replace(done, said=said)
 
     def searched(self, flags: Flags) -> list[str] | None:
-        """The folders that are searched for headers, with the words of a check."""
+        """Returns the folders that are searched for headers, with the words of a check."""
         with self.searches:
             if flags not in self.folders:
                 with tempfile.TemporaryDirectory(dir=self.scratch) as folder:
@@ -236,5 +237,5 @@ class Compiler:
         return printed.rpartition('"it is"')[2].strip()
 
     def define(self, name: str, prefix: str, flags: Flags = Flags()) -> str:
-        """The same without quotation marks."""
+        """Returns what a macro expands to after a prefix, without quotation marks."""
         return self.expansion(name, prefix, flags).strip('"')

@@ -28,14 +28,14 @@ def found(compile_args: list[str], link_args: list[str], version: str = "") -> F
 
 @functools.cache
 def package_folders(compiler: Compiler) -> list[str]:
-    """The folders that pkg-config searches."""
+    """Returns the folders that pkg-config searches."""
     own = os.environ.get("PKG_CONFIG_LIBDIR")
     searched = own if own is not None else compiler.ask([*pkg_config(), "--variable", "pc_path", "pkg-config"]).printed.strip()
     return [it for it in [*os.environ.get("PKG_CONFIG_PATH", "").split(":"), *searched.split(":")] if it]
 
 
 def of_pkg_config(compiler: Compiler, name: str) -> Found | None:
-    """What pkg-config says of a package, where all of its words are such as a project may give."""
+    """Returns what pkg-config says of a package, where all of its words are such as a project may give."""
     if at_work():
         add_packages(name, package_folders(compiler))
     asked = lambda word: compiler.ask([*pkg_config(), word, "--", name])
@@ -71,7 +71,7 @@ def dl(compiler: Compiler) -> Found | None:
 
 
 def of_c_library(header: str, call: str, library: str) -> Callable[[Compiler], Found | None]:
-    """A call that the C library may have, else a library of its own."""
+    """Returns a call that the C library may have, else a library of its own."""
     def ask(compiler: Compiler) -> Found | None:
         if compiler.takes("link", f"#include <{header}>\nint main() {{ {call}; }}"):
             return found([], [])
@@ -100,7 +100,7 @@ OF_HEADERS = ("valgrind",)
 
 
 def dependency(compiler: Compiler, name: str) -> Found | None:
-    """The lines of its section, or none where it isn't found."""
+    """Returns the lines of its section, or None if it isn't found."""
     if not is_package(name):
         raise NoAnswer("is not asked: pkg-config would read the file of this name, or take it for other arguments")
     by_compiling, package = BY_COMPILING.get(name), of_pkg_config(compiler, name)

@@ -39,12 +39,12 @@ def gathered() -> Iterator[Evidence]:
 
 
 def at_work() -> Evidence | None:
-    """What this thread gathers; none where its answers aren't kept."""
+    """Returns what this thread gathers, or None if its answers aren't kept."""
     return getattr(HERE, "gathers", None)
 
 
 def stamp_of(path: str) -> Stamp:
-    """The time and the size of what is at a path; none where nothing is."""
+    """Returns the time and the size of what is at a path; none if nothing is."""
     try:
         found = os.stat(path)
     except (OSError, ValueError):
@@ -53,14 +53,14 @@ def stamp_of(path: str) -> Stamp:
 
 
 def cut_headers(said: str) -> tuple[str, list[tuple[int, str]]]:
-    """What the compiler says beside the headers that it names as it reads them, and these with their depths."""
+    """Returns what the compiler prints apart from the headers that it reads, and these headers with their depths."""
     said = said.partition("Multiple include guards may be useful for:\n")[0]
     headers = [(len(dots), path) for dots, path in re.findall(r"^(\.+) (.*)$", said, re.M) if path != os.devnull]
     return re.sub(r"^\.+ .*\n?", "", said, flags=re.M), headers
 
 
 def folders_in(said: str) -> list[str] | None:
-    """The folders that `cc -v` searches for headers, those that aren't there among them; none where it doesn't say so."""
+    """Returns the folders that `cc -v` searches for headers, those that aren't there among them, or None if it doesn't say so."""
     match = re.search(r"search starts here:\n(.*?)End of search list\.", said, re.S)
     if not match:
         return None
@@ -69,7 +69,7 @@ def folders_in(said: str) -> list[str] | None:
 
 
 def add_headers(evidence: Evidence, source: str, said: str, headers: list[tuple[int, str]], folders: list[str] | None) -> None:
-    """The headers that a source has read, and where each of them, or one that is missing, would be found before."""
+    """Adds the headers that a source has read, and where each of them, or one that is missing, would be found before."""
     if folders is None:
         evidence.is_whole = False
         return
@@ -89,7 +89,7 @@ CONDITIONS: dict[str, set[str]] = {}  # by header
 
 
 def of_conditions(path: str) -> set[str]:
-    """The headers of which a header asks whether they are there."""
+    """Returns the headers of which a header asks whether they are there."""
     if path not in CONDITIONS:
         text = text_of(path)
         CONDITIONS[path] = {name for _, name in re.findall(INCLUDE, text) if name} if "__has_include" in text else set()
@@ -97,7 +97,8 @@ def of_conditions(path: str) -> set[str]:
 
 
 def text_of(path: str) -> str:
-    """The text of a file that a compiler or pkg-config has read; none of what is no file, as a device, or too great to be one of these."""
+    """Returns the text of a file that a compiler or pkg-config has read; none of what is no file, as a device, or too great to be one of
+    these."""
     try:
         return read_bytes(path, MOST_BYTES).decode(errors="replace")
     except OSError:
@@ -105,7 +106,7 @@ def text_of(path: str) -> str:
 
 
 def add_linked(evidence: Evidence, is_good: bool, printed: str, said: str) -> None:
-    """What the linker has opened, or has looked for in vain; a linker that doesn't say so leaves the evidence with a gap."""
+    """Adds what the linker has opened or not found. A linker that doesn't say so leaves a gap in the evidence."""
     opened = re.findall(OPENED, printed)
     if not opened and (is_good or re.search(LINKER_RAN, said)) and not re.search(BAD_OPTION, said):
         evidence.is_whole = False
@@ -114,7 +115,7 @@ def add_linked(evidence: Evidence, is_good: bool, printed: str, said: str) -> No
 
 
 def add_packages(name: str, folders: list[str]) -> None:
-    """The files of pkg-config that a package is made of, and where they would be found before."""
+    """Adds the files of pkg-config that make up a package, and where they would be found before."""
     evidence = at_work()
     names, known = [name], set()
     while evidence and names:

@@ -24,7 +24,7 @@ DECLARED = ""  # the name of a dependency that the project declares
 
 
 def each_once(questions: list[Question]) -> list[Question]:
-    """Of questions that have one answer the first."""
+    """Returns the first of the questions that have one answer."""
     found: dict[tuple[object, ...], Question] = {}
     for it in questions:
         found.setdefault(it.label, it)
@@ -32,7 +32,7 @@ def each_once(questions: list[Question]) -> list[Question]:
 
 
 def is_no_file(method: str, arguments: list[str]) -> bool:
-    """Whether a word is that of another compiler, as /utf-8: to this one it names a source that isn't there."""
+    """Returns whether a word is that of another compiler, as /utf-8: to this one it names a source that isn't there."""
     return method == "has_argument" and arguments[0].startswith("/") and not os.path.lexists(arguments[0])
 
 
@@ -46,7 +46,7 @@ class Machine:
         self.answers: dict[tuple[object, ...], object] = {}
 
     def learn(self, questions: list[Question]) -> Sections:
-        """The sections that answer these questions; a key that is asked twice has the answer of the first place."""
+        """Returns the sections that answer these questions. A key that occurs twice has the answer of the first place."""
         self.answer_new(questions)
         known = {title: dict(values) for title, values in self.itself.items()}
         for question in questions:
@@ -63,7 +63,7 @@ class Machine:
     def answer_new(self, questions: list[Question]) -> None:
         is_mine = lambda it: it.section in ("binaries", "checks") or it.dependency is not None
         fresh = [it for it in each_once(questions) if is_mine(it) and it.label not in self.answers]
-        # A check may have dependencies and libraries beside it, so these are answered first.
+        # A check may name dependencies and libraries, so these are answered first.
         is_last = lambda it: it.method not in ("", "find_library") and it.texts("dependencies") != ()
         self.answer_together([it for it in fresh if not is_last(it)])
         self.answer_together([it for it in fresh if is_last(it)])
@@ -72,7 +72,8 @@ class Machine:
         self.answers.update(zip([it.label for it in questions], side_by_side(self.answered, questions, None, end_all)))
 
     def answer_together(self, questions: list[Question]) -> None:
-        """Answers checks in bundles, and beside them what no bundle takes; then the checks that no bundle has settled."""
+        """Answers checks in bundles, and at the same time those that no bundle takes. Then answers the checks that no bundle has
+        settled."""
         checks: dict[Check, list[Question]] = {}
         alone = []
         for question in questions:
@@ -99,7 +100,7 @@ class Machine:
         self.answer_each([it for bundle in bundles for check in bundle if check not in settled for it in checks[check]])
 
     def together(self, bundle: list[Check]) -> dict[Check, bool | int]:
-        """What a bundle settles; nothing where it can't be asked, since each is asked alone then."""
+        """Returns what a bundle settles: nothing if it can't run, since each check runs alone then."""
         try:
             with gathered() as evidence:
                 settled = ask_together(self.compiler, bundle)
@@ -109,7 +110,7 @@ class Machine:
         return settled
 
     def answered(self, question: Question) -> object:
-        """The answer, none where nothing is found, or what says that there is none."""
+        """Returns the answer, none if nothing is found, or what says that there is none."""
         try:
             if question.section == "binaries":
                 return self.program(question, question.key or "")
@@ -124,7 +125,7 @@ class Machine:
         return label_of(["check", check.key, check.prefix, dataclasses.astuple(check.flags), self.compiler.words()])
 
     def cache_label(self, question: Question) -> str:
-        """By which name the answer of a check or a dependency is kept; empty where it isn't."""
+        """Returns the name by which the answer of a check or a dependency is kept; empty if it isn't kept."""
         if question.method and not self.refused(question):
             return self.label_of_check(self.check_of(question))
         name = question.dependency
@@ -154,11 +155,11 @@ class Machine:
         return answer(self.compiler, check.key, check.prefix, check.flags)
 
     def check_of(self, question: Question) -> Check:
-        """A question as the compiler is asked."""
+        """Returns a question in the form in which the compiler can answer it."""
         return Check(question.key or "", "\n".join(question.texts("prefix")), self.flags(question, question.method))
 
     def refused(self, question: Question) -> str:
-        """Why a check isn't asked; empty where it is."""
+        """Returns why a check does not run; empty if it runs."""
         key = question.key or ""
         method, arguments = arguments_of(key)
         if method not in METHODS:
@@ -169,7 +170,7 @@ class Machine:
         return f"is not asked: {DANGER % refused}" if refused is not None and not is_no_file(method, arguments) else ""
 
     def flags(self, question: Question, method: str) -> Flags:
-        """The words beside a check, as the real Meson has them: an alignment has fewer."""
+        """Returns the arguments of a check, as the real Meson has them: an alignment has fewer."""
         if method in OF_WORDS:
             return Flags()
         folders = ["-I" + os.path.join(self.sources, it) for it in question.texts("include_directories")]
@@ -179,7 +180,8 @@ class Machine:
         return Flags((*before, *question.texts("args")), compile_args, link_args)
 
     def words_of(self, name: str) -> dict[str, list[str]]:
-        """What a dependency gives to the compiler and the linker; nothing where it isn't found, or is one that the project declares."""
+        """Returns what a dependency gives to the compiler and the linker; nothing if it isn't found, or is one that the project
+        declares."""
         is_library = self.answers.get(("checks", f"find_library {name}")) is True
         found = self.answers.get((f"dependency {name}", None))
         return found if isinstance(found, dict) else {"link_args": ["-l" + name]} if is_library else {}
@@ -213,7 +215,7 @@ class Machine:
                 yield text, text
 
     def left(self, question: Question, why: str) -> tuple[str, str]:
-        """What is said of a question without an answer: by which line a user answers it."""
+        """Returns what is said of a question without an answer: by which line a user answers it."""
         key = question.key or "link_args"
         answers = {"checks": 8 if question.method in NUMBERS else True, "binaries": "/path"}
         line = f"{key} = {spelled(answers.get(question.section, [f'-l{question.dependency}']))}"

@@ -1,4 +1,4 @@
-"""Which package has what is missing, as far as pkg-config and the tools of the distribution can say."""
+"""Finds which package has what is missing, by pkg-config and the tools of the distribution."""
 import re
 import shutil
 
@@ -10,7 +10,7 @@ from tools.variables import pkg_config
 # The end of the path of what is missing, by its kind.
 FILES = {"dependency": "/{}.pc", "program": "/bin/{}", "find_library": "/lib{}.so", "has_header": "/include/{}",
          "check_header": "/include/{}"}
-# Commands that are asked one after the other, the form of a package's name in what they print, and what is said of it.
+# Commands that are tried one after the other, the form of a package's name in their output, and the message about it.
 TOOLS = (
     (("apt-file", "--package-only", "search", "--regexp", "{pattern}$"), r"^(\S+)$", "{} of the distribution has it"),
     (("dpkg", "-S", "*{path}"), r"^([^\s:,]+).*: /", "the package {} has it, in a folder that is not searched"),
@@ -41,7 +41,7 @@ def of_file(path: str, stem: str) -> str:
 
 
 def who_has(compiler: Compiler, name: str) -> str:
-    """What can be said of a missing thing."""
+    """Says what is known of a missing thing."""
     kind, _, plain = name.partition(" ")
     other = lacks(compiler, plain) if kind == "dependency" else ""
     wanted = other or plain

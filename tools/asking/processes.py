@@ -20,12 +20,12 @@ BEGINS = threading.Lock()  # so that one that is being begun is among those that
 
 
 class NoAnswer(Stop):
-    """What is asked can't be answered: neither true nor false. A command may not have ended in time."""
+    """Reports that a question has no answer, neither true nor false. A command may not have ended in time."""
 
 
 @dataclasses.dataclass(frozen=True)
 class Done:
-    """How a command ended: its status, or none where it could not be begun, what it printed, what it said of it, and what it made."""
+    """Holds how a command ended: its status, or None if it could not be started, its two outputs, and what it made."""
     status: int | None
     printed: str
     said: str
@@ -37,16 +37,16 @@ class Done:
 
     @property
     def why(self) -> str:
-        """What it said, in one line."""
+        """Returns what it said, in one line."""
         return "; ".join(it.strip() for it in self.said.splitlines() if it.strip()) or f"it ended with status {self.status}"
 
 
 def run(words: list[str], folder: str | None = None, executable: str | None = None, hears: bool = True, seconds: int = SECONDS,
         variables: dict[str, str] | None = None, enter: Callable[[], None] | None = None, errors: str = "replace",
         most: int = MOST_BYTES, is_asked_first: bool = False) -> Done:
-    """Runs a command; without `variables` of its own in plain English. One that is late, or prints or says more than `most` bytes, is
-    ended; one that ends its own commands is asked first. Where it isn't heard, what it prints and says is lost. `enter` is called in the
-    process before the command begins; `errors` says what becomes of bytes that are no text."""
+    """Runs a command, in plain English if it has no `variables` of its own. Ends a command that is late, or prints more than `most`
+    bytes. With `is_asked_first` the command gets a signal before it is killed, so that it can end its own commands. Without `hears` its
+    output is lost. The new process calls `enter` before the command begins. `errors` says what becomes of bytes that are no text."""
     to = subprocess.PIPE if hears else subprocess.DEVNULL
     try:
         with BEGINS:

@@ -35,7 +35,7 @@ def files_named(name: str, folders: list[str]) -> list[str]:
 
 
 def programs_of(compiler: list[str], others: list[str], folder: str) -> tuple[str, ...]:
-    """Returns the files that these commands may execute; the compiler is asked in an empty folder where it has its own."""
+    """Returns the files that these commands may execute. Runs the compiler in an empty folder to find its own."""
     found: dict[str, None] = {}
     on_path = path_folders()
     for word in (*compiler, *others):

@@ -40,7 +40,7 @@ def options_in_use(cache: Cache, project: Project, machine_file: str) -> InUse:
 
 
 def is_in_use(kept: object) -> bool:
-    """Whether a kept value is a text and two lists of texts."""
+    """Returns whether a kept value is a text and two lists of texts."""
     is_list = lambda it: isinstance(it, list) and all(isinstance(word, str) for word in it)
     return isinstance(kept, list) and len(kept) == 3 and isinstance(kept[0], str) and is_list(kept[1]) and is_list(kept[2])
 

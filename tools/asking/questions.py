@@ -24,7 +24,7 @@ CHANGING = ("prefix", "args", "dependencies", "include_directories")
 
 @dataclasses.dataclass(frozen=True)
 class Question:
-    """A section, and a key where not the whole section is asked for; where it was asked first, and what the call said beside it."""
+    """A section, and a key if the question is not about the whole section; the first place of the question, and what else the call says."""
     section: str
     key: str | None
     file: str
@@ -46,12 +46,12 @@ class Question:
 
     @property
     def method(self) -> str:
-        """Of a check."""
+        """Returns the method of a check."""
         return (self.key or "").partition(" ")[0] if self.section == "checks" else ""
 
     @property
     def label(self) -> tuple[object, ...]:
-        """What two questions have in common that have one answer."""
+        """Returns what two questions have in common that have one answer."""
         is_changed = self.method and self.method not in OF_WORDS
         return self.section, self.key, *(self.texts(it) for it in CHANGING if is_changed)
 
@@ -73,14 +73,15 @@ class Told:
 
 @dataclasses.dataclass(frozen=True)
 class Project:
-    """What is asked: the program, the folder of the sources, the words `-D..`, and a folder for what is written meanwhile."""
+    """What a run of the program is given: the program, the source directory, the arguments `-D..`, and a folder for temporary
+    files."""
     program: str
     sources: str
     words: list[str]
     scratch: str
 
     def ask(self, machine_file: str, folder: str | None = None) -> Told:
-        """The questions of a run that knows this machine file, over the sources or another folder."""
+        """Returns the questions of a run that knows this machine file, over the sources or another folder."""
         path = os.path.join(self.scratch, "native.ini")
         with open(path, "w", encoding="utf-8") as it:
             it.write(machine_file)
@@ -91,7 +92,7 @@ class Project:
         return Told([question_of(it) for it in done.printed.split("\n") if it], done.why if done.status else "")
 
     def in_use(self, machine_file: str) -> tuple[str, list[str], list[str]]:
-        """c_std, c_args and c_link_args as the project has them in the end, by a run of its first statement alone."""
+        """Returns c_std, c_args and c_link_args as the project has them in the end, by a run of its first statement alone."""
         with tempfile.TemporaryDirectory(dir=self.scratch) as folder:
             linked_copy(self.sources, folder, {ROOT_FILE: first_statement(self.sources) + IN_USE})
             told = self.ask(machine_file, folder)
@@ -102,7 +103,7 @@ class Project:
 
 
 def first_statement(sources: str) -> str:
-    """The text of a project's root file up to the end of its first statement."""
+    """Returns the text of a project's root file up to the end of its first statement."""
     try:
         path = os.path.join(sources, ROOT_FILE)
         text = read_text(path, DEFINITION)

@@ -1,7 +1,7 @@
-"""What a compiler or pkg-config may do while it answers: Landlock rules and limits, set between `fork` and `exec`.
+"""Limits what a compiler or pkg-config may do during a check: Landlock rules and limits, set between `fork` and `exec`.
 
 A sandboxed process can execute only the files of `programs`, write only below the folder of its check and to /dev/null, and use no TCP. Its
-memory, files, processes and time have limits. What it reads is not bounded: headers and libraries lie at any place, behind any links.
+memory, files, processes and time have limits. What it reads is not limited: headers and libraries may be anywhere, and links may lead to them.
 
 One gap is known: the loader is among the programs, and a program that is handed to the loader is mapped, not executed. So a compiler that
 can be made to run the loader runs a program inside the sandbox; the arguments that could do this are never given (allowed.py).
@@ -52,7 +52,7 @@ LIBC.syscall.restype = ctypes.c_long
 
 
 def call(number: int, *arguments: object) -> int:
-    """The result of a system call, or an OSError."""
+    """Returns the result of a system call, or an OSError."""
     done = LIBC.syscall(ctypes.c_long(number), *arguments)
     if done < 0:
         code = ctypes.get_errno()
@@ -61,7 +61,7 @@ def call(number: int, *arguments: object) -> int:
 
 
 def version_of_landlock() -> int:
-    """The version that the kernel has; 0 where it has none, or refuses it."""
+    """Returns the version that the kernel has; 0 where it has none, or refuses it."""
     try:
         return call(CREATE_RULESET, None, ctypes.c_size_t(0), ctypes.c_uint32(OF_VERSION))
     except OSError:
@@ -85,7 +85,7 @@ def limit(kind: int, most: int) -> None:
 
 
 def processes_of_all() -> int:
-    """How many processes and threads the system has, which is not less than those of this user."""
+    """Returns how many processes and threads the system has, which is not less than those of this user."""
     try:
         with open("/proc/loadavg", encoding="ascii") as it:
             return int(it.read().split()[3].partition("/")[2])
@@ -103,13 +103,13 @@ class Sandbox:
 
     @property
     def handled(self) -> int:
-        """The rights to files that are taken away where no rule gives them."""
+        """Returns the rights to files that are taken away where no rule gives them."""
         known = sum(rights for version, rights in RIGHTS.items() if version <= self.version)
         return known if self.programs is not None else known & ~EXECUTE
 
     @contextlib.contextmanager
     def entrance(self, folder: str) -> Iterator[Callable[[], None]]:
-        """What a child calls before `exec` to be sandboxed; it may write below `folder`."""
+        """Returns what a child calls before `exec` to be sandboxed; it may write below `folder`."""
         with contextlib.ExitStack() as opened:
             ruleset = self.ruleset(folder) if self.version else None
             if ruleset is not None:
@@ -133,11 +133,11 @@ class Sandbox:
         return made
 
     def variables(self, folder: str) -> dict[str, str]:
-        """The environment: temporary files lie in the folder of the check."""
+        """Returns the environment: temporary files lie in the folder of the check."""
         return {**os.environ, **VARIABLES, "LC_ALL": "C", "TMPDIR": folder, "DISTCC_DIR": folder, "CCACHE_DIR": folder}
 
     def weaker(self) -> Iterator["Sandbox"]:
-        """Itself, and the sandboxes for compilers that don't work in it."""
+        """Yields this sandbox, and then those for compilers that don't work in it."""
         yield self
         if self.programs is not None:
             yield dataclasses.replace(self, programs=None, lack=OTHER_PROGRAMS)
@@ -145,7 +145,7 @@ class Sandbox:
 
 
 def limits() -> dict[int, int]:
-    """Of each resource the most that a sandboxed process may have."""
+    """Returns the most that a sandboxed process may have of each resource."""
     return {resource.RLIMIT_AS: MEMORY, resource.RLIMIT_FSIZE: LONGEST_FILE, resource.RLIMIT_CPU: SECONDS, resource.RLIMIT_CORE: 0,
             resource.RLIMIT_NPROC: PROCESSES + processes_of_all()}
 

@@ -4,14 +4,14 @@ Sections = dict[str, dict[str, object]]
 
 
 def can_hold(section: str, key: str | None) -> bool:
-    """Whether a machine file can have this section and this key, which is cut at the first `=`, and of a check at the last."""
+    """Returns whether a machine file can have this section and this key, which is cut at the first `=`, and of a check at the last."""
     plain = section if key is None else key
     is_word = plain == plain.strip(BLANKS) and plain != "" and plain.isprintable()
     return is_word and (section == "checks" or key is None or "=" not in key and key[0] not in "#[")
 
 
 def is_written(text: str) -> bool:
-    """Whether a text is one of UTF-8, as each of a machine file is; a path of the system needn't be."""
+    """Returns whether a text is one of UTF-8, as each of a machine file is; a path of the system needn't be."""
     return not any(0xD800 <= ord(it) < 0xE000 for it in text)
 
 
@@ -25,6 +25,6 @@ def spelled(value: object) -> str:
 
 
 def text_of(sections: Sections) -> str:
-    """The lines of the sections that say something."""
+    """Returns the lines of the sections that say something."""
     section = lambda title, values: f"\n[{title}]\n" + "".join(f"{key} = {spelled(it)}\n" for key, it in values.items())
     return "".join(section(title, values) for title, values in sections.items() if values)

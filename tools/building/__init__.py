@@ -1,1 +1,1 @@
-"""What `build-program` and `build-library` are made of: the crates, what checks one, and which checks are at work."""
+"""The parts of `build-program` and `build-library`: the crates, the command that checks one, and which checks run when."""

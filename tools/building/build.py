@@ -30,12 +30,12 @@ class Build:
 
     @property
     def pace(self) -> float:
-        """How many seconds here stand for one where that was measured."""
+        """Returns how many seconds on this machine equal one second of the measurement."""
         return self.taken / self.measured if self.measured else 1
 
     @functools.cache
     def digest(self, name: str) -> str:
-        """Of all that a crate is proved and made from: the toolchain, its files, and the crates below."""
+        """Returns a digest of all that a crate is proved and made from: the toolchain, its files, and the crates below."""
         crate = self.crates[name]
         parts = [self.kit.version, crate.digest, *(self.digest(it) for it in crate.listed if it in self.crates)]
         return hashlib.sha256("\n".join(parts).encode()).hexdigest()

@@ -31,7 +31,7 @@ def free_bytes() -> int:
 
 
 def has_kept_work(crates: dict[str, Crate]) -> bool:
-    """Whether checks of this checkout have kept their work for each crate."""
+    """Returns whether checks of this checkout have kept their work for each crate."""
     return all((it.folder / "out" / "incremental").is_dir() for it in crates.values())
 
 
@@ -47,7 +47,7 @@ def go_on(crate: Crate) -> bool:
 
 @contextlib.contextmanager
 def alone() -> Iterator[None]:
-    """While another build of this checkout is at work it is waited for."""
+    """Waits while another build of this checkout runs."""
     with open(LIBRARIES / "lock", "w") as lock:
         try:
             fcntl.flock(lock, fcntl.LOCK_EX | fcntl.LOCK_NB)

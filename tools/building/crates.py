@@ -1,4 +1,4 @@
-"""The crates of the program and of the library for C: what each is made from, where that stands, and what a check of it takes of time and
+"""Lists the crates of the program and of the library for C: what each is made from and where, and what a check of it takes of time and
 of memory."""
 import dataclasses
 import functools
@@ -9,7 +9,7 @@ CHECKOUT = pathlib.Path(__file__).resolve().parents[2]
 PROGRAM, LIBRARY = "hawkottoman", "hawkottoman_c"
 OUT = CHECKOUT / "crates" / PROGRAM / "out"
 LIBRARIES = OUT / "libraries"
-# What is made of the crates that no other stands on: the program, and the library for C without the toolchain's part.
+# What is made of the crates that no other crate uses: the program, and the library for C without the toolchain's part.
 MADE = {PROGRAM: OUT / PROGRAM, LIBRARY: CHECKOUT / "crates" / LIBRARY / "out" / f"lib{LIBRARY}.a"}
 MEASURED = pathlib.Path(__file__).resolve().with_name("measured.txt")
 CODE, DEFINITIONS = ".rt", ".antt"
@@ -47,17 +47,17 @@ class Crate:
 
     @property
     def made(self) -> pathlib.Path:
-        """What is made of it: a folder with its statements; or the program, or the library for C."""
+        """Returns what is made of it: a folder with its statements, or the program, or the library for C."""
         return MADE.get(self.name, LIBRARIES / f"{self.name}.rlib")
 
     @property
     def checked(self) -> pathlib.Path:
-        """The library that `rt ci` makes of it, as `rt check` does of those below a crate."""
+        """Returns the library that `rt ci` makes of it, as `rt check` makes those of the crates below."""
         return self.folder / "out" / "rlib" / f"{self.name}.rlib"
 
     @property
     def stamp(self) -> pathlib.Path:
-        """The file that says what that was made from."""
+        """Returns the file that says what that was made from."""
         return LIBRARIES / f"{self.name}.stamp"
 
     @property
@@ -65,7 +65,7 @@ class Crate:
         return OUT / f"build-{self.name}.log"
 
     def seconds(self, processors: int) -> float:
-        """How long its check is guessed to take by the clock with so many processors."""
+        """Returns how long its check is guessed to take by the clock with so many processors."""
         loading = min(LOADING, self.work)
         rest = self.work - loading
         if self.shared is None or not rest:
@@ -76,7 +76,7 @@ class Crate:
         return loading + rest * (alone + (1 - alone) / processors)
 
     def bytes_at(self, share: float, processors: int = 1) -> float:
-        """The memory that its check is guessed to take once this share of it is done."""
+        """Returns the memory that its check is guessed to take once this share of it is done."""
         return self.size * (1 + SIZE_A_PROCESSOR * (processors - 1)) * MIB * (FIRST_SHARE + (1 - FIRST_SHARE) * min(share, 1))
 
 
@@ -85,7 +85,7 @@ def files_of(folder: pathlib.Path) -> list[pathlib.Path]:
 
 
 def crates_below(name: str, listed: dict[str, list[str]]) -> set[str]:
-    """The crates of this repository that a crate stands on."""
+    """Returns the crates of this repository that a crate uses."""
     found, waiting = set(), list(listed[name])
     while waiting:
         it = waiting.pop()
@@ -106,21 +106,22 @@ def crate_of(name: str, listed: dict[str, list[str]], measured: dict[str, list[f
 
 
 def rows_of(text: str) -> list[str]:
-    """The lines of a table that are no comments."""
+    """Returns the lines of a table that are no comments."""
     return [line for line in text.splitlines() if line.strip() and not line.startswith("#")]
 
 
 def crates_listed() -> dict[str, list[str]]:
-    """The libraries that crates.txt lists for each crate, without what only tests make use of: its groups are set apart by empty lines."""
+    """Returns the libraries that crates.txt lists for each crate, without what only tests make use of: its groups are set apart by empty
+    lines."""
     groups = (CHECKOUT / "crates.txt").read_text().split("\n\n")
-    # Behind a name may stand what is made of the crate.
+    # The product of a crate may follow its name.
     uses_of = [{name.split()[0]: uses.split() for name, _, uses in (row.partition(":") for row in rows_of(it))} for it in groups]
     of_tests = {name for group, uses in zip(groups, uses_of) if group.startswith(TESTS) for name in uses}
     return {name: [it for it in uses if it not in of_tests] for group in uses_of for name, uses in group.items() if name not in of_tests}
 
 
 def crates_of(root: str = PROGRAM) -> dict[str, Crate]:
-    """The crate of the program, or that of the library, and those that it stands on, by their names, as crates.txt lists them."""
+    """Returns the crate of the program, or that of the library, and those that it uses, by their names, as crates.txt lists them."""
     listed = crates_listed()
     measured = {name: [*map(float, numbers)] for name, *numbers in map(str.split, rows_of(MEASURED.read_text()))}
     needed = {root, *crates_below(root, listed)}
@@ -128,8 +129,8 @@ def crates_of(root: str = PROGRAM) -> dict[str, Crate]:
 
 
 def checked_below(crates: dict[str, Crate], root: str) -> dict[str, pathlib.Path]:
-    """The libraries that checks have made of the crates below one, by their names; none unless all are there, and each is newer than what
-    it is made from: its files, and the libraries below it."""
+    """Returns the libraries that checks have made of the crates below one, by their names; none unless all are there, and each is newer
+    than what it is made from: its files, and the libraries below it."""
     def is_new(crate: Crate) -> bool:
         made_from = [*files_of(crate.folder), *(crates[it].checked for it in crate.listed if it in crates)]
         return all(it.exists() and it.stat().st_mtime <= crate.checked.stat().st_mtime for it in [crate.checked, *made_from])
@@ -139,7 +140,7 @@ def checked_below(crates: dict[str, Crate], root: str) -> dict[str, pathlib.Path
 
 
 def longest_way_first(crates: dict[str, Crate]) -> list[Crate]:
-    """The crates by the work of the longest chain from each up to the last, so each before those that stand on it."""
+    """Returns the crates in the order of the work of the longest chain from each to the last, so each before those that use it."""
     @functools.cache
     def chain(name: str) -> float:
         return crates[name].work + max((chain(it.name) for it in crates.values() if name in it.listed), default=0)

@@ -15,11 +15,11 @@ class Kit:
 
     @property
     def c_part(self) -> pathlib.Path:
-        """The part of the standard library that is in C."""
+        """Returns the part of the standard library that is in C."""
         return self.folder / "c" / "liblibc_c.a"
 
     def libraries(self, crate: Crate, below: dict[str, pathlib.Path]) -> list[str]:
-        """The words that say where a crate's libraries are: those of this repository by their names, and those of the kit."""
+        """Returns the words that say where a crate's libraries are: those of this repository by their names, and those of the kit."""
         folders = [self.folder / "rlibs", *dict.fromkeys(it.parent for it in below.values())]
         words = [word for it in folders for word in ("-L", f"dependency={it}")]
         for name in ["std", *crate.listed]:
@@ -27,8 +27,8 @@ class Kit:
         return words
 
     def build(self, crate: Crate, processors: int, below: dict[str, pathlib.Path] | None = None) -> list[str]:
-        """The command that proves a crate by so many processors and, where it is proved, writes its statements, or the code of the program
-        or of the library for C. `below` has the libraries of this repository by their names, in place of those of LIBRARIES."""
+        """Returns the command that proves a crate by so many processors and, where it is proved, writes its statements, or the code of
+        the program or of the library for C. `below` has the libraries of this repository by their names, in place of those of LIBRARIES."""
         root = "src/main.rt" if crate.name == PROGRAM else "src/lib.rt"
         below = below or {name: LIBRARIES / f"{name}.rlib" for name in sorted(crate.below)}
         words = [f"{self.folder}/bin/rattle", "build", "--crate-name", crate.name, root, *self.libraries(crate, below)]
@@ -43,6 +43,6 @@ class Kit:
         return [*words, "-o", f"{OUT}/{PROGRAM}.o"]
 
     def link(self) -> list[str]:
-        """The command that links the program's code."""
+        """Returns the command that links the program's code."""
         return [f"{self.folder}/bin/rattle-link", "--target", "x86_64-unknown-linux-gnu", "--toolchain", f"{self.folder}/toolchain",
                 "-o", f"{OUT}/{PROGRAM}", f"{OUT}/{PROGRAM}.o", f"{self.folder}/c/libos_c.a", f"{self.c_part}"]

@@ -1,9 +1,8 @@
-"""Which check begins next: orders of the crates are tried on a model of the build, and that is taken by which all are proved first.
+"""Decides which check begins next: tries orders of the crates on a model of the build, and takes the order that ends first.
 
-What a check takes of memory grows until it ends, so a crate begins only where there is memory until all that are at work have ended; and
-a long check that begins early can keep a crate waiting that more others wait for. The first is asked of the model, the second is tried. So
-is how many processors each crate takes at most of those that are idle when it begins: with several a check ends sooner, but each of them
-does less.
+The memory of a check grows until it ends. So a crate begins only if the model says that memory suffices until all running checks have
+ended. A long check that begins early can delay a crate for which more others wait, so different orders are tried. The number of processors
+that each crate takes at most is tried too: with several a check ends sooner, but each of them does less.
 """
 import dataclasses
 import random
@@ -16,7 +15,7 @@ FIRST_TRIES, TRIES = 4000, 600
 
 @dataclasses.dataclass
 class Check:
-    """A check at work: its crate, when it began, how long it takes, about, and by how many processors."""
+    """A running check: its crate, when it began, about how long it takes, and its number of processors."""
     crate: Crate
     begin: float
     length: float
@@ -40,16 +39,16 @@ class Plan:
         self.tried, self.tries = random.Random(0), FIRST_TRIES
 
     def fits(self, check: Check, at_work: list[Check]) -> bool:
-        """Whether there is memory for one more check until all that are at work have ended; for one alone, by one processor, there has to
-        be."""
+        """Returns whether there is memory for one more check until all running ones have ended. A single check on one processor always
+        has enough."""
         checks = [*at_work, check]
         ends = [max(it.end, check.begin) for it in checks]
         taken = (sum(it.bytes_at(time) for it, end in zip(checks, ends) if end >= time) for time in ends)
         return not at_work and check.processors == 1 or max(taken) <= self.room
 
     def next_check(self, order: list[Crate], most: dict[str, int], at_work: list[Check], now: float, pace: float) -> Check | None:
-        """The check that begins now, if any: of the first crate, where all below it is proved and a processor and memory are free. The
-        pace is the seconds here for one of those that were measured."""
+        """Returns the check that begins now, if any: of the first crate, where all below it is proved and a processor and memory are
+        free. The pace is the seconds here for one of those that were measured."""
         idle = self.jobs - sum(it.processors for it in at_work)
         if not order or idle < 1:
             return None
@@ -63,7 +62,7 @@ class Plan:
         return None
 
     def end_of(self, order: list[Crate], most: dict[str, int], at_work: list[Check], now: float, pace: float) -> float:
-        """When all is proved, by the model."""
+        """Returns when all is proved, by the model."""
         left, at_work = list(order), list(at_work)
         while left or at_work:
             while check := self.next_check(left, most, at_work, now, pace):
@@ -75,7 +74,7 @@ class Plan:
         return now
 
     def moved(self) -> list[Crate]:
-        """The order with one crate at another place: behind those below it, and before those that stand on it."""
+        """Returns the order with one crate at another place: after those below it, and before those that use it."""
         order = list(self.left)
         crate = order.pop(self.tried.randrange(len(order)))
         first = max((at + 1 for at, it in enumerate(order) if it.name in crate.below), default=0)
@@ -102,7 +101,7 @@ class Plan:
         self.tries = TRIES
 
     def begin(self, at_work: list[Check], now: float, pace: float) -> list[Check]:
-        """The checks that begin now."""
+        """Returns the checks that begin now."""
         self.improve(at_work, now, pace)
         begun: list[Check] = []
         while check := self.next_check(self.left, self.most, [*at_work, *begun], now, pace):

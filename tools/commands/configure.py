@@ -7,8 +7,8 @@ Without options it shows all options of a configured folder: their values, defau
 options it changes what was given before, and sets up the folder again. If the folder is not configured yet, it is made:
 then run this in the source directory, as `setup`.
 
-It makes the machine file too, in BUILDDIR/meson-private/machine.ini, and makes it again each time: only what is new or
-has changed is asked. What you filled in there stays if this machine has no answer. If another compiler or other flags
+It makes the machine file too, in BUILDDIR/meson-private/machine.ini, and makes it again each time: it answers only
+what is new or has changed. What you filled in there stays if this machine has no answer. If another compiler or other flags
 would be used than before, and CC, AR, CFLAGS, CPPFLAGS or LDFLAGS doesn't ask for that, it stops. With --native-file it
 takes your machine file. It takes arguments of the real Meson too: --prefix=/usr is -Dprefix=/usr, and so on.
 
@@ -39,7 +39,7 @@ PROGRAM = os.environ.pop("HAWKOTTOMAN_PROGRAM", "")
 
 def arguments() -> Given:
     parser = Parser("meson configure", __doc__ or "", BAD_WORDS)
-    parser.add_argument("folder", metavar="BUILDDIR", nargs="?", default=".", help="the folder of the build (default: the present one)")
+    parser.add_argument("folder", metavar="BUILDDIR", nargs="?", default=".", help="the build directory (default: the present one)")
     parser.add_argument("-D", dest="words", metavar="NAME=VALUE", action="append", default=[], help="give an option this value")
     parser.add_argument("--native-file", metavar="FILE", help="a machine file of your own")
     for name in OPTIONS:

@@ -72,7 +72,7 @@ def stripped(path: str, data: bytes | bytearray) -> bytes:
 
 
 class Installation:
-    """What is installed of a build folder, and where."""
+    """What is installed of a build directory, and where."""
 
     def __init__(self, words: Given, document: Document) -> None:
         self.words, self.folder, self.root, self.log = words, os.path.realpath(words.folder), Root(words.destdir), []
@@ -173,7 +173,7 @@ class Installation:
             self.put(path, destination, make)
 
     def linked(self, path: str) -> bytes | bytearray:
-        """The bytes of a program or a shared library as it is installed."""
+        """Returns the bytes of a program or a shared library as it is installed."""
         data = bytearray(read_bytes(path))
         try:
             elf.drop_search(data, self.search_folders(path))

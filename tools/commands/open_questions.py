@@ -43,7 +43,7 @@ def is_open(told: dict[str, Any], absent: set[str]) -> bool:
 
 
 def open_questions(program: str, words: list[str], machine: str) -> dict[str, str]:
-    """Returns the questions without an answer, each with the place where it is asked first."""
+    """Returns the questions without an answer, each with its first place."""
     done = processes.run(["meson", "questions", *words], executable=program, variables=dict(os.environ), most=processes.MOST_TOLD)
     asked = [json.loads(line) for line in done.printed.split("\n") if line]
     absent = {line.removeprefix(NOT_FOUND) for line in machine.splitlines() if line.startswith(NOT_FOUND)}

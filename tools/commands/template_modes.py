@@ -27,14 +27,14 @@ UNKNOWN = "it is not known which outputs come from executable templates, so none
 
 
 def templates_of(folder: str, sources: str) -> list[str]:
-    """The files that the last setup has looked at and that are executable."""
+    """Returns the files that the last setup has looked at and that are executable."""
     places = ((it, os.path.join(sources, it)) for it in read_document(folder).made_from["present"])
     return [it for it, place in places if os.path.basename(it) not in DEFINITION_FILES and "\n" not in it
             and os.path.isfile(place) and os.access(place, os.X_OK)]
 
 
 def outputs_of(program: str, setup: Setup, templates: list[str]) -> list[str]:
-    """The outputs that a run of the program makes of one of these templates, from the folder of the build."""
+    """Returns the outputs that a run of the program makes of one of these templates, from the build directory."""
     build = f"build-{os.urandom(8).hex()}"
     machine = machine_path(setup.words)
     if machine is not None and is_pipe(os.path.join(setup.sources, machine)):

@@ -21,7 +21,7 @@ OPENED = {"format": PRINTED, "join": TEXTS}
 
 
 def refused(context: Context) -> Detail:
-    """E9 at a call, or at an assignment to a name that can't be set."""
+    """Explains E9 at a call, or at an assignment to a name that can't be set."""
     statement = context.place.statement
     if context.told.so == UNSETTABLE and own_name(statement) is not None:
         return detail(f"{context.told.shown}: it is a variable of the program's own", at=statement.start)
@@ -44,7 +44,7 @@ def call_of(context: Context) -> tree.Call | None:
 
 
 def own_name(statement: tree.Statement) -> str | None:
-    """The variable of the program's own that a statement would set."""
+    """Returns the variable of the program's own that a statement would set."""
     return next((it for it in tree.names_set_by(statement) if it in OWN), None)
 
 
@@ -73,7 +73,7 @@ def of_told(context: Context, call: tree.Call) -> Detail:
 
 
 def of_value(context: Context, call: tree.Call) -> Detail:
-    """A method of a value: the rule that the value breaks or the text that it got, or else what it takes, and what it got."""
+    """Explains the refusal of a method: the rule that the value breaks or the text that it got, or else what it takes, and what it got."""
     rule = broken_rule(context, call, values_of(context, call))
     if rule is not None:
         return rule
@@ -88,13 +88,13 @@ def of_value(context: Context, call: tree.Call) -> Detail:
 
 
 def of_all(context: Context, call: tree.Call) -> str:
-    """What a call got, where all of it is known."""
+    """Returns what a call got, if all of it is known."""
     values = [context.value(it) for it in call.arguments]
     return GOT + listed(it.shown() for it in values if it) if values and None not in values else ""
 
 
 def unprinted(context: Context, call: tree.Call) -> Detail:
-    """The first argument that has no printed text."""
+    """Returns the first argument that has no printed text."""
     for number, node in enumerate(call.arguments, 1):
         value = context.value(node)
         misfit = misfit_of(PRINTED, value) if value is not None else ""
@@ -104,13 +104,13 @@ def unprinted(context: Context, call: tree.Call) -> Detail:
 
 
 def values_of(context: Context, call: tree.Call) -> dict[str, Value]:
-    """The values of the arguments that are known, by their names and numbers."""
+    """Returns the values of the arguments that are known, by their names and numbers."""
     found = {name: context.value(item) for name, _, item in items_of(call)}
     return {name: it for name, it in found.items() if it is not None}
 
 
 def got(context: Context, value: Value | None) -> str:
-    """Says what was given where another kind is taken: the value itself, if it is known, or what is reported of it."""
+    """Says what was given instead of the required kind: the value itself if it is known, or what the program reports of it."""
     told = context.told
     kind = KINDS.get(told.kind or "")
     found = (misfit_of(kind, value) if kind else value.shown()) if value is not None and value.kind != OBJECT else ""
@@ -125,13 +125,13 @@ def unknown_keyword(context: Context, call: tree.Call, name: str) -> Detail:
 
 
 def place_of_count(call: tree.Call, so: str) -> int:
-    """Where the arguments begin that are too many; of other counts, and of a keyword that is missing, the call."""
+    """Returns where the superfluous arguments begin; for other counts, and for a missing keyword, the place of the call."""
     most = re.fullmatch(r"takes (\d+), and got more", so)
     return call.arguments[int(most[1])].start if most and int(most[1]) < len(call.arguments) else call.start
 
 
 def of_call(context: Context, call: tree.Call) -> Detail:
-    """A call of which the program reports nothing: rules of the call; else what each argument is."""
+    """Explains a call of which the program reports nothing: by the rules of the call, else by what each argument is."""
     values = {name: context.value(item) for name, _, item in items_of(call)}
     rule = broken_rule(context, call, values_of(context, call))
     if rule is not None:
@@ -152,7 +152,7 @@ def misfit_of(kind: Kind, value: Value) -> str:
 
 
 def items_of(call: tree.Call) -> list[tuple[str, int | None, tree.Node]]:
-    """The arguments, each with a name of its own, its number, and its value."""
+    """Returns the arguments, each with a name of its own, its number, and its value."""
     plain = [(str(number + 1), number, it) for number, it in enumerate(call.arguments)]
     return [*plain, *((name, None, word.value) for name, word in call.keywords.items())]
 
@@ -162,7 +162,7 @@ def name_of(name: str, number: int | None) -> str:
 
 
 def all_values(context: Context, call: tree.Call, values: dict[str, Value | None]) -> Detail:
-    """What the call was given, where no rule is known that says more."""
+    """Says what the call was given, if no rule is known that says more."""
     on = f" of {value.shown()}" if call.receiver is not None and (value := context.value(call.receiver)) else ""
     given = [f"{name_of(name, number)} is {value.shown()}" for name, number, _ in items_of(call) if (value := values.get(name))]
     return detail(f"{call.name}{on}: it can't use what it got: {listed(given) or 'nothing'}", at=call.start)

@@ -18,7 +18,7 @@ OF_PACKAGERS = (*OTHER_FOLDERS, "wrap_mode", "b_", "unity", "strip", "cpp_", "pk
 
 
 def brief(program: str, words: list[str]) -> list[str]:
-    """The line that says what the fault of a run is about; none where nothing is to be said."""
+    """Returns the line that says what the fault of a run is about; none if nothing is to be said."""
     try:
         asked = Asked(program, os.getcwd(), words, machine_of(words))
         outcome = in_place(asked)
@@ -40,7 +40,7 @@ def of_fault(asked: Asked, fault: Fault) -> str:
 
 
 def instead_of(asked: Asked, fault: Fault, told: str) -> str:
-    """What is said in place of the explanation, where there is better advice."""
+    """Returns what is said in place of the explanation, where there is better advice."""
     is_absent = fault.number == E14 and fault.name == "meson.build" and fault.line == 1 and not os.path.exists("meson.build")
     above = next((it for it in ("..", "../..", "../../..") if os.path.exists(os.path.join(it, "meson.build"))), None)
     if is_absent or fault.number == E13 and above is not None and fault.file == "meson.build":
@@ -58,7 +58,7 @@ def instead_of(asked: Asked, fault: Fault, told: str) -> str:
 
 
 def before_error(fault: Fault) -> str:
-    """A check without an answer, of the file of an `error()` and just before it."""
+    """Finds a check without an answer, of the file of an `error()` and just before it."""
     asked = [json.loads(line) for line in fault.asked.split("\n") if line]
     near = [it for it in asked if it["file"] == fault.file and it["answer"] is None and not it["section"].endswith(" options")
             and fault.line - 10 <= it["line"] <= fault.line and it["key"] not in ("c", "ar")]
@@ -80,7 +80,7 @@ def with_rule(asked: Asked, fault: Fault, told: str) -> str:
 
 
 def rule_for(asked: Asked, fault: Fault) -> tuple[str, bool] | None:
-    """The first rule that changes the line of the fault, and whether it is sure."""
+    """Returns the first rule that changes the line of the fault, and whether it is sure."""
     from tools.porting.project import Project, Unreadable
     from tools.porting.rule_table import RULES
     try:

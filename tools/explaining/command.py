@@ -42,7 +42,7 @@ def main(told: str, program: str, words: list[str]) -> int:
 
 
 def machine_of(words: list[str]) -> bytes | None:
-    """The bytes of the machine file that the words name."""
+    """Returns the bytes of the machine file that the words name."""
     path = machine_path(words)
     if path is None:
         return None
@@ -78,7 +78,7 @@ def explain(asked: Asked, outcome: Outcome) -> int:
 
 
 def explained(asked: Asked, fault: Fault) -> list[str]:
-    """The fault line, the line of the source with its mark, and the detail."""
+    """Returns the fault line, the line of the source with its mark, and the detail."""
     text = text_of(asked, fault)
     try:
         found = detail_of(asked, fault, report_of(about(asked, fault) if fault.number in TOLD else ""), text)
@@ -135,7 +135,7 @@ def bytes_of(asked: Asked, fault: Fault) -> bytes:
 
 
 def on_statement(asked: Asked, fault: Fault, told: FaultReport, text: str) -> Detail:
-    """A fault of a statement: its values are asked of the program."""
+    """Explains a fault of a statement, whose values it finds by runs of the program."""
     place = place_of(fault.file, text, fault.line) if read(os.path.join(asked.root, fault.file)) is not None else None
     if place is None:
         return detail(UNSEEN.get(fault.number, "the refused part is in this line"))

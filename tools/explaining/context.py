@@ -28,7 +28,7 @@ class Context:
     probe: Probe
 
     def value(self, node: tree.Node) -> Value | None:
-        """What a node is in the round of the fault; none where that isn't known."""
+        """Returns what a node is in the round of the fault, or None if that isn't known."""
         node = tree.plain(node)
         if isinstance(node, tree.Text) and not node.has_names:
             return Value("text", node.value)
@@ -47,7 +47,7 @@ class Context:
         return Value(made) if made is not None else None
 
     def text_of(self, node: tree.Node | None) -> str | None:
-        """A node that is a text."""
+        """Returns a node that is a text."""
         value = self.value(node) if node is not None else None
         return value.text if value is not None and value.kind == "text" else None
 
@@ -56,18 +56,18 @@ class Context:
         return os.path.dirname(self.fault.file)
 
     def call(self) -> tree.Call | None:
-        """The call at fault; where that isn't known, the outermost of the line."""
+        """Returns the call at fault; where that isn't known, the outermost of the line."""
         calls = self.place.calls()
         node = self.probe.culprit if calls and self.probe.can_ask else None
         return node if isinstance(node, tree.Call) else calls[0] if calls else None
 
     def answer(self, section: str) -> dict[str, object] | None:
-        """What the machine file answered where a whole section was asked."""
+        """Returns what the machine file answered if a run queried a whole section."""
         told = (json.loads(it) for it in self.fault.asked.split("\n") if it)
         return next((it["answer"] for it in told if (it["section"], it["key"]) == (section, None)), None)
 
     def names(self) -> set[str]:
-        """The names that have a value somewhere in the definition files."""
+        """Returns the names that have a value somewhere in the definition files."""
         return {*OWN, *set_in(self.asked.root)}
 
     def statements(self) -> Iterator[tuple[str, tree.Statement]]:
@@ -75,7 +75,7 @@ class Context:
 
 
 def set_in(root: str) -> dict[str, list[tree.Node]]:
-    """Of each name that the definition files set what it is set to; an empty name where that is an item of something."""
+    """Returns what the definition files set each name to; an empty name if that is an item of something."""
     found: dict[str, list[tree.Node]] = {}
     for _, statement in statements_below(root):
         value = statement.value if isinstance(statement, tree.Assignment) else tree.Name(statement.start, statement.start, "")
@@ -85,7 +85,7 @@ def set_in(root: str) -> dict[str, list[tree.Node]]:
 
 
 def statements_below(root: str) -> Iterator[tuple[str, tree.Statement]]:
-    """The statements of all definition files that are found by their names, each with its file."""
+    """Yields the statements of all definition files that are found by their names, each with its file."""
     waiting, seen = ["meson.build"], set()
     while waiting:
         path = waiting.pop(0)
@@ -104,7 +104,7 @@ def statements_below(root: str) -> Iterator[tuple[str, tree.Statement]]:
 
 
 def read(path: str) -> str | None:
-    """The text of a file of the sources, where it can be had."""
+    """Returns the text of a file of the sources, where it can be had."""
     try:
         return read_text(path, DEFINITION)
     except (OSError, ValueError):

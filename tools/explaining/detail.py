@@ -23,13 +23,13 @@ def detail(*lines: str, at: int | None = None) -> Detail:
 
 
 def quoted(text: str) -> str:
-    """A text between quotes, not more of it than is read at a glance, without what would break the line."""
+    """Returns a text between quotes, cut to what is read at a glance, without what would break the line."""
     cut = text if len(text) <= LONGEST else text[:LONGEST - 2] + ".."
     return "'" + "".join(it if it.isprintable() else it.encode("unicode_escape").decode() for it in cut) + "'"
 
 
 def named(text: str) -> str:
-    """A token as it is written; between quotes, where it has none of its own."""
+    """Returns a token as it is written; between quotes, where it has none of its own."""
     return quoted(text) if not text.lstrip("f").startswith("'") else quoted(text)[1:-1]
 
 
@@ -38,13 +38,13 @@ def listed(words: Iterable[str]) -> str:
 
 
 def near(word: str, known: Iterable[str]) -> str:
-    """The known name that is nearest, as the end of a sentence; nothing where none is near."""
+    """Returns the known name that is nearest, as the end of a sentence; empty if none is near."""
     found = difflib.get_close_matches(word, sorted(set(known) - {word}), 1, 0.6)
     return f"; near: {quoted(found[0])}" if found else ""
 
 
 def shown(text: str, line: int, at: int | None) -> list[str]:
-    """The line of the fault, and the one with the place, with a mark below it."""
+    """Returns the line of the fault, and the one with the place, with a mark below it."""
     lines = text.split("\n")
     numbers = [line] if at is None else sorted({line, line_at(text, at)})
     width = len(str(numbers[-1]))

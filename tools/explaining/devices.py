@@ -16,18 +16,18 @@ OUTPUTS = ("build.ninja", "meson-info/introspect.json")
 
 
 def failed(asked: Asked) -> str | None:
-    """Which file or folder a run can't read or write, and why; none where nothing is found."""
+    """Returns which file or folder a run can't read or write, and why, or None if nothing is found."""
     return unread(asked) or unwritten(asked) or unread_by_name(asked)
 
 
 def texts_named(asked: Asked) -> list[tuple[str, str]]:
-    """The texts of the definition files, each with the folder in which it may be a path."""
+    """Returns the texts of the definition files, each with the folder in which it may be a path."""
     return [(os.path.dirname(path), node.value) for path, statement in statements_below(asked.root)
             for expression in tree.expressions_of(statement) for node in tree.inside(expression) if isinstance(node, tree.Text)]
 
 
 def unread(asked: Asked) -> str | None:
-    """A definition file, or a file that one names by its whole path, that can't be read."""
+    """Finds a definition file, or a file that one names by its whole path, that can't be read. Returns its path and why."""
     texts = texts_named(asked)
     folders = {"", *(os.path.join(folder, text) for folder, text in texts)}
     paths = [*(os.path.join(folder, it) for folder in sorted(folders) for it in DEFINITION_FILES), *(os.path.join(*it) for it in texts)]
@@ -39,7 +39,7 @@ def unread(asked: Asked) -> str | None:
 
 
 def unread_by_name(asked: Asked) -> str | None:
-    """A file that has a name of a definition file, or of a part of a path that a text of these may be, and that can't be read."""
+    """Finds a file that can't be read and has the name of a definition file, or of a part of a path that their texts may name."""
     wanted = {*DEFINITION_FILES, *(part for _, text in texts_named(asked) for part in text.split("/"))}
     for folder, folders, names in os.walk(asked.root):
         folders[:] = [it for it in sorted(folders)
@@ -56,7 +56,7 @@ def unread_by_name(asked: Asked) -> str | None:
 
 
 def reason(path: str) -> str | None:
-    """Why a file can't be read; a pipe is not opened, since that would wait. What isn't there is looked for, and not read."""
+    """Returns why a file can't be read; a pipe is not opened, since that would wait. What isn't there is looked for, and not read."""
     try:
         kind = os.stat(path).st_mode
         if stat.S_ISDIR(kind):
@@ -72,7 +72,7 @@ def reason(path: str) -> str | None:
 
 
 def unwritten(asked: Asked) -> str | None:
-    """Why BUILDDIR can't be written; nothing is made or changed."""
+    """Returns why BUILDDIR can't be written; nothing is made or changed."""
     path, build = asked.root, asked.build or "."
     for part in build.split("/"):
         above, path = path, os.path.join(path, part)
@@ -92,7 +92,7 @@ def unwritten(asked: Asked) -> str | None:
 
 
 def unwritable(folder: str) -> str | None:
-    """The system's reason where nothing can be made in a folder."""
+    """Returns the system's reason where nothing can be made in a folder."""
     if os.statvfs(folder).f_flag & os.ST_RDONLY:
         return os.strerror(errno.EROFS)
     return None if os.access(folder, os.W_OK | os.X_OK) else os.strerror(errno.EACCES)

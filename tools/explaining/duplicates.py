@@ -16,7 +16,7 @@ RESERVED = ("all", "build.ninja", "meson-info/introspect.json")
 
 
 def duplicate(context: Context) -> Detail:
-    """E11: a keyword, a key or an output twice."""
+    """Explains E11: a keyword, a key or an output twice."""
     nodes = [node for root in tree.expressions_of(context.place.statement) for node in tree.inside(root)]
     calls = [it for it in nodes if isinstance(it, tree.Call) and context.told.may_be_of(it)] if context.told.keyword is not None else []
     if calls:
@@ -40,29 +40,29 @@ def key_twice(context: Context, dictionaries: list[tree.Dictionary]) -> Detail:
 
 
 def named_by(call: tree.Call) -> tree.Node | None:
-    """What says the names of the outputs of a call."""
+    """Returns what says the names of the outputs of a call."""
     return call.keywords["output"].value if "output" in call.keywords else call.arguments[0] if call.arguments else None
 
 
 def outputs_of(call: tree.Call) -> list[str]:
-    """Returns the names that a call makes, as far as they are written in it."""
+    """Returns the names that a call makes and that are written in it."""
     node = named_by(call)
     return [it.value for it in tree.inside(node) if isinstance(it, tree.Text)] if node is not None else []
 
 
 def are_one(left: set[str], right: set[str]) -> bool:
-    """Whether a file is made twice; the links of a shared library have numbers behind its name."""
+    """Returns whether a file is made twice. The links of a shared library have numbers after its name."""
     return any(a == b or a.startswith(b + ".") and b.endswith(".so") or b.startswith(a + ".") and a.endswith(".so")
                for a in left for b in right)
 
 
 def files_of(maker: str, name: str) -> set[str]:
-    """The files that a target of a name is, or an output of this name."""
+    """Returns the files that a target of a name is, or an output of this name."""
     return {it.format(name) for it in FILES.get(maker, ("{}",))}
 
 
 def made_twice(context: Context, call: tree.Call) -> Detail:
-    """A target or a file that makes what another one makes, or the same twice: the path that is told."""
+    """Explains a target or a file that makes what another one makes, or the same twice: the path that the program reports."""
     path = context.told.output or ""
     if path in RESERVED:
         return detail(f"{call.name}: {quoted(path)} is a name of build.ninja's own", at=call.start)

@@ -20,7 +20,7 @@ FORMS = (
 # How it begins where a value is of another kind than is taken there, and what it ends with.
 TAKES, GOT = "takes ", ", and got "
 MISSING, TWICE, NONE, LEFT = "is missing, and is needed", "occurs twice", "there is none", "is left out"
-# What a function or a method needs beside its row, of which the text is the name; and of a name that a definition file would set.
+# The beginning of a report about what a function or method needs in addition to its row; and the end of one about a name that can't be set.
 NEEDS, UNSETTABLE = "needs ", "is no name that can be set"
 
 
@@ -43,30 +43,30 @@ class FaultReport:
 
     @property
     def shown(self) -> str:
-        """The whole report, cut if it is too long to be read."""
+        """Returns the whole report, cut if it is too long to be read."""
         return self.whole if len(self.whole) <= WIDEST else self.whole[:WIDEST - 2] + ".."
 
     @property
     def name(self) -> str | None:
-        """The name that the report consists of; none if it says more."""
+        """Returns the name that the report consists of; none if it says more."""
         return self.whole if self.whole and not self.so else None
 
     @property
     def kind(self) -> str | None:
-        """What is taken there, in words, where something else was given."""
+        """Returns what is taken there, in words, where something else was given."""
         return self.so.removeprefix(TAKES).partition(GOT)[0] if self.so.startswith(TAKES) else None
 
     @property
     def function(self) -> str | None:
-        """The name of the function or method that it is about, where it says that."""
+        """Returns the name of the function or method that it is about, where it says that."""
         return self.text if self.so.startswith(NEEDS) else self.method
 
     def words_of(self, call: tree.Call) -> list[tree.Keyword]:
-        """The places where a call has the keyword that it is about."""
+        """Returns the places where a call has the keyword that it is about."""
         return [it for it in call.items if isinstance(it, tree.Keyword) and it.name == self.keyword]
 
     def may_be_of(self, call: tree.Call) -> bool:
-        """Whether the report may be about this call."""
+        """Returns whether the report may be about this call."""
         if self.keyword is not None:
             return not self.words_of(call) if self.so == MISSING else len(self.words_of(call)) > (self.so == TWICE)
         if self.function is not None:
@@ -74,7 +74,7 @@ class FaultReport:
         return self.number is None or len(call.arguments) >= int(self.number)
 
     def value_in(self, call: tree.Call) -> tree.Node | None:
-        """The value that the report is about, in a call that it may be about."""
+        """Returns the value that the report is about, in a call that it may be about."""
         if self.number is not None:
             return call.arguments[int(self.number) - 1]
         words = self.words_of(call)

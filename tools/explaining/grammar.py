@@ -39,7 +39,7 @@ FOLLOWING = {
 
 
 def bytes_detail(data: bytes) -> Detail:
-    """E1: the first byte that is no UTF-8."""
+    """Explains E1: the first byte that is no UTF-8."""
     try:
         data.decode()
     except UnicodeDecodeError as error:
@@ -48,7 +48,7 @@ def bytes_detail(data: bytes) -> Detail:
 
 
 def start_of(text: str, line: int) -> int:
-    """Where a line begins."""
+    """Returns where a line begins."""
     at = 0
     for _ in range(line - 1):
         at = text.find("\n", at) + 1
@@ -61,7 +61,7 @@ def line_text(text: str, line: int) -> str:
 
 
 def tokens_before(text: str, end: int) -> list[Token]:
-    """The tokens up to a place, as far as there are tokens."""
+    """Returns the tokens up to a place, or up to the first text that is no token."""
     while True:
         try:
             return tokens_of(text[:end])
@@ -72,7 +72,7 @@ def tokens_before(text: str, end: int) -> list[Token]:
 
 
 def open_at(text: str, end: int) -> list[tuple[str, int]]:
-    """The brackets and blocks that are open at a place, each with where it begins."""
+    """Returns the brackets and blocks that are open at a place, each with where it begins."""
     found: list[tuple[str, int]] = []
     for token in tokens_before(text, end):
         if token.text in CLOSING and token.kind == "mark" or token.kind == "keyword" and token.text in ("if", "foreach"):
@@ -83,7 +83,7 @@ def open_at(text: str, end: int) -> list[tuple[str, int]]:
 
 
 def open_detail(text: str, end: int, line: int) -> str:
-    """What is open, and since which line; nothing of a block that begins on this line."""
+    """Returns what is open, and since which line; nothing of a block that begins on this line."""
     found = open_at(text, end)
     word, at = found[-1] if found else ("", 0)
     if not found or word not in CLOSING and line_at(text, at) == line:
@@ -93,7 +93,7 @@ def open_detail(text: str, end: int, line: int) -> str:
 
 
 def token_detail(text: str, line: int) -> Detail:
-    """E2: the token that is none."""
+    """Explains E2: the text that is no token."""
     start = start_of(text, line)
     for match in re.finditer(r"(?<![\w'])0\d\w*|(?<![\w'])\d+[A-Za-z_]\w*", text[start:start + len(line_text(text, line))]):
         if not re.fullmatch(r"0[xX][0-9a-fA-F]+|0[oO][0-7]+|0[bB][01]+", match[0]):
@@ -116,7 +116,7 @@ def token_detail(text: str, line: int) -> Detail:
 
 
 def unread_at(text: str) -> int | None:
-    """Where the tokens end before the file does."""
+    """Returns where the tokens end before the file does."""
     at = 0
     while at < len(text):
         match = TOKEN.match(text, at)
@@ -127,7 +127,7 @@ def unread_at(text: str) -> int | None:
 
 
 def grammar_detail(text: str, line: int) -> Detail:
-    """E3: the token at fault, what could be there, and what is open."""
+    """Explains E3: the token at fault, what could be there, and what is open."""
     try:
         parser = Parser(text)
     except SyntaxFault:
@@ -151,7 +151,7 @@ def grammar_detail(text: str, line: int) -> Detail:
 
 
 def hint_of(parser: Parser) -> str:
-    """What is often meant by what can't be read."""
+    """Returns what is often meant by what can't be read."""
     token, before = parser.token, parser.tokens[parser.at - 1] if parser.at else None
     if before is None:
         return ""
@@ -185,7 +185,7 @@ def hint_of(parser: Parser) -> str:
 
 
 def in_brackets(opened: str, before: Token, token: Token) -> str:
-    """The same inside of brackets."""
+    """Returns the same inside of brackets."""
     if token.text == "=" and opened == "{":
         return "in a dictionary ':' follows a key"
     if before.kind == "name" and token.kind == "mark" and token.text == "=":
@@ -200,7 +200,7 @@ def in_brackets(opened: str, before: Token, token: Token) -> str:
 
 
 def on_line(text: str, line: int) -> Detail:
-    """The line at fault, where no place in it is known."""
+    """Returns the line at fault, where no place in it is known."""
     words = WORD.findall(line_text(text, line))
     end = start_of(text, line)
     what = f"at {quoted(words[0])}" if words else "at the end of the line"
@@ -211,7 +211,7 @@ def on_line(text: str, line: int) -> Detail:
 
 
 def refused_in(body: list[tree.Statement]) -> Iterator[tuple[int, str]]:
-    """What the grammar refuses beside what can't be read."""
+    """Yields what the grammar refuses apart from what can't be read."""
     for statement, is_in_loop in with_loops(body, False):
         if isinstance(statement, tree.Jump) and not is_in_loop:
             yield statement.start, f"'{statement.word}' is outside of a foreach"
@@ -234,7 +234,7 @@ def late_arguments(call: tree.Call) -> Iterator[tuple[int, str]]:
 
 
 def nesting_detail(text: str, line: int) -> Detail:
-    """E4: where level 65 is opened."""
+    """Explains E4: where level 65 is opened."""
     start = start_of(text, line)
     found = open_at(text, start + len(line_text(text, line)))
     since = f": the outermost begins in line {line_at(text, found[0][1])}" if found else ""

@@ -9,7 +9,7 @@ from tools.porting import tree
 
 
 def template(line: str) -> Detail:
-    """E19."""
+    """Explains E19."""
     words = line.split()
     if len(words) == 1:
         return detail(f"{quoted(words[0])} has no name after it: write '#mesondefine NAME'")
@@ -22,7 +22,7 @@ def template(line: str) -> Detail:
 
 
 def not_held(context: Context) -> Detail:
-    """E21: the reported text, with what Ninja can't hold of it."""
+    """Explains E21: the reported text, with what Ninja can't hold of it."""
     call, text = context.call(), context.told.text or ""
     sign = re.search(r"[\0\n\r]", text) or re.search(r"[#|\x00-\x1f\x7f]", text)
     what = f"the text {quoted(text)} has {sign_name(sign[0])}" if sign else f"{quoted(text)} has an argument with an end of line"
@@ -40,7 +40,7 @@ VALUES = ("a list or a dictionary may have 65,536 items, hold others 64 deep and
 
 
 def limit(context: Context) -> Detail:
-    """E22: which limit."""
+    """Explains E22: which limit."""
     call = context.call()
     if call is None:
         return detail(VALUES, at=context.place.statement.start)

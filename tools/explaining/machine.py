@@ -23,7 +23,7 @@ def section_at(lines: list[str], number: int) -> str | None:
 
 
 def cut(section: str | None, line: str) -> tuple[str, str]:
-    """Key and value of a line."""
+    """Returns the key and the value of a line."""
     key, _, value = line.rpartition("=") if section == "checks" else line.partition("=")
     return key.strip(), value.strip()
 
@@ -58,7 +58,7 @@ def of_key(lines: list[str], number: int, told: FaultReport) -> Detail:
 
 
 def hint_of(value: str) -> str:
-    """What a value would be that is none."""
+    """Returns what a value would be that is none."""
     begun = value[:1]
     if re.fullmatch(r"[\w./+-]+", value):
         return f"a text is written between quotes, as '{value}'; a number is an integer, and true and false are truth values"
@@ -72,7 +72,7 @@ def hint_of(value: str) -> str:
 
 
 def line_before(lines: list[str], number: int, fits: Callable[[str], bool]) -> int:
-    """The line above in the same section that fits; 0 where none does."""
+    """Returns the line above in the same section that fits; 0 where none does."""
     for above in range(number - 1, 0, -1):
         line = lines[above - 1].strip()
         if line.startswith("["):

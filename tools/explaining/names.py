@@ -19,7 +19,7 @@ def named_call(context: Context, name: str) -> tree.Call | None:
 
 
 def undefined(context: Context) -> Detail:
-    """E5."""
+    """Explains E5."""
     name, present = context.fault.name, context.place.statement
     at = next((it.start for root in tree.expressions_of(present) for it in tree.inside(root) if is_named(it, name)), None)
     if isinstance(present, tree.Assignment) and present.operator == "+=" and present.name == name:
@@ -33,7 +33,7 @@ def undefined(context: Context) -> Detail:
 
 
 def meant_by(context: Context, name: str) -> str:
-    """What else has a name that no variable has."""
+    """Says what else has a name that no variable has."""
     if name.lower() in ("none", "null", "nil"):
         return "there is no such value: '', [] or {} is an empty one"
     if name in FUNCTIONS:
@@ -44,7 +44,7 @@ def meant_by(context: Context, name: str) -> str:
 
 
 def is_named(node: tree.Node, name: str) -> bool:
-    """Whether a node asks for a variable: by its name, or in a text."""
+    """Returns whether a node asks for a variable: by its name, or in a text."""
     if isinstance(node, tree.Text):
         return node.has_names and f"@{name}@" in node.value
     if isinstance(node, tree.Call) and node.name in ("get_variable", "unset_variable") and node.arguments:
@@ -54,7 +54,7 @@ def is_named(node: tree.Node, name: str) -> bool:
 
 
 def unknown(context: Context) -> Detail:
-    """E8."""
+    """Explains E8."""
     name = context.fault.name
     call = named_call(context, name)
     if call is not None and call.receiver is not None:
@@ -70,7 +70,7 @@ def unknown(context: Context) -> Detail:
 
 
 def missing_file(context: Context) -> Detail:
-    """E14."""
+    """Explains E14."""
     path = context.fault.name
     folder, name = os.path.split(path)
     place = os.path.join(context.asked.root, folder)
@@ -83,7 +83,7 @@ def missing_file(context: Context) -> Detail:
 
 
 def text_at(context: Context, path: str) -> int | None:
-    """The text of the statement that names a path."""
+    """Returns the text of the statement that names a path."""
     for root in tree.expressions_of(context.place.statement):
         for node in tree.inside(root):
             if isinstance(node, tree.Text) and node.value:
@@ -94,7 +94,7 @@ def text_at(context: Context, path: str) -> int | None:
 
 
 def not_found(context: Context) -> Detail:
-    """E17."""
+    """Explains E17."""
     call = context.call()
     if call is None:
         return detail(f"{quoted(context.fault.name)} is required and not found", at=context.place.statement.start)
@@ -118,7 +118,7 @@ def not_found(context: Context) -> Detail:
 
 
 def no_dependency(context: Context, call: tree.Call, names: list[str]) -> str:
-    """What the machine file says of each name; where it has one, its version doesn't fit."""
+    """Returns what the machine file says of each name; where it has one, its version doesn't fit."""
     wanted = context.value(call.keywords["version"].value) if "version" in call.keywords else None
     wants = f", and 'version' asks for {listed(quoted(it.text) for it in flat(wanted))}" if wanted else ""
     found = {it: context.answer(f"dependency {it}") for it in names}
@@ -128,7 +128,7 @@ def no_dependency(context: Context, call: tree.Call, names: list[str]) -> str:
 
 
 def left_out(context: Context) -> Detail:
-    """E23: a function, a method, a keyword, a language or a value, as it is told."""
+    """Explains E23: a function, a method, a keyword, a language or a value, as the program reports it."""
     told, calls = context.told, context.place.calls()
     if told.keyword is not None:
         return left_keyword(context, told.keyword)
@@ -148,7 +148,7 @@ def left_out(context: Context) -> Detail:
 
 
 def left_keyword(context: Context, name: str) -> Detail:
-    """A keyword that is left out, of the call that has it."""
+    """Explains a keyword that is left out, of the call that has it."""
     calls = [it for it in context.place.calls() if context.told.may_be_of(it)]
     culprit = context.probe.culprit if len(calls) > 1 and context.probe.can_ask else None
     call = culprit if isinstance(culprit, tree.Call) and culprit in calls else calls[-1] if calls else None
@@ -159,7 +159,7 @@ def left_keyword(context: Context, name: str) -> Detail:
 
 
 def of_project(context: Context, call: tree.Call | None) -> Detail:
-    """A language beside C, or a value of an option."""
+    """Explains a language other than C, or a value of an option."""
     told = context.told
     given = call.keywords.get("default_options") if call else None
     if told.option is not None:

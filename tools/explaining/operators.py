@@ -22,7 +22,7 @@ def said(context: Context, node: tree.Node) -> str:
 
 
 def refused(context: Context) -> Detail:
-    """E6, E7 and E10 at a node of the statement, or at the statement itself."""
+    """Explains E6, E7 and E10 at a node of the statement, or at the statement itself."""
     node = context.probe.culprit if context.probe.can_ask else None
     if node is None:
         return of_statement(context)
@@ -55,7 +55,7 @@ def of_node(context: Context, node: tree.Node) -> Detail:
 
 
 def advice(context: Context, node: tree.Binary) -> str:
-    """How two types are brought together."""
+    """Returns how two types are brought together."""
     left, right = context.value(node.left), context.value(node.right)
     if left is None or right is None:
         return ""
@@ -93,7 +93,7 @@ NAMES = {"configuration data object": "keys()", "dictionary": "keys()"}
 
 
 def no_item(context: Context, receiver: Value, node: tree.Node, index: Value) -> str:
-    """E10: an index or a key that is none, with the length or the nearest key."""
+    """Explains E10: an index or a key that does not exist, with the length or the nearest key."""
     if receiver.kind in NAMES:
         known = [it.text for it in flat(context.probe.asked_of(node, NAMES[receiver.kind]) or Value("list"))]
         what = receiver.kind.removesuffix(" object")
@@ -102,7 +102,7 @@ def no_item(context: Context, receiver: Value, node: tree.Node, index: Value) ->
 
 
 def length_of(context: Context, value: Value, node: tree.Node) -> str:
-    """How long a value is, as the end of a sentence."""
+    """Returns how long a value is, as the end of a sentence."""
     length = str(len(value.text if value.kind == TEXT else value.items))
     if value.kind in LENGTHS and not value.text:
         found = context.probe.asked_of(node, LENGTHS[value.kind])

@@ -16,7 +16,7 @@ def open_text(context: Context, path: str) -> str:
 
 
 def folder(context: Context) -> Detail:
-    """E12."""
+    """Explains E12."""
     call = next((it for it in context.place.calls() if it.name == "subdir"), None)
     name = context.text_of(call.arguments[0]) if call and call.arguments else None
     if call is None or name is None:
@@ -33,7 +33,7 @@ def folder(context: Context) -> Detail:
 
 
 def project_call(context: Context) -> Detail:
-    """E13."""
+    """Explains E13."""
     first = context.place.body[0] if context.fault.file == "meson.build" else None
     if context.place.statement is not first:
         return detail("project: it is called only once, as the first statement of the root's meson.build", at=context.place.statement.start)
@@ -48,7 +48,7 @@ def project_call(context: Context) -> Detail:
 
 
 def own_words(context: Context) -> Detail:
-    """E18."""
+    """Explains E18."""
     call = next((it for it in context.place.calls() if it.name in ("assert", "error")), None)
     if call is None or not call.arguments:
         return detail("the project itself ends the run", at=context.place.statement.start)
@@ -59,7 +59,7 @@ def own_words(context: Context) -> Detail:
 
 
 def frozen(context: Context) -> Detail:
-    """E20."""
+    """Explains E20."""
     call = context.call()
     name = context.place.source(call.receiver) if call and call.receiver else "the data"
     uses = [(path, node) for path, statement in context.statements() for root in tree.expressions_of(statement)
@@ -73,7 +73,7 @@ def frozen(context: Context) -> Detail:
 
 
 def too_late(context: Context) -> Detail:
-    """E24: the reported target, which was declared before, and where."""
+    """Explains E24: the reported target, which was declared before, and where."""
     call = next((it for it in context.place.calls() if it.name.startswith("add_project")), None)
     what, name, move = call.name if call else "add_project_arguments", context.told.target or "", "move it before the first target"
     at = call.start if call else None

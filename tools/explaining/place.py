@@ -29,7 +29,7 @@ class Place:
         return any(is_in_loop for it, is_in_loop in with_loops(self.body, False) if it is self.statement)
 
     def calls(self) -> list[tree.Call]:
-        """The calls that begin on the line, outer ones first."""
+        """Returns the calls that begin on the line, outer ones first."""
         nodes = [node for it in tree.expressions_of(self.statement) for node in tree.inside(it)]
         found = [it for it in nodes if isinstance(it, tree.Call)]
         on_line = [it for it in found if self.line in (self.line_of(it.start), self.line_of(it.name_start))]
@@ -45,7 +45,7 @@ def with_loops(body: list[tree.Statement], is_in_loop: bool) -> Iterator[tuple[t
 
 
 def head_end(statement: tree.Statement) -> int:
-    """Where a statement ends without its body."""
+    """Returns where a statement ends without its body."""
     ends = [it.end for it in tree.expressions_of(statement)]
     return max(max(ends, default=statement.end), statement.start)
 

@@ -1,6 +1,6 @@
-"""Asks the program what happens at a place: its file is changed so that the run ends there and says what a value is.
+"""Finds what happens at a place: runs the program on a changed file, so that the run ends there and prints a value.
 
-The statement of the fault is counted, since it may be carried out often, and only the round in which the fault comes is asked. In
+The probe counts the statement of the fault, which may run often, and stops only in the round in which the fault comes. In
 `[number == round and error(MARK, [x]), x][1]` the value is that of `x` in each other round; in that one the run ends with the mark and
 what `x` is.
 """
@@ -32,14 +32,14 @@ MAKES = {
     **dict.fromkeys(("dependency", "declare_dependency"), "dependency"), "find_program": "program", "files": "list of files",
     "include_directories": "include_directories object", "configuration_data": "configuration data object", "disabler": "disabler",
 }
-# How often the program is asked of one fault, at most, and up to how many seconds after the beginning.
+# How often the program runs at most for one fault, and up to how many seconds after the beginning.
 MOST, MOST_SECONDS = 400, 120
-LINES_BEFORE = 2  # that are before the statement when it is asked
+LINES_BEFORE = 2  # that a probe adds before the statement
 
 
 class Probe:
     def __init__(self, room: Room, place: Place, number: int, set_to: dict[str, list[tree.Node]]) -> None:
-        """`number` is that of the fault; `set_to` says of each variable what the project sets it to."""
+        """Takes the number of the fault as `number`, and in `set_to` what the project sets each variable to."""
         self.room, self.place, self.number, self.set_to, self.asked = room, place, number, set_to, 0
         self.known: dict[tree.Node, Value] = {}
         first = place.body[0]
@@ -53,11 +53,11 @@ class Probe:
 
     @property
     def can_ask(self) -> bool:
-        """Whether the statement may have calls, and there is time to ask."""
+        """Returns whether the statement may have calls, and there is time to ask."""
         return self.rounds > 0 and self.asked < MOST and time.monotonic() - self.room.asked.begun < MOST_SECONDS
 
     def outcome(self, edits: list[tuple[int, int, str]], before: str = "") -> Outcome:
-        """What comes of the file with other texts at some places, and with lines before the statement."""
+        """Returns what comes of the file with other texts at some places, and with lines before the statement."""
         self.asked += 1
         start, text = self.place.statement.start, self.place.text
         counted = (start, start, f"{COUNT} += 1\n{before}")
@@ -67,7 +67,8 @@ class Probe:
         return self.room.run(text)
 
     def said(self, node: tree.Node, form: str) -> str | None:
-        """What the run says behind the mark where the node is changed; none where it doesn't come there, or isn't asked any more."""
+        """Returns what the run prints after the mark if the node is changed; None if the run doesn't come there, or none may start any
+        more."""
         if not self.can_ask:
             return None
         source = self.place.source(node)
@@ -79,7 +80,7 @@ class Probe:
         return self.printed(fault)
 
     def printed(self, fault: Fault) -> str:
-        """Returns what follows the mark, with the folder of the sources where the run had that of the links."""
+        """Returns what follows the mark, with the source directory where the run had that of the links."""
         return fault.text[len(MARK):].strip().replace(self.room.folder, self.room.asked.root)
 
     def completes(self, node: tree.Node) -> bool:
@@ -89,7 +90,7 @@ class Probe:
         return self.said(node, "[ROUND and error(MARK), NODE][1]") is not None
 
     def value(self, node: tree.Node) -> Value:
-        """What a node that completes is, in the round of the fault; it is asked once."""
+        """Returns what a node that completes is, in the round of the fault. The run is made once."""
         if node not in self.known:
             self.known[node] = self.asked_value(node)
         return self.known[node]
@@ -104,12 +105,12 @@ class Probe:
         return Value(made if made is not None else self.kind(node))
 
     def asked_of(self, node: tree.Node, method: str) -> Value | None:
-        """What a method gives of a node that completes; none where that isn't known."""
+        """Returns what a method gives of a node that completes, or None if that isn't known."""
         printed = self.said(node, f"[ROUND and error(MARK, [(NODE).{method}]), NODE][1]") if self.can_ask else None
         return value_in(printed) if printed is not None else None
 
     def told(self, nodes: list[tuple[tree.Statement, tree.Node]]) -> list[tuple[tree.Node, str]]:
-        """The texts that nodes of statements of this file were, each time before the statement; none where that isn't known."""
+        """Returns the texts that nodes of statements of this file were, each time before the statement; none if that isn't known."""
         asks = ("foreach {0}_it : [] + ({1})\n{0}_all += 1\n"
                 "meson.get_compiler('c').sizeof('{2} @0@ {3} @1@'.format({0}_all, {0}_it))\nendforeach\n")
         edits = [(statement.start, statement.start, asks.format(COUNT, self.place.source(node), MARK, number))
@@ -122,14 +123,14 @@ class Probe:
         return [(nodes[int(number)][1], text) for _, number, text in found]
 
     def variable(self, name: str) -> Value | None:
-        """What a variable is before the statement, in the round of the fault."""
+        """Returns what a variable is before the statement, in the round of the fault."""
         fault = self.outcome([], f"{COUNT} == {self.rounds} and error('{MARK}', [{name}])\n").fault
         if fault is None or not fault.text.startswith(MARK):
             return None
         return value_in(self.printed(fault))
 
     def made(self, node: tree.Node) -> str | None:
-        """Of which kind an object is by the call that makes it; of a variable, by all calls that set it."""
+        """Returns the kind of an object by the call that makes it; of a variable, by all calls that set it."""
         if isinstance(node, tree.Call):
             return MAKES.get(node.name) if node.receiver is None or node.name in OF_METHODS else None
         if isinstance(node, tree.Name) and node.text in OWN:
@@ -139,7 +140,7 @@ class Probe:
         return kinds.pop() if len(kinds) == 1 else None
 
     def kind(self, node: tree.Node) -> str:
-        """Of which kind an object is by the methods that it has."""
+        """Returns the kind of an object by the methods that it has."""
         for method, name in METHODS.items():
             source = self.place.source(node)
             new = f"[{COUNT} == {self.rounds} and ({source}).{method}(), {source}][1]"
@@ -149,7 +150,7 @@ class Probe:
         return OBJECT
 
     def without(self, call: tree.Call) -> tree.Keyword | None:
-        """The keyword without which the call is not refused so."""
+        """Returns the keyword without which the call is not refused so."""
         for item in call.items:
             if isinstance(item, tree.Keyword):
                 end = self.place.text.find(",", item.end, call.end)
@@ -161,12 +162,12 @@ class Probe:
 
     @functools.cached_property
     def culprit(self) -> tree.Node | None:
-        """The innermost node that is begun and doesn't complete; none where all expressions of the statement do."""
+        """Returns the innermost node that is begun and doesn't complete, or None if all expressions of the statement do."""
         root = next((it for it in tree.expressions_of(self.place.statement) if self.is_at_fault(it)), None)
         return self.innermost(root) if root is not None else None
 
     def is_at_fault(self, root: tree.Node) -> bool:
-        """Whether the fault comes in an expression of the statement; where that is the statement itself, it does."""
+        """Returns whether the fault comes in an expression of the statement; where that is the statement itself, it does."""
         if isinstance(self.place.statement, tree.Expression):
             return True
         opened = self.opened(root)
@@ -182,10 +183,8 @@ class Probe:
         return root
 
     def opened(self, root: tree.Node) -> list[tree.Node] | None:
-        """The nodes of an expression that are begun in the round of the fault and don't complete, outer ones first.
-
-        It is one run, in which each node asks a question before and one behind it. None where that run has another fault.
-        """
+        """Returns the nodes of an expression that begin in the round of the fault and don't complete, outer ones first. One run finds
+        them: each node asks one question before it and one after it. None if that run has another fault."""
         nodes: list[tree.Node] = []
         is_alone = isinstance(self.place.statement, tree.Expression)
         text = self.asking_parts(root, nodes) if is_alone else self.asking(root, nodes)
@@ -197,7 +196,8 @@ class Probe:
         return [nodes[number] for word, number in told if word == "begin" and number not in ended]
 
     def asking(self, node: tree.Node, nodes: list[tree.Node]) -> str:
-        """The text of a node that asks before and behind; it is put behind `nodes`, by whose numbers the questions name it."""
+        """Returns the text of a node that asks a question before and after it. Adds the node to `nodes`, whose numbers the questions
+        name."""
         number = len(nodes)
         nodes.append(node)
         before, behind = (f"{COUNT} == {self.rounds} and meson.get_compiler('c').sizeof('{MARK} {it} {number}') == 0"
@@ -213,6 +213,6 @@ class Probe:
 
 
 def parts(node: tree.Node) -> Iterator[tree.Node]:
-    """The values that a node is made of, in the order in which they are evaluated."""
+    """Yields the values that a node is made of, in the order in which they are evaluated."""
     for part in tree.parts_of(node):
         yield part.value if isinstance(part, tree.Keyword) else part

@@ -166,12 +166,12 @@ TABLES: dict[str, list[tuple[str, str]]] = {
 
 
 def plain(text: str) -> str:
-    """A text of the document without what makes it a link."""
+    """Returns a text of the document without what makes it a link."""
     return re.sub(r"\[([^]]*)\]\([^)]*\)", r"\1", text)
 
 
 def instead_of(table: str, name: str) -> str:
-    """What the document writes in place of a function, a method, a keyword or an option; nothing where it has no row."""
+    """Returns what the document writes in place of a function, a method, a keyword or an option; empty if it has no row."""
     for left_out, instead in TABLES[table]:
         spans = re.findall(r"`([^`]*)`", left_out) + ([name] if re.search(rf"(?<![\w`]){re.escape(name)}(?![\w`])", left_out) else [])
         if any(re.search(rf"(?<!\w){re.escape(name)}(?!\w)", it) for it in spans):
@@ -180,6 +180,6 @@ def instead_of(table: str, name: str) -> str:
 
 
 def in_its_place(table: str, name: str, short: str = "") -> str:
-    """What the document says of a name, else the short text, as a line; nothing where there is neither."""
+    """Returns what the document says of a name, else the short text, as a line; empty if there is neither."""
     text = instead_of(table, name) or short
     return f"write in its place: {text}" if text else ""

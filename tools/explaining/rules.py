@@ -10,7 +10,7 @@ from tools.explaining.fault_report import UNSETTABLE
 from tools.explaining.values import DICTIONARY, OWN, TEXT, Value, flat
 from tools.porting import tree
 
-# What a text has to be, by what is reported of it.
+# What a text has to be, by the words of the program's report.
 WHYS = {
     "is no name of a target": "it isn't empty, '.' or '..', has no '/' and begins with no '-'",
     "is no name of a file": "it isn't empty, '.' or '..', and has no '/'",
@@ -27,7 +27,7 @@ WHYS = {
 
 
 def hint_of(context: Context, call: tree.Call) -> str:
-    """Why a text is none of what is told, in words."""
+    """Says why a text does not fit the reported form."""
     told = context.told
     if told.so.startswith("names no "):
         return why_no_path(context, told.text or "")
@@ -61,7 +61,7 @@ def place_of_text(context: Context, call: tree.Call, text: str) -> int:
 
 
 def value_of_key(context: Context, call: tree.Call, key: str) -> Value | None:
-    """The value that a key has in a dictionary among the arguments."""
+    """Returns the value that a key has in a dictionary among the arguments."""
     for item in call.items:
         value = context.value(item.value if isinstance(item, tree.Keyword) else item)
         found = dict(pairs(value)).get(key) if value else None
@@ -71,7 +71,7 @@ def value_of_key(context: Context, call: tree.Call, key: str) -> Value | None:
 
 
 def pairs(value: Value) -> list[tuple[str, Value]]:
-    """The keys and values of a dictionary."""
+    """Returns the keys and values of a dictionary."""
     return [(key.text, it) for key, it in zip(value.items[::2], value.items[1::2])] if value.kind == DICTIONARY else []
 
 
@@ -88,7 +88,7 @@ def broken_rule(context: Context, call: tree.Call, values: dict[str, Value]) -> 
 
 
 def place_of(call: tree.Call, name: str) -> int:
-    """Where an argument begins."""
+    """Returns where an argument begins."""
     if name in call.keywords:
         return call.keywords[name].value.start
     return call.arguments[int(name) - 1].start if name.isdigit() and int(name) <= len(call.arguments) else call.start

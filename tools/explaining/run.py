@@ -21,7 +21,7 @@ LONGEST, MOST_BYTES = 300, (32 << 20) + 1
 
 @dataclasses.dataclass(frozen=True)
 class Fault:
-    """A fault line: its file, the line there, its number, the text behind that; and what its run asked, a line of JSON each."""
+    """A fault line: its file, the line there, its number, the text after that; and what its run asked, a line of JSON each."""
     file: str
     line: int
     number: int
@@ -33,7 +33,7 @@ class Fault:
 
     @property
     def name(self) -> str:
-        """What follows the words of the fault, if anything does."""
+        """Returns what follows the words of the fault, if anything does."""
         return self.text.partition(": ")[2]
 
 
@@ -48,7 +48,7 @@ class Outcome:
 
 @dataclasses.dataclass(frozen=True)
 class Asked:
-    """What is asked for, and since when: the program, the folder of the sources, the words, and the bytes of the machine file."""
+    """What a run is given and when it began: the program, the source directory, the arguments, and the bytes of the machine file."""
     program: str
     root: str
     words: list[str]
@@ -57,19 +57,19 @@ class Asked:
 
     @property
     def build(self) -> str | None:
-        """BUILDDIR, where the words have one that is below the sources."""
+        """Returns BUILDDIR, if the words have one that is below the sources."""
         folder = build_folder_of(self.words)
         if not folder or os.path.isabs(folder) or ".." in folder.split("/"):
             return None
         return os.path.normpath(folder)
 
     def settings(self) -> list[str]:
-        """The words `-D..`, as the program counts them, without `-D`."""
+        """Returns the words `-D..`, as the program counts them, without `-D`."""
         return settings_of(self.words)
 
 
 def with_machine(words: list[str], path: str) -> list[str]:
-    """The words with another path of the machine file."""
+    """Returns the words with another path of the machine file."""
     made, is_next = [], False
     for number, word in enumerate(words):
         if word == "--":
@@ -85,11 +85,9 @@ def with_machine(words: list[str], path: str) -> list[str]:
 
 
 def questions(asked: Asked, folder: str, scratch: str, task: str = "questions") -> Outcome:
-    """What the program says of a folder, which it writes nothing in: the fault that `setup` would end in, and what was asked before; of
-    the task `fault` what that is about in place of what was asked. A NoAnswer where it can't be run, or says too much.
-
-    The bytes of the machine file are in a file of their own, since they may have come through a pipe.
-    """
+    """Returns what the program reports of a folder, in which it writes nothing: the fault in which `setup` would end, and the questions
+    before it. With the task `fault` it returns what that fault is about in place of the questions. Raises NoAnswer if the program can't
+    be run, or prints too much. The bytes of the machine file are in a file of their own, since they may have come through a pipe."""
     words = asked.words
     if asked.machine is not None:
         path = os.path.join(scratch, "native.ini")
@@ -106,13 +104,13 @@ def questions(asked: Asked, folder: str, scratch: str, task: str = "questions") 
 
 
 def in_place(asked: Asked) -> Outcome:
-    """What the program says of the sources themselves."""
+    """Returns what the program says of the sources themselves."""
     with tempfile.TemporaryDirectory(prefix="meson-explain-") as scratch:
         return questions(asked, asked.root, scratch)
 
 
 def about(asked: Asked, fault: Fault) -> str:
-    """What the program says that the fault is about; nothing where it says no more than the fault's line."""
+    """Returns what the program says that the fault is about; empty if it says no more than the fault's line."""
     with tempfile.TemporaryDirectory(prefix="meson-explain-") as scratch:
         outcome = questions(asked, asked.root, scratch, "fault")
     is_same = outcome.fault is not None and outcome.fault.shown() == fault.shown()
@@ -127,7 +125,7 @@ class Room:
         linked_copy(asked.root, self.folder, {path: text})
 
     def run(self, text: str) -> Outcome:
-        """What the program says where the file has this text."""
+        """Returns what the program says where the file has this text."""
         with open(os.path.join(self.folder, self.path), "w", encoding="utf-8", newline="") as it:
             it.write(text)
         return questions(self.asked, self.folder, self.scratch)

@@ -20,7 +20,7 @@ BUILT_IN = ("prefix", "bindir", "libdir", "includedir", "datadir", "mandir", "sy
             "warning_level", "werror", "c_std", "default_library", "c_args", "c_link_args", "auto_features")
 TYPES = ("string", "boolean", "combo", "integer", "array", "feature")
 WORDS = ("type", "value", "description", "choices", "min", "max", "yield")
-# What the name of a declaration has to be, by what is reported of it.
+# What the name of a declaration has to be, by the words of the program's report.
 WHYS = {
     "is no name of an option": "it has letters, digits, '_' and '-'",
     "is the name of a built-in option": "give yours another one",
@@ -31,7 +31,7 @@ ABSENT = "there is no option "
 
 
 def declared(root: str) -> dict[str, tree.Call]:
-    """The options that the project declares."""
+    """Returns the options that the project declares."""
     for name in OPTION_FILES:
         text = read(os.path.join(root, name))
         if text is None:
@@ -53,7 +53,7 @@ def of_value(asked: Asked, told: FaultReport, before: str = "", at: int | None =
 
 
 def absent(asked: Asked, name: str, text: str, at: int | None) -> Detail:
-    """An option that is not there: the nearest name, or what to write in its place."""
+    """Explains an option that does not exist: by the nearest name, or by what to write in its place."""
     options = declared(asked.root)
     instead = in_its_place("Options", name) or (in_its_place("Options", "b_") if name.startswith("b_") else "")
     known = f"the options of this project: {listed(options)}" if options and not instead else ""
@@ -61,7 +61,7 @@ def absent(asked: Asked, name: str, text: str, at: int | None) -> Detail:
 
 
 def of_machine(asked: Asked, fault: Fault, told: FaultReport) -> Detail:
-    """A line of the machine file."""
+    """Returns a line of the machine file."""
     lines = (asked.machine or b"").decode(errors="replace").split("\n")
     section = section_at(lines, fault.line)
     others = {"project options": ("built-in options", BUILT_IN), "built-in options": ("project options", declared(asked.root))}
@@ -72,7 +72,7 @@ def of_machine(asked: Asked, fault: Fault, told: FaultReport) -> Detail:
 
 
 def of_option_file(asked: Asked, fault: Fault, told: FaultReport, text: str) -> Detail:
-    """A statement of the option file."""
+    """Returns a statement of the option file."""
     try:
         body = parse(text)
     except (SyntaxFault, RecursionError):
@@ -118,7 +118,7 @@ def plain_text(node: tree.Node) -> str:
 
 
 def of_statement(context: Context) -> Detail:
-    """`default_options` of project, or `get_option`."""
+    """Explains a fault of `default_options` of project, or of `get_option`."""
     told = context.told
     calls = [it for it in context.place.calls() if it.receiver is None]
     given = next((it.keywords["default_options"].value for it in calls if "default_options" in it.keywords), None)

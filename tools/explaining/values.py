@@ -32,14 +32,14 @@ class Value:
 
 
 def flat(value: Value) -> list[Value]:
-    """A value, or those in it where it is a list, at each depth."""
+    """Returns a value, or those in it where it is a list, at each depth."""
     if value.kind != LIST:
         return [value]
     return [inner for item in value.items for inner in flat(item)]
 
 
 def end_of_text(printed: str, at: int) -> int:
-    """Where a text ends that begins at a quote: at the next quote that a sign of a list or a dictionary follows."""
+    """Returns where a text ends that begins at a quote: at the next quote that a sign of a list or a dictionary follows."""
     end = printed.find("'", at + 1)
     while end >= 0 and not printed[end + 1:].startswith((", ", "]", " : ", "}")) and end + 1 < len(printed):
         end = printed.find("'", end + 1)
@@ -47,7 +47,7 @@ def end_of_text(printed: str, at: int) -> int:
 
 
 def value_at(printed: str, at: int) -> tuple[Value, int]:
-    """The value that is printed at a place, and where it ends."""
+    """Returns the value that is printed at a place, and where it ends."""
     sign = printed[at:at + 1]
     if sign == "'":
         end = end_of_text(printed, at)

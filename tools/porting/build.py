@@ -1,7 +1,7 @@
 """Builds what `meson port` has made, in a temporary folder.
 
-A build that compiles and links alone, by words that a compiler may be given for a project (tools/asking/allowed.py), is carried out here
-step by step, each in the sandbox of `meson machine-file`. Any other is Ninja's, and is made only where it is asked for.
+If a build only compiles and links, by arguments that a compiler may get for a project (tools/asking/allowed.py), this module runs each
+step in the sandbox of `meson machine-file`. Any other build is run by Ninja, and only with --run.
 """
 from __future__ import annotations
 
@@ -78,7 +78,7 @@ class Trial:
         return next(filter(None, map(self.doubt_of, edges)), "")
 
     def doubt_of(self, edge: Edge) -> str:
-        """What an edge would run that is the project's, or might be; empty where it runs the compiler or the archiver alone."""
+        """Returns what an edge would run that is the project's, or might be; empty if it runs the compiler or the archiver alone."""
         words, output, compiler = edge.words, edge.outputs[0], self.compiler
         if any(it.startswith(("-", "@")) for it in edge.outputs + edge.inputs):
             return shlex.join(words)
@@ -94,7 +94,8 @@ class Trial:
         return "" if refused is None else f"the compiler with {refused}"
 
     def flags_of(self, edge: Edge) -> list[str] | None:
-        """The words of a compiler or a linker beside itself, its inputs and its output; none where it isn't called as `setup` writes it."""
+        """Returns the arguments of a compiler or a linker apart from its inputs and its output; None if it isn't called as `setup`
+        writes it."""
         output, words = edge.outputs[0], edge.words[len(self.compiler.c):]
         if edge.rule == "c_compile":
             last = ["-MD", "-MQ", output, "-MF", output + ".d", "-o", output, "-c", edge.inputs[0]]
@@ -105,7 +106,7 @@ class Trial:
         return [it for it in words[:at] + words[at + 2:] if it not in edge.inputs and it not in self.archives]
 
     def carry_out(self, edges: list[Edge]) -> str:
-        """Compiles side by side, then archives and links one by one: the first step that fails, and why; empty where none does."""
+        """Compiles side by side, then archives and links one by one: the first step that fails, and why; empty if none does."""
         side_by_side(self.step, [it for it in edges if it.rule == "c_compile"], None, end_all)
         for edge in edges:
             if edge.rule != "c_compile":
@@ -137,13 +138,13 @@ def parts_round(words: list[str], own: list[str]) -> list[list[str]]:
 
 
 def reason_of(output: str) -> str:
-    """The first line that says why a step has failed, and not merely that it has."""
+    """Returns the first line that says why a step has failed, and not merely that it has."""
     lines = output.strip().split("\n")
     return next((it for it in lines if ERROR.search(it) and not it.startswith(SUMMARY)), lines[0]).strip()
 
 
 def advice(why: str) -> str:
-    """The rule, or what else would help."""
+    """Returns the rule, or what else would help."""
     if "undefined reference" in why:
         return "; `--also link-order` names static libraries that use one another once more"
     header = re.search(r"fatal error: ([^:]+): No such file", why)
@@ -156,7 +157,7 @@ def advice(why: str) -> str:
 
 
 def first_failure(program: str, root: str, changed: dict[str, str], words: list[str], machine: bytes, may_run: bool) -> tuple[str, bool]:
-    """What came of a build of the sources, in which these files are others, and whether it was good or not made."""
+    """Returns what came of a build of the sources, in which these files are others, and whether it was good or not made."""
     with tempfile.TemporaryDirectory(prefix="meson-port-") as scratch:
         folder, path = os.path.join(scratch, "sources"), os.path.join(scratch, "native.ini")
         linked_copy(root, folder, changed)
@@ -172,7 +173,7 @@ def first_failure(program: str, root: str, changed: dict[str, str], words: list[
 
 
 def outcome(trial: Trial, may_run: bool) -> tuple[str, bool]:
-    """What came of a build of what is set up, and whether it was good or not made."""
+    """Returns what came of a build of what is set up, and whether it was good or not made."""
     edges = edges_of(read_text(os.path.join(trial.folder, "build.ninja")))
     doubt = trial.doubt(edges)
     if doubt and not may_run:
@@ -185,7 +186,7 @@ def outcome(trial: Trial, may_run: bool) -> tuple[str, bool]:
 
 
 def failure_of_ninja(build: str) -> str:
-    """The target that Ninja can't make, and why; empty where it makes all."""
+    """Returns the target that Ninja can't make, and why; empty if it makes all."""
     done = run([*find_ninja(), "-C", build], seconds=LONGEST, variables=dict(os.environ), is_asked_first=True)
     said = done.printed + done.said
     failed = next((it for it in said.split("\n") if it.startswith("FAILED: ")), "").removeprefix("FAILED: ").strip()

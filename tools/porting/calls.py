@@ -36,7 +36,7 @@ def summary(project: Project) -> Iterator[Change]:
 
 
 def summary_edits(project: Project, site: Site) -> list[tuple[int, int, str]] | None:
-    """A section before the values, objects by whether they are found, no other keywords; none where a value can't be printed."""
+    """Returns a section before the values, objects by whether they are found, no other keywords, or None if a value can't be printed."""
     arguments = [tree.plain(it) for it in site.call.arguments]
     values = arguments
     if len(arguments) == 1 and isinstance(arguments[0], tree.Dictionary):
@@ -90,7 +90,7 @@ def build_target(project: Project) -> Iterator[Change]:
 
 
 def both_libraries(project: Project) -> Iterator[Change]:
-    """A shared and a static library of one name; the static one is asked for by its own variable."""
+    """Replaces a shared and a static library of one name: the static one is reached by its own variable."""
     for site in project.functions("both_libraries"):
         name = assigned_name(site)
         if not can_hoist(site) or (name is None and not is_whole_statement(site)):
@@ -112,7 +112,7 @@ def both_libraries(project: Project) -> Iterator[Change]:
 
 
 def run_target(project: Project) -> Iterator[Change]:
-    """A target that makes nothing: a custom target that is built where its name is asked for."""
+    """Replaces a target that makes nothing by a custom target that is built only by name."""
     for site in project.functions("run_target", "alias_target"):
         name = text_of(project, site.call.arguments[0]) if site.call.arguments else None
         if name is None or "/" in name:
@@ -144,7 +144,7 @@ def lists_in_calls(project: Project) -> Iterator[Change]:
 
 
 def is_joined_plainly(value: object) -> bool:
-    """Whether a list is a path's parts, of which none after the first begins at the root of the disk; the first may be any text."""
+    """Returns whether a list is a path's parts, of which none after the first begins at the root of the disk; the first may be any text."""
     first, *rest = flat(value) or [Item(UNKNOWN)]
     texts = [it.value for it in [first, *rest]]
     return (all(it.is_sure for it in [first, *rest]) and kind_of(first.value) == "text"
@@ -194,7 +194,7 @@ def files_in_texts(project: Project) -> Iterator[Change]:
 
 
 def path_of(site: Site, value: Thing) -> str | None:
-    """The path of a file that a call gives, as an expression in the same folder."""
+    """Returns the path of a file that a call gives, as an expression in the same folder."""
     output = value.keywords.get("output")
     if os.path.dirname(value.path) != site.folder:
         return None

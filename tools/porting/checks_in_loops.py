@@ -15,9 +15,9 @@ MOST_ITEMS, MOST_PARTS = 8, 16
 
 
 def ending_of(project: Project, site: Site) -> str | None:
-    """What a check's name ends with, as an expression that is another for each question.
+    """Returns the ending of a check's name, as an expression that differs for each question.
 
-    Empty where the call asks one question alone, none where no such expression is found.
+    Empty if the call asks only one question, None if no such expression is found.
     """
     rounds = project.known.things[site.call]
     if len(rounds) < 2 or all(is_same_question(rounds[0], it) for it in rounds):
@@ -33,7 +33,7 @@ def ending_of(project: Project, site: Site) -> str | None:
 
 
 def is_same_question(one: Thing, other: Thing) -> bool:
-    """Whether two rounds surely ask the same: the same source with the same words."""
+    """Returns whether two rounds surely ask the same: the same source with the same words."""
     if one.keywords.keys() != other.keywords.keys():
         return False
     pairs = [*zip(one.arguments, other.arguments), *((value, other.keywords[key]) for key, value in one.keywords.items() if key != "name")]

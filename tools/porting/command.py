@@ -76,7 +76,7 @@ def chosen(words: Given) -> list[Rule]:
 
 
 def carry_out(project: Project, rules: list[Rule]) -> None:
-    """Each rule until it changes nothing, and all of them again where one may have made work for another."""
+    """Applies each rule until it changes nothing, and all rules again if one may have made work for another."""
     for _ in range(MOST_PASSES):
         before = len(project.done)
         for rule in rules:
@@ -92,7 +92,7 @@ def carry_out(project: Project, rules: list[Rule]) -> None:
 
 
 def found_by(rule: Rule, project: Project) -> list[Change]:
-    """The changes of a rule. One that comes to something that it doesn't foresee changes nothing, and that is told."""
+    """Returns the changes of a rule. A rule that comes to something unforeseen changes nothing, and the command reports it."""
     try:
         return list(rule.change(project))
     except (AttributeError, IndexError, KeyError, TypeError, ValueError) as error:
@@ -105,7 +105,7 @@ def found_by(rule: Rule, project: Project) -> list[Change]:
 
 
 def show_patch(project: Project) -> None:
-    """The changes as a patch, which is all that a dry run writes to the standard output."""
+    """Prints the changes as a patch. A dry run writes nothing else to the standard output."""
     for path, (before, after) in project.results().items():
         old, new = (re.findall(r"[^\n]*\n|[^\n]+", text) for text in (before or "", after))
         for line in difflib.unified_diff(old, new, f"a/{path}" if before is not None else "/dev/null", f"b/{path}"):
@@ -122,7 +122,7 @@ def show_changes(project: Project) -> None:
 
 
 def line_of_diff(line: str) -> str:
-    """A line of a diff as a terminal shows it: what would steer that is written as an escape."""
+    """Returns a line of a diff as a terminal shows it: what would steer that is written as an escape."""
     body = line.removesuffix("\r")
     return "\t".join(map(one_line, body.split("\t"))) + line[len(body):]
 
@@ -139,7 +139,7 @@ def show_left(project: Project) -> list[Unsupported]:
 
 
 def write(project: Project) -> None:
-    """All changed files are put in their places, or none."""
+    """Puts all changed files in their places, or none."""
     encoded = lambda text: None if text is None else text.encode()
     texts = {path: (encoded(before), after.encode()) for path, (before, after) in project.results().items()}
     if texts:
@@ -147,7 +147,7 @@ def write(project: Project) -> None:
 
 
 def try_out(project: Project, words: Given) -> int:
-    """What the program and the real Meson say of the result; the status."""
+    """Tries the result with the program and with the real Meson. Returns the status."""
     if words.no_trial:
         report("the program was not asked")
         return 0
@@ -155,7 +155,7 @@ def try_out(project: Project, words: Given) -> int:
 
 
 def ask_program(project: Project, words: Given) -> int:
-    """What the program says of the result, and what comes of a build; the status."""
+    """Tries the result with the program, and builds it. Returns the status."""
     program = program_of(words.program)
     if program is None:
         report("the program was not asked: it isn't built (--program names another)")
@@ -173,7 +173,7 @@ def ask_program(project: Project, words: Given) -> int:
 
 
 def ask_real(project: Project, words: Given) -> int:
-    """What the real Meson says of the result where it took the sources before; the status."""
+    """Tries the result with the real Meson, if that took the sources before. Returns the status."""
     results = project.results()
     meson = real_meson() if results and not words.no_real else None
     if meson is None:
@@ -192,7 +192,7 @@ def ask_real(project: Project, words: Given) -> int:
 
 
 def main(doc: str | None, given: list[str] | None = None) -> int:
-    """The command over these words, else over those of the program; its status."""
+    """Runs the command with these arguments, else with those of the program. Returns its status."""
     words = arguments(doc, given)
     if words.list_rules:
         list_rules([it for it in RULES if not it.is_sure or "help" not in words.also])
@@ -202,7 +202,7 @@ def main(doc: str | None, given: list[str] | None = None) -> int:
 
 
 def carried_out(words: Given) -> int:
-    # All that is said of a patch is no part of it.
+    # Messages about a patch are no part of it.
     said_to = sys.stderr if words.dry_run else sys.stdout
     recovered = Journal(words.source).recover()
     if recovered:

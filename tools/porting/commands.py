@@ -1,4 +1,4 @@
-"""What is asked of the machine while configuring: run once, where that is asked for, and written down."""
+"""Runs the commands that a project runs while configuring, once and only with --run, and writes their results down."""
 from __future__ import annotations
 
 import hashlib
@@ -42,7 +42,7 @@ class NotRun(Exception):
 
 
 def words_of(project: Project, site: Site, values: list[object]) -> list[str] | None:
-    """The words of a run_command with these arguments, or none where one is not known here."""
+    """Returns the words of a run_command with these arguments, or None if one is not known here."""
     words: list[str] = []
     for number, value in enumerate(values):
         for item in flat(value):
@@ -54,7 +54,7 @@ def words_of(project: Project, site: Site, values: list[object]) -> list[str] | 
 
 
 def by_interpreter(words: list[str]) -> list[str]:
-    """A command whose first word is a script without its exec bit, run by what its first line names, as the real Meson does it."""
+    """Returns a command whose first word is a script without its exec bit, run by what its first line names, as the real Meson does it."""
     program = interpreter_of(words[0]) if os.path.isfile(words[0]) and not os.access(words[0], os.X_OK) else None
     return [shutil.which(program) or program, *words] if program else words
 
@@ -77,7 +77,7 @@ def word_of(project: Project, site: Site, item: Item, is_first: bool) -> str | N
 
 
 def run(project: Project, words: list[str], folder: str) -> subprocess.CompletedProcess[str] | None:
-    """What a command comes to, kept for when it is asked again."""
+    """Returns what a command comes to. The result is kept for the next call."""
     key = tuple(words)
     if key not in project.runs:
         spoken(project, f"ran: {shlex.join(words)}")
@@ -96,12 +96,12 @@ def run(project: Project, words: list[str], folder: str) -> subprocess.Completed
 
 
 def in_lines(text: str) -> str:
-    """A text whose lines end as those of Linux do, as the real Meson reads it."""
+    """Returns a text whose lines end as those of Linux do, as the real Meson reads it."""
     return text.replace("\r\n", "\n").replace("\r", "\n")
 
 
 def run_command(project: Project) -> Iterator[Change]:
-    """A result becomes a dictionary with its status and its texts, or the one of these that is asked for."""
+    """Replaces a result by a dictionary with its status and its texts, or by the one that the project uses."""
     for site in project.functions("run_command"):
         if not project.is_asked_to_run:
             project.doubt(site, f"run_command {NOT_ASKED}")
@@ -116,7 +116,7 @@ def run_command(project: Project) -> Iterator[Change]:
 
 
 def answers_of(project: Project, site: Site) -> dict[str, str]:
-    """What the methods of a result give, by their names; in a loop by what is another text in each round."""
+    """Returns what the methods of a result give, by their names; in a loop by what is another text in each round."""
     rounds = project.known.things[site.call]
     commands = [words_of(project, site, it.arguments) for it in rounds[:MOST_ROUNDS]]
     if "env" in site.call.keywords or len(rounds) > MOST_ROUNDS or None in commands:
@@ -129,14 +129,14 @@ def answers_of(project: Project, site: Site) -> dict[str, str]:
 
 
 def missing_program(project: Project, site: Site, rounds: list[Thing]) -> str:
-    """The program that a command is to run and this machine doesn't have; empty if there is no such program."""
+    """Returns the program that a command is to run and this machine doesn't have; empty if there is no such program."""
     first = [it for thing in rounds for it in flat(thing.arguments[0] if thing.arguments else "")[:1]]
     programs = [it for it in first if it.is_sure and isinstance(it.value, Thing) and it.value.kind == "program"]
     return next((it.value.name for it in programs if it.value.name and word_of(project, site, it, True) is None), "")
 
 
 def outcome(project: Project, site: Site, words: list[str]) -> subprocess.CompletedProcess[str]:
-    """What a command comes to, where that can be written down."""
+    """Returns what a command comes to, where that can be written down."""
     done = run(project, words, os.path.join(project.root, site.folder))
     if done is None or len(done.stdout) + len(done.stderr) > LARGEST:
         raise NotRun("it can't be run here")
@@ -147,7 +147,7 @@ def outcome(project: Project, site: Site, words: list[str]) -> subprocess.Comple
 
 
 def by_round(site: Site, rounds: list[Thing], texts: list[str]) -> str:
-    """The expression that is each of these texts in its round."""
+    """Returns the expression that is each of these texts in its round."""
     if len(set(texts)) == 1:
         return texts[0]
     for source, values in known_parts(site, rounds):
@@ -158,7 +158,7 @@ def by_round(site: Site, rounds: list[Thing], texts: list[str]) -> str:
 
 
 def answered(project: Project, site: Site, answers: dict[str, str]) -> Change | None:
-    """The call, and the methods of its result, as what they come to."""
+    """Returns the call, and the methods of its result, as what they come to."""
     outer = next((it for it in project.methods(*answers) if it.call.receiver and tree.plain(it.call.receiver) is site.call), None)
     what = "run_command becomes what it printed"
     if outer is not None:
@@ -188,7 +188,7 @@ def module_sites(project: Project, module: str, *names: str) -> Iterator[Site]:
 
 
 def path_at(project: Project, site: Site, node: tree.Node) -> str | None:
-    """The place on the disk of a path that a call is given."""
+    """Returns the place on the disk of a path that a call is given."""
     items = flat(project.known.placed(node))
     if len(items) != 1 or not items[0].is_sure:
         return None
@@ -244,13 +244,13 @@ def asked_files(project: Project) -> Iterator[Change]:
 
 
 def texts_of_rounds(project: Project, site: Site) -> list[str]:
-    """The paths of which a call is given one in each round of a loop; none where not all are known."""
+    """Returns the paths of which a call is given one in each round of a loop; none if not all are known."""
     texts = choices_of(project.known.value(site.call.arguments[0])) if site.call.arguments else ()
     return [str(it) for it in texts] if all(isinstance(it, str) for it in texts) else []
 
 
 def answer_of_several(project: Project, site: Site, texts: list[str]) -> str:
-    """Whether the path of a round is one of those that are there."""
+    """Returns whether the path of a round is one of those that are there."""
     there = [it for it in texts if QUESTIONS[site.call.name](os.path.join(project.root, site.folder, it))]
     if len(there) in (0, len(texts)):
         return str(bool(there)).lower()
@@ -341,13 +341,13 @@ def variables(project: Project) -> Iterator[Change]:
 
 
 def definition_of(site: Site) -> tree.Node | None:
-    """The list of a keyword that gives variables other values."""
+    """Returns the list of a keyword that gives variables other values."""
     word = site.call.keywords.get("pkgconfig_define") or site.call.keywords.get("define_variable")
     return word.value if word else None
 
 
 def variable_below(project: Project, site: Site, package: str, name: str) -> Change | None:
-    """A variable whose text begins with another one, to which the project gives a value: that value, and an option for the rest."""
+    """Returns a variable whose text begins with another one, to which the project gives a value: that value, and an option for the rest."""
     given = definitions_at(project, site)
     if not given:
         project.doubt(site, f"{site.call.name}: `pkgconfig_define:` can not be followed: an option")
@@ -374,7 +374,7 @@ def variable_below(project: Project, site: Site, package: str, name: str) -> Cha
 
 
 def definitions_at(project: Project, site: Site) -> list[tuple[str, tree.Node]]:
-    """The variables to which a call gives values, and these; none where a name is not known."""
+    """Returns the variables to which a call gives values, and these; none if a name is not known."""
     word = definition_of(site)
     node = tree.plain(word) if word else None
     items = node.items if isinstance(node, tree.List) else []
@@ -384,7 +384,8 @@ def definitions_at(project: Project, site: Site) -> list[tuple[str, tree.Node]]:
 
 
 def program_of_variable(project: Project, site: Site, package: str, name: str) -> str | None:
-    """The name of the program whose path a variable is, where `find_program` alone is given it and finds that very program by its name."""
+    """Returns the name of the program whose path a variable is, where `find_program` alone is given it and finds that very program by
+    its name."""
     asked = [tree.plain(it.call.arguments[0]) for it in project.functions("find_program") if len(it.call.arguments) == 1]
     variable = assigned_name(site)
     uses = [node for _, statement in uses_of(project, variable) for expression in tree.expressions_of(statement)

@@ -77,7 +77,7 @@ def defines(project: Project) -> Iterator[Change]:
 
 
 def stripped(site: Site) -> Site:
-    """The call of `strip` upon a call, or that call where there is none."""
+    """Returns the call of `strip` upon a call, or that call where there is none."""
     for expression in tree.expressions_of(site.statement):
         for node in tree.inside(expression):
             if isinstance(node, tree.Call) and node.receiver is site.call and node.name == "strip" and not node.items:
@@ -86,7 +86,7 @@ def stripped(site: Site) -> Site:
 
 
 def is_beside_nothing(outer: tree.Binary | None) -> bool:
-    """Whether a comparison is one with the empty text."""
+    """Returns whether a comparison is one with the empty text."""
     return outer is not None and outer.operator in ("==", "!=") and isinstance(outer.right, tree.Text) and outer.right.value == ""
 
 
@@ -113,7 +113,7 @@ def numbers(project: Project) -> Iterator[Change]:
 
 
 def after_prefix(site: Site, text: str) -> list[tuple[int, int, str]]:
-    """The edits that put a text, which is a literal, behind the prefix of a check."""
+    """Returns the edits that add a literal text after the prefix of a check."""
     prefix = site.call.keywords.get("prefix")
     if prefix is not None:
         return [replaced(site, prefix.value, prefix_text(site, prefix.value, text))]

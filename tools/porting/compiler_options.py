@@ -1,4 +1,4 @@
-"""What no check of this program says of the compiler: asked once, where that is asked for, and kept as an option.
+"""Finds what no check of this program says of the compiler, once and only with --run, and keeps it as an option.
 
 The source is compiled and linked as `meson machine-file` does it, and nothing of it is run. The real Meson asks the compiler as before.
 """
@@ -36,7 +36,7 @@ class NotFollowed(Exception):
 
 
 def answers(project: Project) -> Iterator[Change]:
-    """The first question that is left, as an option with the present value; behind it the next one is found."""
+    """Replaces the first question that is left by an option with the present value. A later pass finds the next one."""
     for site in of_compiler(project, *TYPES):
         try:
             source = question_of(project, site)
@@ -52,14 +52,14 @@ def answers(project: Project) -> Iterator[Change]:
 
 
 def left_for_later(project: Project, site: Site) -> None:
-    """Says that --run would ask, behind what another rule has said of it."""
+    """Says that --run would find the value, after what another rule has said of it."""
     why = project.doubts.get(site.call, f"{site.call.name}: {METHODS['compiler'][site.call.name]}")
     if WITH_RUN not in why:
         project.doubt(site, f"{why}; {WITH_RUN}")
 
 
 def as_option(project: Project, site: Site, value: bool | int | str) -> Change:
-    """The call for the real Meson alone, and beside it an option that is this value."""
+    """Returns the call for the real Meson alone, and next to it an option that has this value."""
     method = site.call.name
     first = text_of(project, site.call.arguments[0])
     wanted = f"value_of_{identifier(first or method)}" if method == "get_define" else wanted_name(project, site)
@@ -77,7 +77,7 @@ def as_option(project: Project, site: Site, value: bool | int | str) -> Change:
 
 
 def question_of(project: Project, site: Site) -> str:
-    """The source, the macro or the number that is asked for, where that is known and the same in each round of a loop."""
+    """Returns the source, the macro or the number of a question, if it is known and the same in each round of a loop."""
     if set(site.call.keywords) - TAKEN or len(site.call.arguments) != 1:
         raise NotFollowed("its arguments can't be followed")
     if ending_of(project, site) != "":
@@ -91,7 +91,7 @@ def question_of(project: Project, site: Site) -> str:
 
 
 def answer_of(project: Project, site: Site, text: str) -> bool | int | str:
-    """What the compiler says of a question."""
+    """Returns what the compiler says of a question."""
     with tempfile.TemporaryDirectory() as scratch:
         compiler = Compiler(scratch, project.root)
         prefix = prefix_of(project, site)
@@ -110,7 +110,7 @@ def answer_of(project: Project, site: Site, text: str) -> bool | int | str:
 
 
 def file_of(project: Project, site: Site) -> str:
-    """The path of the file that is a check's source; empty where none surely is."""
+    """Returns the path of the file that is a check's source; empty if none surely is."""
     items = flat(project.known.value(site.call.arguments[0]))
     thing = items[0].value if len(items) == 1 and items[0].is_sure else None
     is_file = isinstance(thing, Thing) and thing.kind == "file" and thing.function == "files"
@@ -133,7 +133,7 @@ def prefix_of(project: Project, site: Site) -> str:
 
 
 def flags_of(project: Project, site: Site, compiler: Compiler) -> Flags:
-    """The words of a check: its arguments, its folders, and what its dependencies give."""
+    """Returns the words of a check: its arguments, its folders, and what its dependencies give."""
     words = site.call.keywords
     args = texts_at(project, words["args"].value) if "args" in words else []
     if args is None or compiler.allowed.refused(args) is not None:
@@ -160,7 +160,7 @@ def folders_of(project: Project, site: Site) -> list[str]:
 
 
 def things_at(project: Project, word: tree.Keyword | None) -> list[Thing]:
-    """The objects that a keyword surely is."""
+    """Returns the objects that a keyword surely is."""
     items = flat(project.known.value(word.value)) if word else []
     if not all(it.is_sure and isinstance(it.value, Thing) for it in items):
         raise NotFollowed("its other arguments are not known here")

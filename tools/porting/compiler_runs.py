@@ -1,4 +1,4 @@
-"""Programs that are compiled and run while configuring: once, where that is asked for. The real Meson runs them as before."""
+"""Compiles and runs the programs that a project runs while configuring, once and only with --run. The real Meson runs them as before."""
 from __future__ import annotations
 
 import os
@@ -38,7 +38,7 @@ def runs(project: Project) -> Iterator[Change]:
 
 
 def answered(project: Project, site: Site, done: subprocess.CompletedProcess[str]) -> Change:
-    """The methods of a result, each for the real Meson alone, and beside it what it came to."""
+    """Keeps the methods of a result for the real Meson alone, and puts what it came to next to them."""
     uses = [it for it in project.methods(*METHODS) if it.call.receiver and tree.plain(it.call.receiver) is site.call]
     edits: list[tuple[int, int, str]] = []
     if not uses:
@@ -59,7 +59,7 @@ def answered(project: Project, site: Site, done: subprocess.CompletedProcess[str
 
 
 def is_result(project: Project, site: Site, name: str | None, run_site: Site) -> bool:
-    """Whether a method is one of the result of a run, by the variable that has it."""
+    """Returns whether a method is one of the result of a run, by the variable that has it."""
     receiver = tree.plain(site.call.receiver) if site.call.receiver else None
     things = [it.value for it in flat(project.known.value(receiver))] if receiver else []
     return isinstance(receiver, tree.Name) and receiver.text == name and any(getattr(it, "call", None) is run_site.call for it in things)
@@ -79,7 +79,7 @@ def declaration(name: str, value: object) -> str:
 
 
 def outcome(project: Project, site: Site) -> subprocess.CompletedProcess[str]:
-    """How the program of a check ended here, UNDEFINED where there is none."""
+    """Returns how the program of a check ended here, UNDEFINED where there is none."""
     text, path = question_of(project, site), file_of(project, site)
     with tempfile.TemporaryDirectory(prefix="meson-port-") as folder:
         compiler = Compiler(folder, project.root)

@@ -49,14 +49,15 @@ def type_name(value: object) -> str | None:
 
 
 def static_libraries(project: Project, site: Site) -> list[str]:
-    """How the static libraries are named at a call that are linked there, by `link_with:` or by dependencies that the project declares."""
+    """Returns how the static libraries are named at a call that are linked there, by `link_with:` or by dependencies that the project
+    declares."""
     rounds = project.known.things[site.call]
     found = [[name for it in linked_in(thing) if (name := named_at(project, site, thing, it))] for thing in rounds]
     return list(dict.fromkeys(found[0])) if found and all(it == found[0] for it in found) else []
 
 
 def linked_in(thing: Thing, depth: int = 8) -> list[Thing]:
-    """The static libraries below a target or a dependency, each before those below it."""
+    """Returns the static libraries below a target or a dependency, each before those below it."""
     found: list[Thing] = []
     for keyword in ("link_with", "dependencies"):
         for item in flat(thing.keywords.get(keyword, Many([]))):
@@ -71,7 +72,7 @@ def linked_in(thing: Thing, depth: int = 8) -> list[Thing]:
 
 
 def named_at(project: Project, site: Site, thing: Thing, library: Thing) -> str | None:
-    """A variable that has a library, or the item of `link_with:` that is it."""
+    """Returns a variable that has a library, or the item of `link_with:` that is it."""
     word = site.call.keywords.get("link_with")
     value = tree.plain(word.value) if word else None
     items = value.items if isinstance(value, tree.List) else []
@@ -80,7 +81,7 @@ def named_at(project: Project, site: Site, thing: Thing, library: Thing) -> str 
 
 
 def link_order(project: Project) -> Iterator[Change]:
-    """Static libraries that may use one another in both ways: named once more, behind all of them."""
+    """Names static libraries that may use one another in both ways once more, after all of them."""
     for site in project.functions("executable", "shared_library", "library"):
         paths = [f"{it}.full_path()" for it in static_libraries(project, site)]
         before = site.file.source(site.call.keywords["link_args"]) if "link_args" in site.call.keywords else ""

@@ -32,13 +32,13 @@ def line_start(text: str, place: int) -> int:
 
 
 def line_end(text: str, place: int) -> int:
-    """The place behind the newline of a line."""
+    """Returns the place after the newline of a line."""
     found = text.find("\n", place)
     return len(text) if found < 0 else found + 1
 
 
 def indent_at(text: str, place: int) -> str:
-    """The blanks that the line of a place begins with."""
+    """Returns the blanks that the line of a place begins with."""
     start = line_start(text, place)
     rest = text[start:place]
     return rest[:len(rest) - len(rest.lstrip(BLANKS))]
@@ -49,7 +49,7 @@ def is_blank_or_comment(text: str) -> bool:
 
 
 def without_item(text: str, call: tree.Call, item: tree.Node) -> tuple[int, int]:
-    """The places that go where an argument goes: its line where it has one, else it and one comma."""
+    """Returns the places that go where an argument goes: its line where it has one, else it and one comma."""
     items = call.items
     number = next(i for i, it in enumerate(items) if it is item)
     comma = text.find(",", item.end, items[number + 1].start) + 1 if number + 1 < len(items) else comma_after(text, item.end)
@@ -65,14 +65,14 @@ def without_item(text: str, call: tree.Call, item: tree.Node) -> tuple[int, int]
 
 
 def comma_after(text: str, place: int) -> int:
-    """The place behind the comma that follows, or 0 where none does."""
+    """Returns the place after the comma that follows, or 0 if none does."""
     rest = text[place:]
     stripped = rest.lstrip(BLANKS + "\n")
     return place + len(rest) - len(stripped) + 1 if stripped.startswith(",") else 0
 
 
 def with_item(text: str, call: tree.Call, added: str) -> Edit:
-    """The edit, without its path, that gives a call one argument more, written as the last one is."""
+    """Returns the edit, without its path, that gives a call one argument more, written as the last one is."""
     if not call.items:
         return Edit("", call.opened + 1, call.opened + 1, added)
     last = call.items[-1]
@@ -99,7 +99,8 @@ def do_overlap(edits: list[Edit], others: list[Edit]) -> bool:
 
 
 def do_clash(edits: list[Edit]) -> bool:
-    """Whether the first edit of a change and another of it change one place. Lines may be put before what another one replaces."""
+    """Returns whether the first edit of a change and another of it change one place. Lines may be added before what another one
+    replaces."""
     others = [it for it in edits[1:] if not edits[0].start == edits[0].end == it.start < it.end]
     return do_overlap(edits[:1], others)
 
@@ -124,7 +125,7 @@ class Taken:
 
 
 def changed(text: str, origins: list[int], edits: list[Edit]) -> tuple[str, list[int]]:
-    """The text after its edits, and for each of its lines the line of the first text that it came from."""
+    """Returns the text after its edits, and for each of its lines the line of the first text that it came from."""
     parts: list[str] = []
     lines = [origins[0]]
     at = line = 0

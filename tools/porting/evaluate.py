@@ -1,4 +1,4 @@
-"""Works out what may happen in a project's definition files, as far as that is the same on every machine.
+"""Works out what may happen in a project's definition files, if that is the same on every machine.
 
 Of a condition that an option or the machine decides, both sides are looked at. What is never reached, as a branch for another system,
 may hold anything; so rules look only at what `reached` has.
@@ -76,7 +76,7 @@ class Evaluation:
 
     def __init__(self, root: str, body_of: Callable[[str], list[tree.Statement] | None], options: list[tree.Call],
                  most_steps: int = MOST_STEPS, is_usual: bool = False) -> None:
-        """With `is_usual` each option has its default."""
+        """Gives each option its default if `is_usual`."""
         self.root, self.body_of, self.most_steps, self.is_usual = root, body_of, most_steps, is_usual
         self.entered: list[str] = []
         self.reached: set[tree.Node] = set()
@@ -114,11 +114,11 @@ class Evaluation:
         return Many([Item(Unknown("text"), False)]) if kind == "texts" else Unknown(kind)
 
     def value(self, node: tree.Node) -> object:
-        """What is known of a node's value, over all times that it is evaluated; nothing of a path from the root of a disk."""
+        """Returns what is known of a node's value, over all times that it is evaluated; nothing of a path from the root of a disk."""
         return without_root(self.placed(node))
 
     def placed(self, node: tree.Node) -> object:
-        """The same, with ROOT for the project's folder in texts."""
+        """Returns the same, with ROOT for the project's folder in texts."""
         return self.values.get(node, UNKNOWN)
 
     # Files and statements
@@ -170,7 +170,7 @@ class Evaluation:
     # Variables
 
     def held_names(self) -> dict[str, object]:
-        """The variables as they are now, for one who keeps them."""
+        """Returns the variables as they are now, for one who keeps them."""
         self.are_names_held = True
         return self.names
 
@@ -215,7 +215,7 @@ class Evaluation:
         self.take_names(*(ends or [before]))
 
     def run_maybe(self, body: list[tree.Statement], is_doubtful: bool) -> bool:
-        """Whether what follows the branch may run after it."""
+        """Returns whether what follows the branch may run after it."""
         try:
             self.run(body)
         except Left as left:
@@ -248,7 +248,7 @@ class Evaluation:
                 break
 
     def run_round(self, statement: tree.Foreach, values: tuple, is_sure: bool) -> bool:
-        """Whether there may be a next round."""
+        """Returns whether there may be a next round."""
         before = self.held_names()
         self.set_names(dict(zip(statement.names, values)))
         self.doubt += not is_sure
@@ -452,7 +452,7 @@ class Evaluation:
 
 
 def is_version_of_meson(call: tree.Call | None) -> bool:
-    """Whether a method is called upon `meson.version()`."""
+    """Returns whether a method is called upon `meson.version()`."""
     receiver = tree.plain(call.receiver) if call and call.receiver else None
     return (isinstance(receiver, tree.Call) and receiver.name == "version" and isinstance(receiver.receiver, tree.Name)
             and receiver.receiver.text == "meson")

@@ -34,14 +34,14 @@ def features(project: Project) -> Iterator[Change]:
 
 
 def chain_of(call: tree.Call) -> list[tree.Call]:
-    """The calls of these methods upon one another that end with this one, the first first."""
+    """Returns the calls of these methods upon one another that end with this one, the first first."""
     receiver = tree.plain(call.receiver) if call.receiver else None
     is_more = isinstance(receiver, tree.Call) and receiver.receiver is not None and receiver.name in METHODS
     return [*(chain_of(receiver) if isinstance(receiver, tree.Call) and is_more else []), call]
 
 
 def is_inner(site: Site) -> bool:
-    """Whether another of these methods is called upon a call."""
+    """Returns whether another of these methods is called upon a call."""
     return any(isinstance(it, tree.Call) and it.name in METHODS and it.receiver is not None and tree.plain(it.receiver) is site.call
                for expression in tree.expressions_of(site.statement) for it in tree.inside(expression))
 
@@ -51,7 +51,7 @@ def is_plain(call: tree.Call) -> bool:
 
 
 def is_in_doubt(statement: tree.Statement, call: tree.Call) -> bool:
-    """Whether a call may not be carried out though its statement is: behind `and`, `or` or `?`."""
+    """Returns whether a call may be skipped though its statement runs: after `and`, `or` or `?`."""
     for expression in tree.expressions_of(statement):
         for node in tree.inside(expression):
             behind = [node.right] if isinstance(node, tree.Binary) and node.operator in ("and", "or") else []
@@ -83,7 +83,7 @@ def spelled_out(project: Project, site: Site, chain: list[tree.Call], base: tree
 
 
 def rest_of_line(site: Site) -> int:
-    """How much of the text behind a chain goes on with it in a further line."""
+    """Returns how much of the text after a chain goes on with it in a further line."""
     found = re.match(r"[ \t]*\\?\n[ \t]*(?=\.)", site.file.text[site.call.end:])
     return found.end() if found else 0
 

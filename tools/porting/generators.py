@@ -32,7 +32,7 @@ def generators(project: Project) -> Iterator[Change]:
 
 
 def of_several(project: Project, receiver: tree.Node | None, makers: tuple[Thing, ...]) -> Change | None:
-    """Of one of several generators, which one variable has, each becomes the words of its command."""
+    """Turns each of several generators that one variable may have into the words of its command."""
     sites = [it for it in project.functions("generator") if any(it.call is maker.call for maker in makers)]
     outputs = [texts_at(project, it.call.keywords["output"].value) if "output" in it.call.keywords else None for it in sites]
     words = [texts_at(project, it.call.keywords["arguments"].value) if "arguments" in it.call.keywords else None for it in sites]
@@ -57,7 +57,7 @@ def of_several(project: Project, receiver: tree.Node | None, makers: tuple[Thing
 
 
 def processed(project: Project, site: Site, maker: Thing, command: str = "") -> Change | None:
-    """A `process` as a loop over its inputs; the arguments of its command are in a variable, or in the targets."""
+    """Returns a `process` as a loop over its inputs; the arguments of its command are in a variable, or in the targets."""
     if maker.call is None or not maker.call.arguments or set(site.call.keywords) - {"extra_args"}:
         return None
     made = maker.call.keywords
@@ -78,7 +78,7 @@ def processed(project: Project, site: Site, maker: Thing, command: str = "") -> 
 
 
 def one_target(project: Project, site: Site, maker: Thing, name: str, outputs: list[str], texts: list[str] | str) -> str:
-    """The target of one input, which the variable `input` names."""
+    """Returns the target of one input, which the variable `input` names."""
     file, made = project.files[maker.path], maker.call.keywords
     shown = [escaped(re.sub("@BUILD_DIR@/?", "", it)) for it in outputs]
     output = shown[0] if len(shown) == 1 else f"[{', '.join(shown)}]"
@@ -90,7 +90,7 @@ def one_target(project: Project, site: Site, maker: Thing, name: str, outputs: l
 
 
 def inputs_of(project: Project, site: Site) -> list[str] | None:
-    """The inputs that a generator is given, as expressions in the folder of the call; none where one is not known.
+    """Returns the inputs that a generator is given, as expressions in the folder of the call; None if one is not known.
 
     A path of which only the kind is known stays as it is written.
     """
@@ -106,7 +106,7 @@ def inputs_of(project: Project, site: Site) -> list[str] | None:
 
 
 def paths_at(project: Project, site: Site, node: tree.Node) -> list[str] | None:
-    """The paths that one argument names, as expressions; of a variable's list an item each."""
+    """Returns the paths that one argument names, as expressions; of a variable's list an item each."""
     value, source = project.known.value(node), site.file.source(node)
     names = [input_name(site, it.value) if it.is_sure else None for it in flat(value)]
     if None not in names:
@@ -120,7 +120,7 @@ def paths_at(project: Project, site: Site, node: tree.Node) -> list[str] | None:
 
 
 def input_name(site: Site, value: object) -> str | None:
-    """The path of an input from the project's folder."""
+    """Returns the path of an input from the project's folder."""
     if isinstance(value, str):
         return os.path.join(site.folder, value)
     return value.path if isinstance(value, Thing) and value.kind == "file" and value.function == "files" else None

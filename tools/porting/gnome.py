@@ -57,7 +57,7 @@ def tools(project: Project) -> Iterator[Change]:
 
 
 def checked_name(project: Project, site: Site, known: set[str], count: int = 1) -> str:
-    """The first argument of a call that has these keywords and no others."""
+    """Returns the first argument of a call that has these keywords and no others."""
     name = text_of(project, site.call.arguments[0]) if len(site.call.arguments) == count else None
     if name is None or "@" in name or "/" in name:
         raise NotFollowed("its name is not one plain text")
@@ -68,7 +68,7 @@ def checked_name(project: Project, site: Site, known: set[str], count: int = 1) 
 
 
 def truth(project: Project, site: Site, keyword: str) -> bool:
-    """A truth value that a keyword surely is; false where it isn't given."""
+    """Returns a truth value that a keyword surely is; false where it isn't given."""
     word = site.call.keywords.get(keyword)
     known = project.known.value(word.value) if word else False
     if not isinstance(known, bool):
@@ -101,7 +101,7 @@ def prefixes(site: Site) -> list[str]:
 
 
 def of_header(site: Site) -> list[str]:
-    """How a header is installed: into the folder of headers where no other one is said."""
+    """Returns how a header is installed: into the folder of headers where no other one is said."""
     if "install_header" not in site.call.keywords:
         return []
     folder = source_of(site, "install_dir") if "install_dir" in site.call.keywords else "get_option('includedir')"
@@ -123,14 +123,14 @@ def with_targets(project: Project, site: Site, header: str, source: str, files: 
 
 
 def new_file(project: Project, site: Site, name: str) -> str:
-    """The name of a file that isn't there, in the folder of a call."""
+    """Returns the name of a file that isn't there, in the folder of a call."""
     if project.exists(os.path.join(site.folder, name)):
         raise NotFollowed(f"there is a file {name}")
     return name
 
 
 def template(sections: dict[str, str]) -> str:
-    """A template of glib-mkenums."""
+    """Returns a template of glib-mkenums."""
     parts = []
     for key, value in sections.items():
         body = value if value.endswith("\n") else value + "\n"
@@ -139,7 +139,7 @@ def template(sections: dict[str, str]) -> str:
 
 
 def headers_of(project: Project, site: Site) -> list[str]:
-    """The paths of the sources of a call, from its folder."""
+    """Returns the paths of the sources of a call, from its folder."""
     word = site.call.keywords.get("sources")
     items = flat(project.known.value(word.value)) if word else []
     found = []
@@ -199,7 +199,7 @@ def enums(project: Project, site: Site) -> Change:
 
 
 def of_template(project: Project, site: Site, keyword: str, command: list[str], has_header: bool) -> str:
-    """The target of one template; a source is made after its header."""
+    """Returns the target of one template; a source is made after its header."""
     output = os.path.splitext(os.path.basename(template_path(project, site, keyword)))[0]
     source = f"[{source_of(site, keyword)}, {source_of(site, 'sources')}]"
     if keyword == "h_template":
@@ -267,7 +267,7 @@ def resources(project: Project, site: Site) -> Change:
 
 
 def resource_folders(project: Project, site: Site) -> list[str]:
-    """The folders in which resources are looked for: those that are given, of what is made before, and that of the call."""
+    """Returns the folders in which resources are looked for: those that are given, of what is made before, and that of the call."""
     word = site.call.keywords.get("source_dir")
     named = texts_at(project, word.value) if word else []
     if named is None:
@@ -286,7 +286,7 @@ def resource_folders(project: Project, site: Site) -> list[str]:
 
 
 def made_before(project: Project, site: Site) -> list[str]:
-    """What is made before resources are compiled, as it is named at the call."""
+    """Returns what is made before resources are compiled, as it is named at the call."""
     word = site.call.keywords.get("dependencies")
     node = tree.plain(word.value) if word else None
     nodes = node.items if isinstance(node, tree.List) else [node] if node is not None else []

@@ -24,7 +24,7 @@ def made_headers(project: Project) -> Iterator[Change]:
 
 
 def folders_of(project: Project, site: Site, is_target: bool) -> tuple[list[str], set[str]]:
-    """The folders in which headers among the sources of a call are made, and those that it looks through."""
+    """Returns the folders in which headers among the sources of a call are made, and those that it looks through."""
     wanted: dict[str, None] = {}
     known = set()
     for thing in project.known.things[site.call]:
@@ -36,7 +36,7 @@ def folders_of(project: Project, site: Site, is_target: bool) -> tuple[list[str]
 
 
 def included(value: object, folder: str) -> set[str]:
-    """The folders that an item of `include_directories:` names, of a call in a folder."""
+    """Returns the folders that an item of `include_directories:` names, of a call in a folder."""
     if isinstance(value, str):
         return {os.path.normpath(os.path.join(folder, value))}
     if not isinstance(value, Thing) or value.kind != "include":
@@ -46,7 +46,7 @@ def included(value: object, folder: str) -> set[str]:
 
 
 def source_items(thing: Thing, is_target: bool) -> list[Item]:
-    """The sources of a target, whose first argument is its name, or of a dependency."""
+    """Returns the sources of a target, whose first argument is its name, or of a dependency."""
     values = [*thing.arguments[is_target:], thing.keywords.get("sources", Many([]))]
     return [item for it in values for item in flat(it)]
 

@@ -25,7 +25,7 @@ from tools.files import DEFINITION_FILES, read_bytes, read_text
 FOLDER, JOURNAL, UNFINISHED, NEW_FOLDER = ".meson-port", "journal.json", "journal.new", "folder"
 WAITING = re.compile(r"[0-9]{1,9}")  # the name of a text that waits in the folder
 MOST_JOURNAL = 1 << 24
-# The names of files that `port` only makes, besides definition files.
+# The names of files that `port` only makes, in addition to definition files.
 TEMPLATES = re.compile(r".+\.(pc\.in|template)")
 
 
@@ -38,7 +38,7 @@ class Entry:
 
 
 def place_of(root: str, path: str) -> str | None:
-    """Returns where a path of a project leads, by what is below the root alone; none where it leads out of it."""
+    """Returns where a path of a project leads, by what is below the root alone; None if it leads out of it."""
     if os.path.isabs(path) or ".." in path.split("/") or "\0" in path:
         return None
     top = os.path.realpath(root)

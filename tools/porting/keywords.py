@@ -76,7 +76,7 @@ def visibility(project: Project) -> Iterator[Change]:
 
 
 def moved(site: Site, dropped: str, keyword: str, item: str, is_several: bool = False) -> Change:
-    """A keyword whose meaning becomes an item of another keyword, in its own place where that one is missing."""
+    """Moves the meaning of a keyword into an item of another keyword, in its own place if the other is missing."""
     word = site.call.keywords[dropped]
     what = f"{site.call.name}: `{dropped}:` becomes `{keyword}:`"
     if keyword not in site.call.keywords:
@@ -229,7 +229,7 @@ def configure_install(project: Project) -> Iterator[Change]:
 
 
 def in_two(site: Site, word: tree.Keyword) -> Change:
-    """One call for each side of a condition that is decided while configuring."""
+    """Returns one call for each side of a condition that is decided while configuring."""
     statement = site.file.source(site.statement)
     indent = indent_at(site.file.text, site.statement.start)
     sides = [without_keywords(statement, names).split("\n") for names in (("install",), ("install", "install_dir"))]
@@ -239,7 +239,7 @@ def in_two(site: Site, word: tree.Keyword) -> Change:
 
 
 def without_keywords(text: str, names: tuple[str, ...]) -> str:
-    """The text of a statement that is a call, without some of its keywords."""
+    """Returns the text of a statement that is a call, without some of its keywords."""
     for name in names:
         call = next(it for it in tree.inside(tree.expressions_of(parse(text)[0])[0])
                     if isinstance(it, tree.Call) and it.name == "configure_file")

@@ -42,7 +42,7 @@ class Token:
 
 
 def line_at(text: str, at: int) -> int:
-    """The line of a place of a text."""
+    """Returns the line of a place of a text."""
     return text.count("\n", 0, at) + 1
 
 
@@ -57,7 +57,7 @@ class Lines:
 
 
 def unescaped(text: str) -> str:
-    """What each escape between quotes of the plain kind means."""
+    """Returns what each escape between quotes of the plain kind means."""
     def character(match: re.Match[str]) -> str:
         plain, octal, *codes = match.groups()
         if plain:
@@ -68,26 +68,26 @@ def unescaped(text: str) -> str:
 
 
 def escaped(text: str) -> str:
-    """A text as a literal between plain quotes."""
+    """Returns a text as a literal between plain quotes."""
     plain = text.replace("\\", "\\\\").replace("'", "\\'").replace("\n", "\\n").replace("\t", "\\t")
     return "'" + UNSHOWN.sub(lambda match: f"\\x{ord(match[0]):02x}" if match[0] < "\u0100" else f"\\u{ord(match[0]):04x}", plain) + "'"
 
 
 def value_of_text(literal: str) -> str:
-    """The value of a literal text, without what an f-string puts in."""
+    """Returns the value of a literal text, without what an f-string puts in."""
     body = literal.removeprefix("f")
     return body[3:-3] if body.startswith("'''") else unescaped(body[1:-1])
 
 
 def value_of_number(literal: str) -> int:
-    """The value of a number; one of many digits is greater than any that the program takes, and no more is known of it."""
+    """Returns the value of a number; one of many digits is greater than any that the program takes, and no more is known of it."""
     if len(literal) > MOST_DIGITS:
         return 1 << 128
     return int(literal, 0) if literal[:1] == "0" and len(literal) > 1 and literal[1].isalpha() else int(literal)
 
 
 def tokens_of(text: str) -> list[Token]:
-    """All tokens but blanks and comments; newlines only where they end a statement."""
+    """Returns all tokens but blanks and comments; newlines only where they end a statement."""
     tokens: list[Token] = []
     at = depth = 0
     while at < len(text):

@@ -35,7 +35,7 @@ class Needs:
         self.seen: set[int] = set()
 
     def expression_of(self, value: object) -> str | None:
-        """An expression that gives this very value at the place of the call."""
+        """Returns an expression that gives this very value at the place of the call."""
         for name, held in self.names.items():
             if held is value:
                 return name
@@ -50,14 +50,14 @@ class Needs:
         return None
 
     def list_with(self, value: object) -> str | None:
-        """A variable whose list may have a value."""
+        """Returns a variable whose list may have a value."""
         for name, held in self.names.items():
             if isinstance(held, Many) and any(it.value is value for it in held.items):
                 return name
         return None
 
     def condition_of(self, thing: Thing, is_sure: bool) -> str | None:
-        """When a dependency is there, by an expression; none where that can't be said."""
+        """Returns when a dependency is there, as an expression, or None if that can't be said."""
         is_found = thing.keywords.get("required", True) is True
         one = None if is_sure else self.condition_of_one(thing)
         if one is not None:
@@ -73,8 +73,8 @@ class Needs:
         return " and ".join([*([] if is_found else [f"{found}.found()"]), f"{found} in {holder}"])
 
     def condition_in_list(self, thing: Thing, holder: str, is_found: bool, call: str | None) -> str | None:
-        """When a list has a dependency that no variable has: by the list's length where it may have that one alone; else the
-        dependency is asked for again, which gives the same one, and is not required where its branch may not be taken."""
+        """Returns when a list has a dependency that no variable has: by the list's length if only that one may be missing. Else the
+        project calls `dependency` once more, which gives the same one; it is not required if its branch may not be taken."""
         held = self.names[holder]
         if isinstance(held, Many) and held.is_whole and len(held.items) == 1:
             return f"{holder}.length() > 0" + ("" if is_found else f" and {holder}[0].found()")
@@ -85,7 +85,7 @@ class Needs:
         return None if is_found else f"{call}.found() and {call} in {holder}"
 
     def condition_of_one(self, thing: Thing) -> str | None:
-        """When a dependency is the one that a variable has, of several that it may have."""
+        """Returns when a dependency is the one that a variable has, of several that it may have."""
         for name, held in self.names.items():
             if not isinstance(held, Either) or not any(it is thing for it in held.choices):
                 continue
@@ -103,7 +103,8 @@ class Needs:
 
     @staticmethod
     def condition_of_two(name: str, thing: Thing, others: list) -> str | None:
-        """A package, and a library where there is no such package: asked for once more, which changes nothing."""
+        """Returns when a package, or a library where there is no such package, is there. Asks for the package once more, which changes
+        nothing."""
         both = [thing, *others]
         packages = [it for it in both if isinstance(it, Thing) and it.kind == "dependency" and it.name]
         if len(both) != 2 or len(packages) != 1 or "version" in packages[0].keywords:
@@ -150,7 +151,7 @@ class Needs:
         return [Need("libs", it) for it in link_args_of(thing)] + self.needs_below(thing)
 
     def needs_of_library(self, thing: Thing) -> list[Need]:
-        """A library that is linked: its .pc file where it has one, itself, and what it needs."""
+        """Returns a library that is linked: its .pc file where it has one, itself, and what it needs."""
         if id(thing) in self.seen:
             return []
         self.seen.add(id(thing))
@@ -175,7 +176,7 @@ class Needs:
                 *(need for group in reversed(groups) for need in group if need.where != "requires")]
 
     def known_needs(self, items: list[Item]) -> list[Need]:
-        """Returns what items need, as far as that is known."""
+        """Returns what items are known to need."""
         needs: list[Need] = []
         for item in items:
             try:
@@ -185,7 +186,7 @@ class Needs:
         return needs
 
     def generated_name(self, thing: Thing) -> str | None:
-        """The name of the .pc file that was made for a library before."""
+        """Returns the name of the .pc file that was made for a library before."""
         return self.project.pc_files.get(thing.name or "")
 
 
@@ -194,8 +195,8 @@ def link_args_of(thing: Thing) -> list[str]:
 
 
 def parts_below(thing: Thing) -> tuple[list[Item], list[Item], list[Item]]:
-    """What a target or a dependency links, what it links whole, and what else it is made with; of dependencies that the project declares
-    what these are made with."""
+    """Returns what a target or a dependency links, what it links whole, and what else it is made with; of dependencies that the project
+    declares what these are made with."""
     linked, whole = (flat(thing.keywords.get(it, Many([]))) for it in ("link_with", "link_whole"))
     others: list[Item] = []
     for item in flat(thing.keywords.get("dependencies", Many([]))):
@@ -209,7 +210,7 @@ def parts_below(thing: Thing) -> tuple[list[Item], list[Item], list[Item]]:
 
 
 def is_nothing(value: object) -> bool:
-    """An empty list, or a dependency that is never found."""
+    """Returns whether a value is an empty list, or a dependency that is never found."""
     return (isinstance(value, Many) and value.is_whole and not value.items) or (
         isinstance(value, Thing) and value.kind == "dependency" and value.name == "")
 
@@ -219,5 +220,5 @@ def thing_items(thing: Thing) -> list:
 
 
 def with_blanks(text: str | None) -> str:
-    """A requirement with blanks round its operator, as pkg-config wants it."""
+    """Returns a requirement with blanks round its operator, as pkg-config wants it."""
     return re.sub(r"\s*([<>=!]+)\s*", r" \1 ", text or "").strip()

@@ -60,14 +60,14 @@ def linked(project: Project, site: Site) -> Change:
 
 
 def is_linked(project: Project, site: Site) -> bool:
-    """Whether what a call gives is linked by another target."""
+    """Returns whether what a call gives is linked by another target."""
     users = [thing for it in project.functions(*TARGETS, "declare_dependency") for thing in project.known.things[it.call]]
     items = (item.value for it in users for key in ("link_with", "link_whole") for item in flat(it.keywords.get(key, Many([]))))
     return any(isinstance(it, Thing) and it.call is site.call for it in items)
 
 
 def part_of_name(project: Project, site: Site, keyword: str, usual: str) -> str:
-    """The prefix or the ending of a file's name; an empty list is the usual one."""
+    """Returns the prefix or the ending of a file's name; an empty list is the usual one."""
     word = site.call.keywords.get(keyword)
     known = project.known.value(word.value) if word else usual
     if isinstance(known, Many) and known.is_exact and not known.items:
@@ -109,7 +109,7 @@ class Linking(Needs):
             raise NotFollowed("what it links is not known here")
 
     def add_library(self, library: Thing, written: str | None) -> None:
-        """A library of the project; of one that may be static also what it needs."""
+        """Adds a library of the project, and what it needs if it may be static."""
         named = written or self.expression_of(library)
         needs = [it for keyword in ("link_with", "link_whole", "dependencies") for it in flat(library.keywords.get(keyword, Many([])))]
         if named is None or library.function not in ("static_library", "shared_library", "library"):
@@ -132,7 +132,7 @@ class Linking(Needs):
                 self.add(it)
 
     def add_found(self, thing: Thing, is_sure: bool, written: str | None) -> None:
-        """A library of the compiler, a package, or a dependency that has no .pc file."""
+        """Adds a library of the compiler, a package, or a dependency that has no .pc file."""
         name = thing.name
         if name is None or len(thing.arguments) != 1 or CHANGING & set(thing.keywords):
             raise NotFollowed("a dependency that it links can't be followed")
@@ -151,11 +151,11 @@ class Linking(Needs):
             raise NotFollowed(f"{name} is no name of a package")
 
     def words_once(self) -> list[str]:
-        """Each word at its last place, so that a library comes after all that need it."""
+        """Returns each word at its last place, so that a library comes after all that need it."""
         return list(dict.fromkeys(reversed(self.words)))[::-1]
 
     def with_packages(self, command: list[str]) -> list[str]:
-        """A command, with the words of the packages at its end where there are any."""
+        """Returns a command, with the words of the packages at its end where there are any."""
         begins, ends = ASKING
         perhaps = list(dict.fromkeys(self.perhaps))
         begins += " ".join(dict.fromkeys(self.packages))
@@ -164,7 +164,7 @@ class Linking(Needs):
 
 
 def installed(project: Project, site: Site) -> list[str]:
-    """How the module is built and installed: as the library was."""
+    """Returns how the module is built and installed: as the library was."""
     words = site.call.keywords
     kept = [site.file.source(words[it]) for it in ("build_by_default", "install", "install_dir") if it in words]
     if "build_by_default" not in words:

@@ -65,7 +65,7 @@ def with_sources(project: Project, site: Site, word: tree.Keyword) -> Change:
 
 
 def sources_of(library: Thing, site: Site, names: dict[str, object]) -> list[str]:
-    """The sources of a library, as they are named at another call."""
+    """Returns the sources of a library, as they are named at another call."""
     folder, found = os.path.dirname(library.path), []
     for item in source_items(library, True):
         value = item.value
@@ -82,7 +82,7 @@ def sources_of(library: Thing, site: Site, names: dict[str, object]) -> list[str
 
 
 def taken_over(owner: Site, site: Site, library: Thing, names: dict[str, object], keyword: str) -> str:
-    """What a library is made with, as it is named at another call."""
+    """Returns what a library is made with, as it is named at another call."""
     node = owner.call.keywords[keyword].value
     is_same = all(it in names and names[it] is library.names.get(it) for it in tree.names_in(node))
     has_paths = any(isinstance(it, tree.Text) for it in tree.inside(node))

@@ -21,7 +21,7 @@ OF_PROGRAM = {"found", "path", "full_path"}
 
 
 def calls_upon(project: Project, call: tree.Call) -> Iterator[Site]:
-    """The methods of what a call gives."""
+    """Yields the methods of what a call gives."""
     for site in project.methods():
         things = [it.value for it in flat(project.known.value(site.call.receiver))] if site.call.receiver else []
         if any(isinstance(it, Thing) and it.call is call for it in things):
@@ -64,14 +64,15 @@ def unused_imports(project: Project) -> Iterator[Change]:
 
 
 def is_never_sure(project: Project, name: str, statement: tree.Statement) -> bool:
-    """Whether a statement that uses a module's name is reached by an option or the machine alone, if at all."""
+    """Returns whether a statement that uses a module's name is reached by an option or the machine alone, if at all."""
     calls = [it for expression in tree.expressions_of(statement) for it in tree.inside(expression)
              if isinstance(it, tree.Call) and name in tree.names_in(it)]
     return statement not in project.known.reached or (bool(calls) and all(it in project.known.called_maybe for it in calls))
 
 
 def is_usual(project: Project, name: str, statements: list[tree.Statement]) -> bool:
-    """Whether a module's name is used where each option has its default: what is left out is then reported there, and not hidden."""
+    """Returns whether a module's name is used where each option has its default: what is left out is then reported there, and not
+    hidden."""
     usual = project.usual()
     return any(it in usual.reached and it not in usual.called_maybe for statement in statements
                for expression in tree.expressions_of(statement) for it in tree.inside(expression)
@@ -96,7 +97,7 @@ def languages(project: Project) -> Iterator[Change]:
 
 
 def languages_of_project(project: Project) -> Iterator[Change]:
-    """A language beside C that `project` names, and that no source is written in, is added by the real Meson alone."""
+    """Leaves to the real Meson a language other than C that `project` names and in which no source is written."""
     for site in project.functions("project"):
         texts = [it.value for node in site.call.arguments[1:] for it in flat(project.known.value(node))]
         others = [str(it) for it in texts if it != "c"]
@@ -109,7 +110,7 @@ def languages_of_project(project: Project) -> Iterator[Change]:
 
 
 def is_unused(project: Project, language: str) -> bool:
-    """Whether no call that is surely carried out names a source of a language."""
+    """Returns whether no call that is surely carried out names a source of a language."""
     texts = (it.value for site in project.sites() if site.call not in project.known.called_maybe
              for it in tree.inside(site.call) if isinstance(it, tree.Text))
     return language in SOURCES and not any(it.lower().endswith(SOURCES[language]) for it in texts)

@@ -29,7 +29,7 @@ def extracted(project: Project) -> Iterator[Change]:
 
 
 def owner_of(project: Project, call: tree.Call) -> Site | None:
-    """The call of the one target whose objects are taken."""
+    """Returns the call of the one target whose objects are taken."""
     things = [it.value for it in flat(project.known.value(call.receiver))] if call.receiver else []
     made = next((it.call for it in things if isinstance(it, Thing) and it.kind == "target"), None)
     if made is None or len(things) != 1:
@@ -67,7 +67,7 @@ def is_made_by(item: Item, owner: Site) -> bool:
 
 
 def linked(site: Site, word: tree.Keyword, name: str, is_new: bool) -> list[tuple[int, int, str]]:
-    """The edits that link a library in place of `objects:`."""
+    """Returns the edits that link a library in place of `objects:`."""
     if is_new:
         return [(word.start, word.end, f"link_with: {name}")]
     start, end = without_item(site.file.text, site.call, word)
@@ -75,7 +75,7 @@ def linked(site: Site, word: tree.Keyword, name: str, is_new: bool) -> list[tupl
 
 
 def library_lines(owner: Site, name: str) -> list[str]:
-    """The call of a library of a target's sources."""
+    """Returns the call of a library of a target's sources."""
     arguments, source = owner.call.arguments, owner.file.source
     first = source(arguments[0])
     words = [first[:-1] + "-objects'" if isinstance(arguments[0], tree.Text) else f"{first} + '-objects'", *map(source, arguments[1:])]

@@ -13,7 +13,7 @@ TRUTHS = ("==", "!=", "<", "<=", ">", ">=", "in", "not in")
 
 
 def truth_of(value: object) -> bool | None:
-    """A truth value, or none where it isn't known."""
+    """Returns a truth value, or None if it isn't known."""
     if isinstance(value, Either):
         truths = {truth_of(it) for it in value.choices}
         return truths.pop() if len(truths) == 1 else None

@@ -29,7 +29,7 @@ def option_file(project: Project) -> tuple[str, str]:
 
 
 def declarations(body: list[tree.Statement]) -> dict[str, tree.Call]:
-    """The options that the statements of an option file declare."""
+    """Returns the options that the statements of an option file declare."""
     found: dict[str, tree.Call] = {}
     for statement in body:
         call = statement.value if isinstance(statement, tree.Expression) else None
@@ -40,13 +40,13 @@ def declarations(body: list[tree.Statement]) -> dict[str, tree.Call]:
 
 
 def declared(project: Project, name: str) -> tree.Call | None:
-    """The declaration of an option."""
+    """Returns the declaration of an option."""
     file = project.option_file()
     return declarations(file.body).get(name) if file else None
 
 
 def option_name(project: Project, wanted: str, description: str) -> str:
-    """The option with this description, or a name that none has."""
+    """Returns the option with this description, or a name that none has."""
     number, name = 1, wanted
     while (call := declared(project, name)) is not None:
         word = call.keywords.get("description")
@@ -58,7 +58,7 @@ def option_name(project: Project, wanted: str, description: str) -> str:
 
 
 def with_option(project: Project, text: str) -> Edit:
-    """The edit that puts one declaration more at the end of the option file."""
+    """Returns the edit that puts one declaration more at the end of the option file."""
     path, before = option_file(project)
     if before and not before.endswith("\n"):
         text = "\n" + text.removesuffix("\n")  # its last line has no end, and keeps none
@@ -81,7 +81,7 @@ def folders(project: Project) -> Iterator[Change]:
 
 
 def others(project: Project) -> Iterator[Change]:
-    """An option that this program has not keeps the value that the real Meson begins with; there it is asked for as before."""
+    """Keeps for an option that this program has not the value with which the real Meson begins. The real Meson reads it as before."""
     for site in project.functions("get_option"):
         name = text_of(project, site.call.arguments[0]) if site.call.arguments else None
         if name in VALUES and name not in project.known.options:
@@ -90,7 +90,7 @@ def others(project: Project) -> Iterator[Change]:
 
 
 def option_calls(project: Project) -> Iterator[Site]:
-    """The declarations of the option file."""
+    """Yields the declarations of the option file."""
     file = project.option_file()
     for statement in file.body if file else []:
         call = statement.value if isinstance(statement, tree.Expression) else None
@@ -108,7 +108,7 @@ def summed_texts(project: Project) -> Iterator[Change]:
 
 
 def sum_of(node: tree.Node) -> str | None:
-    """The text that a text, or a sum of texts, is."""
+    """Returns the text that a text, or a sum of texts, is."""
     node = tree.plain(node)
     if isinstance(node, tree.Binary) and node.operator == "+":
         left, right = sum_of(node.left), sum_of(node.right)

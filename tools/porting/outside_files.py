@@ -33,7 +33,7 @@ def files_outside(project: Project) -> Iterator[Change]:
 
 
 def is_outside(project: Project, node: tree.Node, depth: int = 8) -> bool:
-    """Whether a path surely begins at the root of the disk: as a text, or by the option that it begins with."""
+    """Returns whether a path surely begins at the root of the disk: as a text, or by the option that it begins with."""
     node, value = tree.plain(node), project.known.value(node)
     if isinstance(value, str) or depth == 0:
         return isinstance(value, str) and value.startswith("/")
@@ -57,14 +57,14 @@ def is_option_outside(project: Project, call: tree.Call) -> bool:
 
 
 def assignments(project: Project, name: str) -> Iterator[tuple[File, tree.Assignment]]:
-    """The statements by which a variable gets a value."""
+    """Yields the statements by which a variable gets a value."""
     for file, statement in project.statements():
         if isinstance(statement, tree.Assignment) and statement.name == name:
             yield file, statement
 
 
 def is_of_commands(statement: tree.Statement, name: str) -> bool:
-    """Whether a statement names a variable in commands of custom targets alone."""
+    """Returns whether a statement names a variable in commands of custom targets alone."""
     for expression in tree.expressions_of(statement):
         in_commands = {part for node in tree.inside(expression) if isinstance(node, tree.Call) and node.name == "custom_target"
                        and "command" in node.keywords for part in tree.inside(node.keywords["command"].value)}
@@ -94,14 +94,14 @@ def may_be_outside(project: Project, site: Site) -> bool:
 
 
 def input_of(thing: Thing) -> str | None:
-    """The one path that a target is made of in a round; none where it isn't one text."""
+    """Returns the one path that a target is made of in a round, or None if it isn't one text."""
     items = flat(thing.keywords["input"])
     value = items[0].value if len(items) == 1 and items[0].is_sure else None
     return value if isinstance(value, str) and "\0" not in value else None
 
 
 def without_input(project: Project, site: Site, paths: list[str]) -> Change | None:
-    """The target whose command names the path that was its input; none where that is named in a way that can't be followed."""
+    """Returns the target whose command names the path that was its input, or None if that is named in a way that can't be followed."""
     words = site.call.keywords
     node, command = tree.plain(words["input"].value), tree.plain(words["command"].value) if "command" in words else None
     node = tree.plain(node.items[0]) if isinstance(node, tree.List) and len(node.items) == 1 else node
@@ -128,7 +128,7 @@ def without_input(project: Project, site: Site, paths: list[str]) -> Change | No
 
 
 def stem_of(shown: str, paths: list[str]) -> str | None:
-    """The expression of a path's last part without its ending; none where not all these paths end alike."""
+    """Returns the expression of a path's last part without its ending, or None if not all these paths end alike."""
     names = [os.path.basename(it) for it in paths]
     if all(it.count(".") <= 1 for it in names):
         return f"{shown}.split('/')[-1].split('.')[0]"

@@ -278,5 +278,5 @@ class Parser:
 
 
 def parse(text: str) -> list[tree.Statement]:
-    """The statements of a definition file; SyntaxFault where it is none."""
+    """Returns the statements of a definition file; SyntaxFault where it is none."""
     return Parser(text).file()

@@ -44,7 +44,7 @@ class Part:
 
 
 def joined(separator: str, parts: list[Part]) -> str:
-    """The expression of all parts as one text."""
+    """Returns the expression of all parts as one text."""
     parts = [it for it in parts if it.text != ""]
     if all(it.text is not None for it in parts):
         return escaped(separator.join(it.text or "" for it in parts))
@@ -60,7 +60,7 @@ def joined(separator: str, parts: list[Part]) -> str:
 
 
 def name_of(requirement: str) -> str:
-    """The package that is required, without a version."""
+    """Returns the package that is required, without a version."""
     return requirement.split(" ", 1)[0]
 
 
@@ -69,7 +69,7 @@ def names_of(requirements: list[Part]) -> set[str]:
 
 
 def merged(requirements: list[Part], others: list[Part]) -> list[Part]:
-    """Each package once, where it was named first: with each version that it or another line wants, or its name alone."""
+    """Returns each package once, where it was named first: with each version that it or another line wants, or its name alone."""
     versions: dict[str, set[str]] = {}
     for part in requirements + others:
         if part.text is not None:
@@ -104,7 +104,7 @@ class Writer(Needs):
         return f"({text})" if isinstance(node, (tree.Ternary, tree.Binary)) else text
 
     def word(self, name: str, default: str) -> str:
-        """The expression of a keyword that is a text."""
+        """Returns the expression of a keyword that is a text."""
         if name not in self.words:
             return default
         node = self.words[name].value
@@ -121,7 +121,7 @@ class Writer(Needs):
         return items[0].value
 
     def parts(self, name: str) -> list[Part]:
-        """The texts of a keyword."""
+        """Returns the texts of a keyword."""
         return self.parts_of(self.words[name].value) if name in self.words else []
 
     def parts_of(self, node: tree.Node) -> list[Part]:
@@ -152,7 +152,8 @@ class Writer(Needs):
         return found
 
     def as_parts(self, name: str, needs: list[Need]) -> list[Part]:
-        """Texts that are always there up to the first that may be missing; from that on one list, which statements before the call fill."""
+        """Returns texts that are always there up to the first that may be missing; from that on one list, which statements before the
+        call fill."""
         needs = list(dict.fromkeys(needs))
         always = {it.text for it in needs if not it.condition}
         needs = [it for it in needs if not (it.condition and it.text in always)]
@@ -300,7 +301,7 @@ class Writer(Needs):
 
 
 def below_static(parts: list[Part]) -> list[Part]:
-    """What a library needs below it, where it is static: that belongs to the public lines then."""
+    """Returns what a library needs below it, where it is static: that belongs to the public lines then."""
     return [Part(None, f"({STATIC} ? {list_of(parts)} : [])", True)] if parts else []
 
 
@@ -322,14 +323,15 @@ def folder_of(writer: Writer, main: Thing | None) -> str:
 
 
 def left_out_folders(writer: Writer, dictionary: dict[str, str]) -> list[str]:
-    """The folders that the real Meson names in no such file: that of libraries where there are none, and of headers beside data."""
+    """Returns the folders that the real Meson names in no such file: that of libraries if there are none, and of headers if there is
+    only data."""
     has_libraries = dictionary["libs"] != "''" or dictionary["libs_private"] != "''"
     is_needed = {"includedir": not writer.is_data, "libdir": has_libraries}
     return [name for name, it in is_needed.items() if not it and f"${{{name}}}" not in dictionary["variables"]]
 
 
 def template_of(project: Project, text: str) -> tuple[str, dict[str, str]]:
-    """The path of a template with this text, and the file where it is not there yet."""
+    """Returns the path of a template with this text, and the file where it is not there yet."""
     number, path = 1, TEMPLATE_NAME
     while project.exists(path):
         if project.new_files.get(path) == text or content(project, path) == text:
@@ -347,7 +349,7 @@ def content(project: Project, path: str) -> str | None:
 
 
 def written(project: Project, site: Site) -> tuple[Change, bool]:
-    """The change of a call, and whether it takes names of variables."""
+    """Returns the change of a call, and whether it takes names of variables."""
     writer = Writer(project, site)
     dictionary, text = writer.dictionary(), TEMPLATE
     for it in left_out_folders(writer, dictionary):

@@ -41,7 +41,7 @@ class File:
 
     @functools.cached_property
     def variables(self) -> set[str]:
-        """The names of variables that are used or assigned in it."""
+        """Returns the names of variables that are used or assigned in it."""
         statements = list(tree.statements_in(self.body))
         used = {name for statement in statements for it in tree.expressions_of(statement) for name in tree.names_in(it)}
         return used | {it.name for it in statements if isinstance(it, tree.Assignment)}
@@ -108,7 +108,7 @@ class Project:
         return path in self.files or path in self.new_files or os.path.exists(os.path.join(self.root, path))
 
     def read(self, path: str) -> File | None:
-        """A definition file of the project, or none where there is no such file."""
+        """Returns a definition file of the project, or None if there is no such file."""
         if path not in self.files:
             full = os.path.join(self.root, path)
             if place_of(self.root, path) is None and os.path.lexists(full):
@@ -149,7 +149,7 @@ class Project:
         return self.known
 
     def usual(self) -> evaluate.Evaluation:
-        """What happens where each option has its default."""
+        """Returns what happens where each option has its default."""
         most = min(evaluate.MOST_STEPS, max(BUDGET - self.spent, 0) // STEP)
         usual = evaluate.Evaluation(self.root, lambda path: self.body_of(path), self.options(), most, is_usual=True)
         self.spent += STEP * usual.steps
@@ -157,7 +157,7 @@ class Project:
 
     @property
     def has_spent_all(self) -> bool:
-        """Whether no further pass over the files is made."""
+        """Returns whether no further pass over the files is made."""
         return self.spent >= BUDGET
 
     def body_of(self, path: str) -> list[tree.Statement] | None:
@@ -170,7 +170,7 @@ class Project:
                                         and isinstance(it.value, tree.Call) and it.value.name == "option"]
 
     def sites(self, *names: str, method: bool | None = None) -> Iterator[Site]:
-        """The calls of these functions or methods that may be carried out; of all where no name is given."""
+        """Yields the calls of these functions or methods that may be carried out; of all where no name is given."""
         for path in self.known.entered:
             file = self.files[path]
             for statement, node in file.calls:
@@ -184,7 +184,7 @@ class Project:
         return self.sites(*names, method=True)
 
     def statements(self) -> Iterator[tuple[File, tree.Statement]]:
-        """The statements that may be carried out."""
+        """Yields the statements that may be carried out."""
         for path in self.known.entered:
             for statement in tree.statements_in(self.files[path].body):
                 if statement in self.known.reached:
@@ -222,7 +222,7 @@ class Project:
         return Done(change.path, self.files[change.path].line_before(change.place), rule, what)
 
     def made(self, changes: list[Change]) -> dict[str, File] | None:
-        """The files after some changes, or none where one is no file of the language any more."""
+        """Returns the files after some changes, or None if one is no file of the language any more."""
         by_path: dict[str, list[Edit]] = {}
         for change in changes:
             for edit in change.edits:
@@ -247,12 +247,12 @@ class Project:
             self.notes.append(found)
 
     def results(self) -> dict[str, tuple[str | None, str]]:
-        """The files that change: what each was, none where it wasn't, and what it becomes."""
+        """Returns the files that change: what each was, or None if it wasn't, and what it becomes."""
         written: dict[str, tuple[str | None, str]] = {path: (None, text) for path, text in self.new_files.items()}
         written.update((path, (self.marking(path, it.before), self.marking(path, it.text) or "")) for path, it in self.files.items()
                        if it.text != it.before)
         return dict(sorted(written.items()))
 
     def marking(self, path: str, text: str | None) -> str | None:
-        """A file's text with the mark that it begins with."""
+        """Returns a file's text with the mark that it begins with."""
         return MARK + text if text is not None and path in self.marked else text

@@ -15,7 +15,7 @@ VERSION = re.compile(r"\d+\.\d+[\w.]*\n")
 
 
 def real_meson() -> str | None:
-    """The path of the real Meson, the first of PATH; none where there is none."""
+    """Returns the path of the real Meson, the first of PATH, or None if there is none."""
     for folder in os.get_exec_path():
         path = os.path.join(folder, "meson")
         if os.path.isabs(folder) and os.path.isfile(path) and os.access(path, os.X_OK) and VERSION.fullmatch(said(path, "--version")):
@@ -32,7 +32,7 @@ def said(path: str, word: str) -> str:
 
 
 def refusal(meson: str, root: str, changed: dict[str, str], words: list[str]) -> str | None:
-    """What the real Meson says first against sources in which these files are others; none where it takes them."""
+    """Returns what the real Meson says first against sources in which these files are others, or None if it takes them."""
     with tempfile.TemporaryDirectory(prefix="meson-port-") as scratch:
         folder = os.path.join(scratch, "sources")
         linked_copy(root, folder, changed)

@@ -1,4 +1,4 @@
-"""Checks that are asked twice with other arguments: each of them gets a name of its own, and so an answer of its own."""
+"""Gives each of several checks with one name and other arguments a name of its own, and so an answer of its own."""
 from __future__ import annotations
 
 import re

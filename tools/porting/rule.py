@@ -19,8 +19,8 @@ LIBRARIES = ("static_library", "shared_library", "library", "both_libraries")
 
 @dataclasses.dataclass(frozen=True)
 class Rule:
-    """`is_sure` where what is built and installed stays what it was, and so do the tests; else the rule is carried out where it is asked
-    for, by its name or, where it keeps what is built and installed, by `--all`."""
+    """A rule `is_sure` if what is built and installed stays as it was, and so do the tests. Other rules need an option: their name or,
+    if they keep what is built and installed, `--all`."""
     name: str
     does: str
     change: Callable[[Project], Iterable[Change]]
@@ -29,7 +29,7 @@ class Rule:
 
 
 def drop_keyword(site: Site, name: str, what: str = "") -> Change:
-    """The call without a keyword."""
+    """Returns the call without a keyword."""
     start, end = without_item(site.file.text, site.call, site.call.keywords[name])
     return site.change(what or f"{site.call.name}: `{name}:` is dropped", (start, end, ""))
 
@@ -44,13 +44,13 @@ def replaced(site: Site, node: tree.Node, text: str) -> tuple[int, int, str]:
 
 
 def renamed(site: Site, name: str) -> tuple[int, int, str]:
-    """The edit that gives a call another name."""
+    """Returns the edit that gives a call another name."""
     start = site.call.name_start
     return start, start + len(site.call.name), name
 
 
 def added_to_list(site: Site, keyword: str, item: str) -> tuple[int, int, str]:
-    """The edit that puts one item more in front of a keyword's list, which may be missing."""
+    """Returns the edit that adds an item at the beginning of a keyword's list, which may be missing."""
     found = site.call.keywords.get(keyword)
     if found is None:
         return add_argument(site, f"{keyword}: {item}")
@@ -63,7 +63,7 @@ def added_to_list(site: Site, keyword: str, item: str) -> tuple[int, int, str]:
 
 
 def added_behind(site: Site, keyword: str, items: str) -> tuple[int, int, str]:
-    """The edit that puts items behind a keyword's list, which may be missing."""
+    """Returns the edit that adds items at the end of a keyword's list, which may be missing."""
     found = site.call.keywords.get(keyword)
     if found is None:
         return add_argument(site, f"{keyword}: [{items}]")
@@ -71,7 +71,7 @@ def added_behind(site: Site, keyword: str, items: str) -> tuple[int, int, str]:
 
 
 def can_hoist(site: Site) -> bool:
-    """Whether statements may be put before that of a call, whose condition may be that of an `elif`."""
+    """Returns whether statements may be put before that of a call, whose condition may be that of an `elif`."""
     statement = site.statement
     if isinstance(statement, tree.If):
         first = statement.branches[0].condition
@@ -81,7 +81,7 @@ def can_hoist(site: Site) -> bool:
 
 
 def before_statement(site: Site, lines: list[str]) -> tuple[int, int, str]:
-    """The edit that puts lines before the statement of a call."""
+    """Returns the edit that puts lines before the statement of a call."""
     text, statement = site.file.text, site.statement
     start = line_start(text, statement.start)
     return start, start, indented(lines, indent_at(text, statement.start))
@@ -97,12 +97,12 @@ def in_place_of_statement(file: File, statement: tree.Statement, lines: list[str
 
 
 def is_whole_statement(site: Site) -> bool:
-    """Whether a call is all of its statement."""
+    """Returns whether a call is all of its statement."""
     return isinstance(site.statement, tree.Expression) and tree.plain(site.statement.value) is site.call
 
 
 def assigned_name(site: Site) -> str | None:
-    """The variable that a call is assigned to by `=`, where it is all of the right side."""
+    """Returns the variable that a call is assigned to by `=`, where it is all of the right side."""
     statement = site.statement
     if isinstance(statement, tree.Assignment) and statement.operator == "=" and tree.plain(statement.value) is site.call:
         return statement.name
@@ -110,7 +110,7 @@ def assigned_name(site: Site) -> str | None:
 
 
 def text_of(project: Project, node: tree.Node | None) -> str | None:
-    """The text that a node surely is."""
+    """Returns the text that a node surely is."""
     value = project.known.value(node) if node else None
     return value if isinstance(value, str) else None
 
@@ -120,7 +120,7 @@ def texts_at(project: Project, node: tree.Node | None) -> list[str] | None:
 
 
 def uses_of(project: Project, name: str) -> Iterator[tuple[File, tree.Statement]]:
-    """The statements that use a variable's value, reached or not."""
+    """Yields the statements that use a variable's value, reached or not."""
     for path in project.known.entered:
         for statement in tree.statements_in(project.files[path].body):
             if any(name in tree.names_in(it) for it in tree.expressions_of(statement)):
@@ -128,7 +128,7 @@ def uses_of(project: Project, name: str) -> Iterator[tuple[File, tree.Statement]
 
 
 def free_name(project: Project, wanted: str) -> str:
-    """A variable's name that no file has."""
+    """Returns a variable's name that no file has."""
     files = [project.files[path] for path in project.known.entered]
     number, name = 1, wanted
     while any(name in it.variables for it in files):
@@ -138,7 +138,7 @@ def free_name(project: Project, wanted: str) -> str:
 
 
 def identifier(text: str) -> str:
-    """A text as a name of the language and of C."""
+    """Returns a text as a name of the language and of C."""
     name = "".join(it if it.isascii() and it.isalnum() else "_" for it in text.strip().lower())
     while "__" in name:
         name = name.replace("__", "_")
@@ -147,12 +147,12 @@ def identifier(text: str) -> str:
 
 
 def path_from(folder: str, path: str) -> str:
-    """How a file of the project is named in a definition file of a folder."""
+    """Returns how a file of the project is named in a definition file of a folder."""
     return os.path.relpath(path, folder or ".")
 
 
 def compiler_text(project: Project, site: Site) -> str:
-    """How the C compiler is named at a call: by a variable that surely has it, else by the call that gives it."""
+    """Returns how the C compiler is named at a call: by a variable that surely has it, else by the call that gives it."""
     for thing in project.known.things.get(site.call, []):
         for name, value in thing.names.items():
             if getattr(value, "kind", "") == "compiler" and getattr(value, "name", "") == "c":
@@ -167,7 +167,7 @@ def of_compiler(project: Project, *names: str) -> Iterator[Site]:
 
 
 def languages_of_real(project: Project) -> set[str]:
-    """The languages that the real Meson alone adds to the project."""
+    """Returns the languages that the real Meson alone adds to the project."""
     calls = [it for path in project.known.entered for statement in tree.statements_in(project.files[path].body)
              for expression in tree.expressions_of(statement) for it in tree.inside(expression)
              if isinstance(it, tree.Call) and it.name == "add_languages" and it not in project.known.reached]
@@ -175,7 +175,7 @@ def languages_of_real(project: Project) -> set[str]:
 
 
 def comparison_of(site: Site) -> tree.Binary | None:
-    """The comparison whose left side is a call."""
+    """Returns the comparison whose left side is a call."""
     for expression in tree.expressions_of(site.statement):
         for node in tree.inside(expression):
             if isinstance(node, tree.Binary) and node.left is site.call:

@@ -19,7 +19,7 @@ PLACEHOLDER = re.compile(r"@[-A-Za-z0-9_]+@|^\s*#mesondefine", re.MULTILINE)
 
 
 def interpreter_of(path: str) -> str | None:
-    """What a script is run by, by its first line."""
+    """Returns what a script is run by, by its first line."""
     try:
         with open_file(path) as it:
             first = it.readline(LONGEST_LINE).decode("utf-8", "replace")
@@ -76,7 +76,7 @@ def unmarked_test(project: Project, site: Site) -> Iterator[Change]:
 
 
 def script_at(project: Project, site: Site, node: tree.Node) -> str | None:
-    """The file of the sources that a program is, where it is one."""
+    """Returns the file of the sources that a program is, where it is one."""
     items = flat(project.known.value(node))
     value = items[0].value if len(items) == 1 and items[0].is_sure else None
     if not isinstance(value, Thing):
@@ -137,7 +137,7 @@ def source_paths(project: Project, site: Site, node: tree.Node) -> list[str]:
 
 
 def is_plain_text(path: str) -> bool:
-    """Whether a template comes out of configure_file as it went in, mode and all."""
+    """Returns whether a template comes out of configure_file as it went in, mode and all."""
     try:
         text = read_text(path, DEFINITION)
     except OSError:
@@ -147,8 +147,8 @@ def is_plain_text(path: str) -> bool:
 
 
 def name_of_copy(project: Project, site: Site, output: tree.Node, source: tree.Node) -> str | None:
-    """The name of a target that makes a copy, which no other copy has; none where its file isn't named by a text. In a loop an output that
-    has parts of the input's name is one for each round."""
+    """Returns the name of a target that makes a copy, which no other copy has, or None if its file isn't named by a text. In a loop an
+    output that has parts of the input's name is one for each round."""
     known = text_of(project, output)
     if known is not None and "@" not in known:
         return escaped(f"copy-of-{known}")
@@ -205,7 +205,7 @@ def commanded_files(project: Project) -> Iterator[Change]:
 
 
 def is_source(project: Project, call: tree.Call) -> bool:
-    """Whether what a call gives is a source of a target."""
+    """Returns whether what a call gives is a source of a target."""
     for site in project.functions(*TARGETS, "declare_dependency"):
         for thing in project.known.things[site.call]:
             items = [it for value in [*thing.arguments[1:], thing.keywords.get("sources", Many([]))] for it in flat(value)]

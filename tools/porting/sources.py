@@ -41,7 +41,7 @@ class Names:
 
 
 def wanted_name(project: Project, site: Site) -> str:
-    """A name for a check: what the project calls it, else the variable or the key that it decides."""
+    """Returns a name for a check: what the project calls it, else the variable or the key that it decides."""
     word = site.call.keywords.get("name")
     said = text_of(project, word.value) if word else None
     if said is None and isinstance(site.statement, tree.Assignment):
@@ -55,7 +55,7 @@ def wanted_name(project: Project, site: Site) -> str:
 
 
 def first_key(statement: tree.If, call: tree.Call) -> str | None:
-    """The first name that the branch of a condition sets."""
+    """Returns the first name that the branch of a condition sets."""
     for branch in statement.branches:
         if branch.condition is not None and call in set(tree.inside(branch.condition)):
             for it in branch.body:
@@ -68,7 +68,7 @@ def first_key(statement: tree.If, call: tree.Call) -> str | None:
 
 
 def sources(project: Project) -> Iterator[Change]:
-    """A source that has to compile or to link: the same source before a type or a function of its own, which is asked for."""
+    """Replaces a source that has to compile or to link by a check of a type or a function that the same source defines."""
     names = Names(project)
     for site in of_compiler(project, "compiles", "links"):
         is_link = site.call.name == "links"
@@ -96,7 +96,7 @@ def sources(project: Project) -> Iterator[Change]:
 
 @dataclasses.dataclass(frozen=True)
 class Source:
-    """What a check compiles: its expression, its texts as far as they are known, and its node where that can be kept."""
+    """What a check compiles: its expression, its known texts, and its node where that can be kept."""
     source: str
     texts: list[str]
     node: tree.Node | None = None
@@ -114,7 +114,7 @@ class Named:
 
 
 def source_of(project: Project, site: Site) -> Source | None:
-    """The source of a check: known texts, or one file of C, which is included by its path."""
+    """Returns the source of a check: known texts, or one file of C, which is included by its path."""
     word = site.call.keywords.get("werror")
     is_known = word is None or isinstance(word.value, tree.Truth)
     if len(site.call.arguments) != 1 or set(site.call.keywords) - KEPT - {"name", "werror"} or not is_known:
@@ -138,7 +138,7 @@ def source_of(project: Project, site: Site) -> Source | None:
 
 
 def warnings(site: Site) -> list[tuple[int, int, str]]:
-    """The edits that put `werror:` into the words of a check."""
+    """Returns the edits that put `werror:` into the words of a check."""
     word, args = site.call.keywords.get("werror"), site.call.keywords.get("args")
     if word is None:
         return []
@@ -155,21 +155,22 @@ def compiled(site: Site, code: Source, name: Named) -> str:
 
 
 def linked(site: Site, code: Source, name: Named) -> str:
-    """Its `main` gets the name of the check, so that the check's own `main` can name it; a source of a shared library gets a function."""
+    """Gives its `main` the name of the check, so that the check's own `main` can name it. A source of a shared library gets a function."""
     if not any(OF_PROGRAM.search(it) for it in code.texts):
         return around(site, code, "", "\nstatic int ", name, "(void) { return 0; }\n", "#include <stddef.h>\n")
     return around(site, code, "#include <stddef.h>\n#define main ", "\n#undef main\n", name, "\n")
 
 
 def is_linked_whole(site: Site, code: Source) -> bool:
-    """Whether a source has a `main` where it needs one."""
+    """Returns whether a source has a `main` where it needs one."""
     args = site.call.keywords.get("args")
     is_library = args is not None and "-shared" in site.file.source(args.value)
     return all(OF_PROGRAM.search(it) for it in code.texts) or (is_library and not any(OF_PROGRAM.search(it) for it in code.texts))
 
 
 def around(site: Site, code: Source, before: str, after: str, name: Named, behind: str, first: str = "") -> str:
-    """A source with text put round it, of which the first that is there ends with the name: a literal where it is one, else a sum."""
+    """Returns a source with text put round it, of which the first that is there ends with the name: a literal where it is one, else a
+    sum."""
     before, after = (before and f"{before}{MARK}{behind}", after) if before else (first, f"{after}{MARK}{behind}")
     node = code.node
     if name.is_plain and isinstance(node, tree.Text) and not node.has_names:
@@ -182,7 +183,7 @@ def around(site: Site, code: Source, before: str, after: str, name: Named, behin
 
 
 def with_name(text: str, name: Named) -> list[str]:
-    """A text in which the name has its place, as items of a sum."""
+    """Returns a text in which the name has its place, as items of a sum."""
     if name.is_plain or MARK not in text:
         return [escaped(text.replace(MARK, name.text))] if text else []
     first, _, rest = text.partition(MARK)

@@ -45,7 +45,7 @@ def truth_names(project: Project) -> Iterator[Change]:
 
 
 def used_entries(project: Project) -> list[Entry]:
-    """The truth values of configurations that templates are given, with what all of these templates do with their names."""
+    """Returns the truth values of configurations that templates are given, with what all of these templates do with their names."""
     found: dict[tree.Node, Entry] = {}
     for site in project.functions("configure_file"):
         words = site.call.keywords
@@ -61,7 +61,7 @@ def used_entries(project: Project) -> list[Entry]:
 
 
 def names_asked(project: Project) -> set[str]:
-    """The names of configurations whose values the definitions ask for."""
+    """Returns the names of configurations whose values the definitions ask for."""
     names: set[str] = set()
     for site in project.methods("get", "get_unquoted"):
         if site.call.receiver and kind_of(project.known.value(site.call.receiver)) == "configuration" and site.call.arguments:
@@ -70,7 +70,7 @@ def names_asked(project: Project) -> set[str]:
 
 
 def shown_truth(owner: Site, node: tree.Node) -> str:
-    """The text that the real Meson writes for a truth value."""
+    """Returns the text that the real Meson writes for a truth value."""
     if isinstance(node, tree.Truth):
         return f"'{node.value}'"
     source = owner.file.source(node)
@@ -79,7 +79,7 @@ def shown_truth(owner: Site, node: tree.Node) -> str:
 
 
 def texts_of_templates(project: Project, site: Site, node: tree.Node) -> list[str]:
-    """The texts of the templates that a call may be given; none where one can't be read."""
+    """Returns the texts of the templates that a call may be given; none if one can't be read."""
     texts = []
     for path in source_paths(project, site, node):
         try:

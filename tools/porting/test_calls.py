@@ -36,7 +36,7 @@ def built_first(project: Project) -> Iterator[Change]:
 
 
 def edit_of_default(project: Project, site: Site) -> tuple[int, int, str] | None:
-    """The edit that has a target built by default; none where it is."""
+    """Returns the edit that has a target built by default, or None if it is."""
     words = site.call.keywords
     if "build_by_default" in words:
         value = words["build_by_default"].value
@@ -62,7 +62,7 @@ def environment(project: Project) -> Iterator[Change]:
 
 
 def environment_edits(project: Project, name: str) -> list | None:
-    """The edits of all `NAME.set(..)`, or none where it is changed in another way."""
+    """Returns the edits of all `NAME.set(..)`, or None if it is changed in another way."""
     edits = []
     for site in project.methods("set", "append", "prepend", "unset"):
         receiver = site.call.receiver
@@ -131,7 +131,7 @@ def workdir(project: Project) -> Iterator[Change]:
 
 
 def serial(project: Project) -> Iterator[Change]:
-    """A test that may not run beside others is one of the suite `serial`, whose tests run alone."""
+    """Puts a test that may not run in parallel with others into the suite `serial`, whose tests run alone."""
     for site in project.functions("test"):
         words = site.call.keywords
         if "is_parallel" not in words or project.known.value(words["is_parallel"].value) is not False:

@@ -19,7 +19,7 @@ LONGEST_VERSION = 1000  # characters
 
 
 def printed(value: object) -> str | None:
-    """A value as text, or none where it isn't known."""
+    """Returns a value as text, or None if it isn't known."""
     if isinstance(value, bool):
         return str(value).lower()
     return str(value) if isinstance(value, (str, int)) else None
@@ -46,7 +46,7 @@ def replaced(text: str, before: str, after: str) -> object:
 
 
 def split(text: str, arguments: list) -> object:
-    """The parts of a text; of what has too many of them no more than that these are texts."""
+    """Returns the parts of a text; of what has too many of them no more than that these are texts."""
     parts = text.split(arguments[0], MOST_ITEMS) if arguments and arguments[0] else text.split(None, MOST_ITEMS)
     return in_parts(parts)
 
@@ -67,7 +67,7 @@ TEXT: dict[str, Callable[..., object]] = {
 
 
 def version_compare(version: str, wanted: str) -> bool | None:
-    """Whether a version is as wanted, by an operator and another version; none where that is written in another way."""
+    """Returns whether a version is as wanted, by an operator and another version, or None if that is written in another way."""
     found = re.fullmatch(r"\s*(>=|<=|!=|==|=|>|<)?\s*([0-9.]+)\s*", wanted)
     if found is None or max(len(version), len(wanted)) > LONGEST_VERSION:
         return None

@@ -20,7 +20,7 @@ OF_MERGED = {"input", "output", "po_dir", "type", "install", "install_dir", "dat
 
 
 def languages_of(project: Project, site: Site) -> list[str] | None:
-    """The languages of a call, or those of its file LINGUAS."""
+    """Returns the languages of a call, or those of its file LINGUAS."""
     word = site.call.keywords.get("languages")
     if word is not None:
         return texts_at(project, word.value)
@@ -53,7 +53,7 @@ def translations(project: Project) -> Iterator[Change]:
 
 
 def is_there(project: Project, site: Site, language: str) -> bool:
-    """Whether a language has its file, and no definitions of its own yet."""
+    """Returns whether a language has its file, and no definitions of its own yet."""
     place = os.path.join(site.folder, language)
     return (LANGUAGE.fullmatch(language) is not None and os.path.isfile(os.path.join(project.root, place + ".po"))
             and not project.exists(os.path.join(place, "meson.build")))

@@ -142,14 +142,14 @@ class Foreach(Statement):
 
 
 def plain(node: Node) -> Node:
-    """A node without the brackets round it."""
+    """Returns a node without the brackets round it."""
     while isinstance(node, Group):
         node = node.inner
     return node
 
 
 def parts_of(node: Node) -> list[Node]:
-    """The nodes right below a node of an expression."""
+    """Returns the nodes right below a node of an expression."""
     match node:
         case List():
             return node.items
@@ -185,7 +185,7 @@ def inside(node: Node) -> Iterator[Node]:
 
 
 def depth_of(node: Node) -> int:
-    """How deep nodes are nested at most."""
+    """Returns how deep nodes are nested at most."""
     deepest, waiting = 0, [(node, 1)]
     while waiting:
         it, depth = waiting.pop()
@@ -199,7 +199,7 @@ def names_in(node: Node) -> set[str]:
 
 
 def names_set_by(statement: Statement) -> list[str]:
-    """The variables that a statement sets itself, not by its body."""
+    """Returns the variables that a statement sets itself, not by its body."""
     match statement:
         case Assignment():
             return [statement.name]
@@ -209,7 +209,7 @@ def names_set_by(statement: Statement) -> list[str]:
 
 
 def expressions_of(statement: Statement) -> list[Node]:
-    """The expressions that a statement has itself, not those of its body."""
+    """Returns the expressions that a statement has itself, not those of its body."""
     match statement:
         case Assignment() | Expression():
             return [statement.value]
@@ -230,7 +230,7 @@ def bodies_of(statement: Statement) -> list[list[Statement]]:
 
 
 def statements_in(body: list[Statement]) -> Iterator[Statement]:
-    """All statements of a body and of the bodies in it."""
+    """Yields all statements of a body and of the bodies in it."""
     for statement in body:
         yield statement
         for inner in bodies_of(statement):

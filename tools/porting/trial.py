@@ -20,7 +20,7 @@ BUILD = "build-of-the-trial"
 
 
 def program_of(given: str | None) -> str | None:
-    """Returns the program that is asked: the given one, else that of this checkout or of this installation; none where it isn't built."""
+    """Returns the program to run: the given one, else that of this checkout or of this installation; None if it isn't built."""
     if given is not None:
         return os.path.abspath(given)
     return OWN if os.access(OWN, os.X_OK) else None
@@ -30,12 +30,12 @@ def machine_file(program: str, root: str, words: list[str]) -> bytes:
     """Returns the text of a machine file of the sources, empty if none can be made."""
     # Isolated, as the command starts it: else a PYTHONPATH with an empty part would have it import modules of the project.
     command = [sys.executable, "-I", "-S", os.path.join(CHECKOUT, "tools", "machine-file"), program, "machine-file", *words, root]
-    # It is asked to end first, since it ends its compilers and takes its folder away.
+    # It gets a signal before it is killed, since it ends its compilers and removes its folder.
     return run(command, seconds=LONGEST, variables=dict(os.environ), most=MOST_TOLD, is_asked_first=True).printed.encode()
 
 
 def first_fault(program: str, root: str, changed: dict[str, str], words: list[str], show: Callable[[str], None]) -> str | None:
-    """What the program says first of the sources, in which these files are others; none where it takes them."""
+    """Returns what the program says first of the sources, in which these files are others, or None if it takes them."""
     with tempfile.TemporaryDirectory(prefix="meson-port-") as scratch:
         folder = os.path.join(scratch, "sources") if changed else root
         if changed:

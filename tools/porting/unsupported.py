@@ -101,7 +101,7 @@ class Unsupported:
 
 
 def unsupported_in(project: Project) -> list[Unsupported]:
-    """All places that this program refuses where it comes to them."""
+    """Returns all places that this program refuses where it comes to them."""
     found: list[Unsupported] = []
     for site in project.sites():
         doubt = project.doubts.get(site.call)
@@ -159,13 +159,13 @@ def refused_of_project(project: Project, site: Site) -> list[str]:
 
 
 def is_asked_too_early(call: tree.Call) -> bool:
-    """Whether a call can't be in the arguments of `project`: a function, or a method of `meson`."""
+    """Returns whether a call can't be in the arguments of `project`: a function, or a method of `meson`."""
     receiver = tree.plain(call.receiver) if call.receiver else None
     return receiver is None or (isinstance(receiver, tree.Name) and receiver.text == "meson")
 
 
 def modules_left(project: Project) -> set[str]:
-    """The variables of modules that are imported by the real Meson alone."""
+    """Returns the variables of modules that are imported by the real Meson alone."""
     return {it.name for path in project.known.entered for it in tree.statements_in(project.files[path].body)
             if isinstance(it, tree.Assignment) and isinstance(it.value, tree.Call) and it.value.name == "import"
             and it not in project.known.reached}

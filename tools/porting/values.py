@@ -1,6 +1,6 @@
-"""What is known of a value while no machine, no option and no file of the sources has been asked.
+"""Defines what is known of a value without the machine, the options and the files of the sources.
 
-Texts, integers and truth values are Python's. All else is below; `Unknown` is a value of which at most the kind is known.
+Texts, integers and truth values are Python's. The other classes are below; of an `Unknown` value at most the kind is known.
 """
 from __future__ import annotations
 
@@ -46,7 +46,7 @@ class Many:
 
     @functools.cached_property
     def size(self) -> tuple[int, int]:
-        """How many items it has at every depth, and how deep these are nested."""
+        """Returns how many items it has at every depth, and how deep these are nested."""
         inner = [size_of(it.value) for it in self.items if isinstance(it.value, (Many, Either))]
         return len(self.items) + sum(it[0] for it in inner), 1 + max((it[1] for it in inner), default=0)
 
@@ -74,18 +74,18 @@ class Thing:
 
     @property
     def name(self) -> str | None:
-        """The first argument, where it is a known text."""
+        """Returns the first argument, where it is a known text."""
         first = self.arguments[0] if self.arguments else None
         return first if isinstance(first, str) else None
 
 
 UNKNOWN = Unknown()
-# Stands for the project's folder in what is known of a text: that folder is another one on each machine.
+# Replaces the project's folder in a known text: that folder is another one on each machine.
 ROOT = "\0root"
 
 
 def size_of(value: object) -> tuple[int, int]:
-    """How many items a value has at every depth of lists, in all that it may be, and how deep they are nested."""
+    """Returns how many items a value has at every depth of lists, in all that it may be, and how deep they are nested."""
     if isinstance(value, Many):
         return value.size
     sizes = [size_of(it) for it in value.choices] if isinstance(value, Either) else []
@@ -93,7 +93,7 @@ def size_of(value: object) -> tuple[int, int]:
 
 
 def bounded(value: object) -> object:
-    """A value, or of one that is too great its kind."""
+    """Returns a value, or of one that is too great its kind."""
     if isinstance(value, int) and not isinstance(value, bool):
         return value if -MOST_NUMBER <= value < MOST_NUMBER else Unknown("integer")
     if isinstance(value, str):
@@ -105,14 +105,14 @@ def bounded(value: object) -> object:
 
 
 def cost_of(value: object) -> int:
-    """What it costs to make a value or to look at it, in steps."""
+    """Returns what it costs to make a value or to look at it, in steps."""
     if isinstance(value, str):
         return len(value) >> 10
     return len(value.pairs) >> 3 if isinstance(value, Table) else size_of(value)[0] >> 4
 
 
 def without_root(value: object) -> object:
-    """A value of which a definition file may be given the text."""
+    """Returns a value of which a definition file may be given the text."""
     if isinstance(value, str):
         return Unknown("text") if ROOT in value else value
     if isinstance(value, Either) and any(isinstance(it, str) and ROOT in it for it in value.choices):
@@ -123,7 +123,7 @@ def without_root(value: object) -> object:
 
 
 def kind_of(value: object) -> str:
-    """The kind that a value surely has, or none."""
+    """Returns the kind that a value surely has, or none."""
     if isinstance(value, Unknown):
         return value.kind
     if isinstance(value, Either):
@@ -139,21 +139,21 @@ def choices_of(value: object) -> tuple:
 
 
 def is_same(a: object, b: object) -> bool:
-    """Whether two values count as one; targets of one name, that are made in two branches, do."""
+    """Returns whether two values count as one; targets of one name, that are made in two branches, do."""
     if isinstance(a, Thing) and isinstance(b, Thing) and a.kind == b.kind == "target" and a.name is not None:
         return a.name == b.name and a.function == b.function and a.path == b.path
     return a is b or (type(a) is type(b) and isinstance(a, (str, int, bool, Unknown)) and a == b)
 
 
 def key_of(value: object) -> object:
-    """What two values have in common that count as one, as `is_same` says."""
+    """Returns what two values have in common that count as one, as `is_same` says."""
     if isinstance(value, Thing) and value.kind == "target" and value.name is not None:
         return "target", value.name, value.function, value.path
     return (type(value), value) if isinstance(value, (str, int, Unknown)) else id(value)
 
 
 def distinct(values: Iterable[object]) -> list[object]:
-    """Each value once, in the order of the first."""
+    """Returns each value once, in the order of the first."""
     found: dict[object, object] = {}
     for value in values:
         found.setdefault(key_of(value), value)
@@ -161,7 +161,7 @@ def distinct(values: Iterable[object]) -> list[object]:
 
 
 def either(values: Iterable[object]) -> object:
-    """What is known of one of several values."""
+    """Returns what is known of one of several values."""
     found = distinct(choice for value in values for choice in choices_of(value))
     if len(found) == 1:
         return found[0]
@@ -176,7 +176,7 @@ def either(values: Iterable[object]) -> object:
 
 
 def joined_lists(a: Many, b: Many) -> Many:
-    """A list that is one of two: what both begin with stays, the rest may be there."""
+    """Returns a list that is one of two: what both begin with stays, the rest may be there."""
     same = 0
     while same < min(len(a.items), len(b.items)) and is_same(a.items[same].value, b.items[same].value):
         same += 1
@@ -187,7 +187,7 @@ def joined_lists(a: Many, b: Many) -> Many:
 
 
 def flat(value: object, is_sure: bool = True) -> list[Item]:
-    """The items of a value at every depth of lists, of what it may be too; an Unknown item where there may be others."""
+    """Returns the items of a value at every depth of lists, of what it may be too; an Unknown item where there may be others."""
     if isinstance(value, Many):
         found = [inner for it in value.items for inner in flat(it.value, is_sure and it.is_sure)]
         return found if value.is_whole else [*found, Item(UNKNOWN, False)]
@@ -197,7 +197,7 @@ def flat(value: object, is_sure: bool = True) -> list[Item]:
 
 
 def texts_of(value: object) -> list[str] | None:
-    """The texts of a value that is surely these, at every depth of lists; none where it isn't."""
+    """Returns the texts of a value that is surely these, at every depth of lists, or None if it isn't."""
     items = flat(value)
     if all(it.is_sure and isinstance(it.value, str) for it in items):
         return [str(it.value) for it in items]

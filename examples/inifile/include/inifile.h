@@ -4,8 +4,8 @@
  *     [section]
  *     key = a longer value
  *
- * Texts that a call gives belong to the file and stand until it is changed or freed. Several threads may
- * read one file at once; who changes it must be alone with it.
+ * Texts that a call returns belong to the file and are valid until it is changed or freed. Several threads
+ * may read one file at once. A thread that changes it must be the only one that uses it.
  */
 #ifndef INIFILE_H
 #define INIFILE_H
@@ -33,14 +33,14 @@ struct ini_entry {
 INI_API struct ini *ini_new(void);
 INI_API void ini_free(struct ini *ini);
 
-/* Adds what a text says. A key that is there takes the new value. After an error `line` is the line that has
- * it, counted from 1, or 0 where none has, and what stood before that line has been added. */
+/* Adds the sections and keys of a text. A key that exists takes the new value. After an error, `line` is the line of
+ * the error, counted from 1, or 0 if no line has it; the lines before it have been added. */
 INI_API enum ini_error ini_read(struct ini *ini, const char *text, size_t length, size_t *line);
 INI_API enum ini_error ini_load(struct ini *ini, const char *path, size_t *line);
 
 /* The text of the whole file, to be freed by the caller, or null where memory runs out. */
 INI_API char *ini_text(const struct ini *ini);
-/* Writes that text beside `path` and renames it there: a reader sees the old file or the new one. */
+/* Writes that text to a file next to `path` and renames it: a reader sees the old file or the new one. */
 INI_API enum ini_error ini_save(const struct ini *ini, const char *path);
 
 /* The value of a key, or null. */

@@ -108,7 +108,7 @@ enum ini_error ini_put(struct ini *ini, const char *section, const char *key, co
     return INI_NONE;
 }
 
-/* Whether a text stands in one line, and has no blanks at its ends, which a reader would drop. */
+/* Returns whether a text fits on one line and has no blanks at its ends, which a reader would drop. */
 static bool is_plain(const char *text, const char *barred)
 {
     size_t length = strlen(text);
