@@ -13,7 +13,7 @@ use Rattle.machine_file.specs.Files.{Section as SectionSaid}
 use Rattle.machine_file.specs.Lookups.{entries_at, entry_at}
 use Rattle.machine_file.specs.Questions.{Aside, gives_options, options_at}
 use Rattle.machine_file.specs.Values as written
-use Rattle.introspection.specs.Questions.{Line, Reply, Section, Value, aside_member, entry_member, in_order, label_of, line_of, option_line}
+use Rattle.introspection.specs.Questions.{Line, Reply, Section, Value, aside_member, entry_member, in_order, head_of, line_of, option_line}
 use Rattle.introspection.specs.Questions.{shown_beside, shown_key, shown_reply, shown_value}
 use Rattle.introspection.proofs.Shape.{ArePlain, IsPlain, none, one, plain_boolean, plain_integer, plain_object, plain_string, plain_strings}
 
@@ -42,7 +42,7 @@ plain_reply (Value (Some v)) = plain_value v
 plain_reply (Section None) = plain_null
 plain_reply (Section (Some entries)) = plain_object (plain_members entry_member entries (λ e. plain_value e.value))
 
-plain_beside : (asides : List Aside) → IsPlain 2 (shown_beside asides)
+pub plain_beside : (asides : List Aside) → IsPlain 2 (shown_beside asides)
 plain_beside asides = plain_object (plain_members aside_member asides (λ a. plain_strings a.texts))
 
 plain_number : {n : ℕ} (place : ℕ) → IsPlain n (number (unsigned place))
@@ -59,14 +59,13 @@ plain_line l file place =
     (one (codes "line") (plain_number place)
     (one (codes "beside") (plain_beside l.asides) none))))))
 
-pub plain_label : (l : Line) → IsPlain 3 (label_of l)
-unfolding label_of
-plain_label l =
+pub plain_head : (l : Line) → IsPlain 3 (head_of l)
+unfolding head_of
+plain_head l =
     plain_object
     (one (codes "section") (plain_string l.section)
     (one (codes "key") (plain_key l.key)
-    (one (codes "answer") (plain_reply l.reply)
-    (one (codes "beside") (plain_beside l.asides) none))))
+    (one (codes "answer") (plain_reply l.reply) none)))
 
 -- ---- lists
 

@@ -3,7 +3,7 @@ use Rattle.std.proofs.Common.{◌≡◌, true, None, Some, [], ◌∷◌, ◌++�
 use Rattle.std.specs.Fmt.{digits}
 use Rattle.serde_json.proofs.OnLiterals.{serde_json_on_literals}
 use Rattle.machine_file.specs.Values.{Boolean, Text, Texts}
-use Rattle.introspection.specs.Questions.{Value, label_of, label_text, line_of, line_text}
+use Rattle.introspection.specs.Questions.{Value, head_of, head_text, line_of, line_text}
 use Rattle.introspection.specs.Questions.{Section as Whole}
 
 -- a check beside which words were said
@@ -38,12 +38,12 @@ unfolding line_of line_text digits serde_json_on_literals
 whole_section = refl
 
 -- what is not answered, without its place
-unanswered : label_text (record { section = codes "binaries"; key = Some (codes "sed"); reply = Value None; asides = [] }) ≡
-    codes "{\"section\":\"binaries\",\"key\":\"sed\",\"answer\":null,\"beside\":{}}"
-unfolding label_of label_text digits serde_json_on_literals
+unanswered : head_text (record { section = codes "binaries"; key = Some (codes "sed"); reply = Value None; asides = [] }) ≡
+    codes "{\"section\":\"binaries\",\"key\":\"sed\",\"answer\":null}"
+unfolding head_of head_text digits serde_json_on_literals
 unanswered = refl
 
-absent_section : label_text (record { section = codes "dependency z"; key = None; reply = Whole None; asides = [] }) ≡
-    codes "{\"section\":\"dependency z\",\"key\":null,\"answer\":null,\"beside\":{}}"
-unfolding label_of label_text digits serde_json_on_literals
+absent_section : head_text (record { section = codes "dependency z"; key = None; reply = Whole None; asides = [] }) ≡
+    codes "{\"section\":\"dependency z\",\"key\":null,\"answer\":null}"
+unfolding head_of head_text digits serde_json_on_literals
 absent_section = refl

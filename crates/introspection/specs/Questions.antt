@@ -97,19 +97,22 @@ line_of l file place = ordered_object (
     ∷ (codes "beside", shown_beside l.asides)
     ∷ [])
 
--- Returns a line without its place.
-unfoldable pub label_of : Line → Data
-label_of l = ordered_object (
+-- Returns a line without its place and without what else the call stated.
+unfoldable pub head_of : Line → Data
+head_of l = ordered_object (
     (codes "section", string l.section)
     ∷ (codes "key", shown_key l.key)
     ∷ (codes "answer", shown_reply l.reply)
-    ∷ (codes "beside", shown_beside l.asides)
     ∷ [])
 
 -- Returns the text of a line, with no space between its parts.
 unfoldable pub line_text : Line → Text → ℕ → Text
 line_text l file place = compact_text (line_of l file place)
 
--- Returns the text without the place. Among lines with the same label, only the first is printed.
-unfoldable pub label_text : Line → Text
-label_text l = compact_text (label_of l)
+-- Returns the text of a line without its place and without what else the call stated.
+unfoldable pub head_text : Line → Text
+head_text l = compact_text (head_of l)
+
+-- Returns the text of what else the call stated. Among lines that have this and the text above in common, only the first is printed.
+unfoldable pub beside_text : List Aside → Text
+beside_text asides = compact_text (shown_beside asides)

@@ -12,4 +12,4 @@ mod questions;
 mod serialization;
 
 pub use document::{document_text, introspect};
-pub use questions::{QuestionLine, Reply, question_lines};
+pub use questions::{QuestionLine, Reply, beside_text, question_lines};

@@ -4,7 +4,7 @@ ghost use Rattle.serde_json.specs.Events.{SendsValue};
 ghost use Rattle.machine_file.specs.QuestionsView.{all_shown_in, topic_in};
 ghost use Rattle.machine_file.specs.Questions.{answer_to};
 ghost use Rattle.machine_file.specs.View.{entries_of, machine_in, strings_in, value_in};
-ghost use Rattle.introspection.specs.Questions.{entry_member, label_of, label_text, line_of, line_text, option_line, topic_lines};
+ghost use Rattle.introspection.specs.Questions.{beside_text, entry_member, head_of, head_text, line_of, line_text, option_line, topic_lines};
 ghost use Rattle.introspection.specs.Questions.{ordered_object, shown_beside, shown_key, shown_reply, shown_value};
 ghost use Rattle.introspection.specs.QuestionsView.{line_in, reply_in};
 
@@ -198,28 +198,42 @@ impl Serialize for Placed<'_, '_> {
     }
 }
 
-// Holds a line without its place.
+// Holds a line, of which its place and what else the call stated are left out.
 #[derive(Clone, Copy)]
-struct Label<'a, 'q> {
+struct Head<'a, 'q> {
     line: &'a QuestionLine<'q>,
 }
 
-impl Described for Label<'_, '_> {
-    ghost writes = { λ l. SendsValue (label_of (line_in l.line.now)) };
+impl Described for Head<'_, '_> {
+    ghost writes = { λ h. SendsValue (head_of (line_in h.line.now)) };
 }
 
-impl Serialize for Label<'_, '_> {
+impl Serialize for Head<'_, '_> {
     fn serialize<S: Serializer>(&self, out: &mut S) -> Result<(), S::Error> {
-        out.begin_map(Some(4))?;
+        out.begin_map(Some(3))?;
         out.key("section")?;
         out.str(self.line.section)?;
         out.key("key")?;
         send_key(self.line.key, out)?;
         out.key("answer")?;
         send_reply(self.line.reply, out)?;
-        out.key("beside")?;
-        send_beside(self.line.asides, out)?;
         out.end_map()
+    }
+}
+
+// Holds what else a call stated.
+#[derive(Clone, Copy)]
+struct Beside<'a> {
+    asides: &'a [ShownAside],
+}
+
+impl Described for Beside<'_> {
+    ghost writes = { λ b. SendsValue (shown_beside (all_shown_in b.asides.now)) };
+}
+
+impl Serialize for Beside<'_> {
+    fn serialize<S: Serializer>(&self, out: &mut S) -> Result<(), S::Error> {
+        send_beside(self.asides, out)
     }
 }
 
@@ -237,11 +251,19 @@ impl QuestionLine<'_> {
         printed(alloc, &placed)
     }
 
-    /// Returns the text without the place. Two lines are the same question if these texts are equal.
-    pub fn label(&self, alloc: Global) -> Result<String, AllocError>
-        ensures { IfOk result (λ s. string_bytes s ≡ label_text (line_in self.now)) }
+    /// Returns the text without the place and the asides. Two lines are the same question if these texts are equal, and their asides.
+    pub fn head(&self, alloc: Global) -> Result<String, AllocError>
+        ensures { IfOk result (λ s. string_bytes s ≡ head_text (line_in self.now)) }
     {
-        let label = Label { line: self };
-        printed(alloc, &label)
+        let head = Head { line: self };
+        printed(alloc, &head)
     }
+}
+
+/// Returns the text of some asides, which is a JSON object without a newline.
+pub fn beside_text(alloc: Global, asides: &[ShownAside]) -> Result<String, AllocError>
+    ensures { IfOk result (λ s. string_bytes s ≡ beside_text (all_shown_in asides.now)) }
+{
+    let beside = Beside { asides };
+    printed(alloc, &beside)
 }

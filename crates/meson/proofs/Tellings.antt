@@ -2,14 +2,16 @@
 use Rattle.std.proofs.Common.{◌≡◌, ℕ, ◌+◌, true, false, List, [], Some, None, Result, Ok, Err, refl, sym, ap, subst, ◌∙◌, arith}
 use Rattle.std.specs.Prelude.{option_map}
 use Rattle.std.proofs.lemmas.Bool.{false≢true}
-use Rattle.ports.specs.Endings.{HasRoom, ending_of_result}
+use Rattle.ports.specs.Endings.{HasRoom}
 use Rattle.ports.specs.Outputs.{OutputState, Step, Writes, logs}
-use Rattle.ports.specs.declared.fault.DeviceFault.{DeviceFault}
 use Rattle.ports.proofs.Sending.{sends_none, sends_nothing, sends_stop, sends_then}
 use Rattle.support.specs.Faults.{FaultData}
 use Rattle.support.specs.View.{fault_view}
+use Rattle.backend.specs.BuildFile.{ending_of}
 use Rattle.backend.specs.Concluding.{Agrees, Whole, failed_devices, faulted_with, told_before}
 use Rattle.backend.specs.declared.run_end.Status.{Status}
+use Rattle.backend.specs.declared.stop.WriteStop.{WriteStop}
+use Rattle.backend.specs.declared.stop.WriteStop.TheVariants as writes
 use Rattle.backend.specs.declared.run_end.Status.TheVariants as statuses
 use Rattle.world.specs.Gives.{failures_after}
 use Rattle.world.specs.Run.{Run, outcome_of}
@@ -25,27 +27,37 @@ pub ends_none : (old : OutputState) → Concludes (ending_with None) statuses.Do
 ends_none old = record { agrees = record { status = λ h. refl; events = sends_nothing old }; failures = omega arith }
 
 -- the lines were taken, and then the ending
-pub told_lines : (run : List Step) (end : Whole) (status : Status) (old mid new : OutputState) (r : Result (Unit {0}) DeviceFault) → r ≡ Ok tt → Writes old run (ending_of_result r) mid
+pub told_lines : (run : List Step) (end : Whole) (status : Status) (old mid new : OutputState) (r : Result (Unit {0}) WriteStop) → r ≡ Ok tt → Writes old run (ending_of r) mid
     → Concludes end status mid new → Concludes (told_before run end) status old new
 told_lines run end status old mid new r is w c =
-    let whole = subst (λ x. Writes old run (ending_of_result x) mid) is w in
+    let whole = subst (λ x. Writes old run (ending_of x) mid) is w in
     record {
       agrees = record { status = c.agrees.status; events = sends_then whole.sends c.agrees.events };
       failures = c.failures ∙ ap (λ n. n + failed_devices status) whole.failures;
     }
 
 -- or the log failed
-pub stopped_lines : (run : List Step) (end : Whole) (old new : OutputState) (r : Result (Unit {0}) DeviceFault) (e : DeviceFault) → r ≡ Err e → Writes old run (ending_of_result r) new
+pub stopped_lines : (run : List Step) (end : Whole) (old new : OutputState) (r : Result (Unit {0}) WriteStop) → r ≡ Err writes.Device → Writes old run (ending_of r) new
     → Concludes (told_before run end) statuses.Device old new
-stopped_lines run end old new r e is w =
-    let failed = subst (λ x. Writes old run (ending_of_result x) new) is w in
+stopped_lines run end old new r is w =
+    let failed = subst (λ x. Writes old run (ending_of x) new) is w in
     record {
       agrees = record { status = λ h. absurd (false≢true h); events = sends_stop end.steps failed.sends };
       failures = failed.failures;
     }
 
-pub room_then : (run : List Step) (old mid : OutputState) (r : Result (Unit {0}) DeviceFault) → r ≡ Ok tt → Writes old run (ending_of_result r) mid → HasRoom old.failures → HasRoom mid.failures
-room_then run old mid r is w h = subst (λ n. HasRoom n) (sym (subst (λ x. Writes old run (ending_of_result x) mid) is w).failures) h
+-- or no memory was left
+pub short_lines : (run : List Step) (end : Whole) (old new : OutputState) (r : Result (Unit {0}) WriteStop) → r ≡ Err writes.Memory → Writes old run (ending_of r) new
+    → Concludes (told_before run end) statuses.Memory old new
+short_lines run end old new r is w =
+    let short = subst (λ x. Writes old run (ending_of x) new) is w in
+    record {
+      agrees = record { status = λ h. absurd (false≢true h); events = sends_stop end.steps short.sends };
+      failures = let same : new.failures ≡ old.failures = short.failures in omega (arith, same);
+    }
+
+pub room_then : (run : List Step) (old mid : OutputState) (r : Result (Unit {0}) WriteStop) → r ≡ Ok tt → Writes old run (ending_of r) mid → HasRoom old.failures → HasRoom mid.failures
+room_then run old mid r is w h = subst (λ n. HasRoom n) (sym (subst (λ x. Writes old run (ending_of x) mid) is w).failures) h
 
 -- what holds at any stop holds at a fault
 pub on_fault : (stop : Stop) {p : Type 0} → p → OnFault stop p

@@ -9,6 +9,7 @@
 #![tactic(auto)]
 
 mod fault_run;
+mod labels;
 mod law;
 mod question_lines;
 mod question_run;

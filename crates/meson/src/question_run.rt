@@ -1,36 +1,36 @@
 //! Answers `meson questions`: runs the evaluation and prints what it asks the machine file, instead of writing outputs.
-ghost use Rattle.std.specs.Prelude.{◌≡◌, ◌<◌, [], IfOk, option_map, string_bytes};
+ghost use Rattle.std.specs.Prelude.{◌≡◌, ◌<◌, [], option_map};
 ghost use Rattle.std.specs.Rc.{rc_value};
 ghost use Rattle.ports.specs.Endings.{HasRoom};
 ghost use Rattle.support.specs.View.{fault_view};
 ghost use Rattle.backend.specs.Concluding.{Agrees};
 ghost use Rattle.interp.specs.Evaluation.{IsSaid, MachineSaid, definitions, evaluated_files, sections_of};
 ghost use Rattle.machine_file.specs.View.{machine_in};
-ghost use Rattle.world.specs.AskedView.{all_asked_in};
 ghost use Rattle.world.specs.Prelude.{Files, Holds, failures_after, settings_view, world_of};
 ghost use Rattle.world.specs.Plan.{carry};
 ghost use Rattle.meson.specs.Laws.{asked_by};
 ghost use Rattle.meson.specs.Questions.{ending_with, lines_then, questions_of, questions_text};
 ghost use Rattle.meson.specs.Setup.{Concludes, FailsOnce};
-ghost use Rattle.meson.specs.QuestionLines.{Asks, AsksOver, Ended, Told, text_of};
+ghost use Rattle.meson.specs.QuestionLines.{Asks, AsksIn, AsksOver, Ended, Told, asked_text};
 
-use crate::question_lines::questions_text;
+use crate::question_lines::log_questions;
 use crate::setup_run::tell_fault;
-use backend::{Status, refuse};
+use backend::{Status, WriteStop, refuse};
 use interp::{Inputs, definitions, read_machine};
 use machine_file::Machine;
-use ports::{NoOutputs, Outputs, Tree, log_all};
+use ports::{NoOutputs, Outputs, Tree};
 use std::alloc::{AllocError, Global};
 use std::marker::Brand;
 use std::rc::Rc;
 use std::sync::ledger::{Blank, Ledger};
 use support::faults::Fault;
-use world::{Asked, Settings, Steps, Stop, Store, new_steps};
+use world::{Settings, Steps, Stop, Store, new_steps};
 
-/// Holds the questions of a run as lines of JSON, and the fault in which it ended.
+/// Holds what a run left: the store, which has its questions, the machine file that answered them, and the fault in which the run ended.
 #[derive(Drop)]
 pub struct Asking {
-    pub lines: String,
+    pub store: Store,
+    pub machine: Rc<Machine>,
     pub fault: Option<Fault>,
 }
 
@@ -46,73 +46,52 @@ fn end<O: Outputs>(fault: &Option<Fault>, out: &mut O) -> Status
 }
 
 impl Asking {
-    // Returns the lines of these questions, each with the answer of this machine file, and the fault.
-    fn of(
-        alloc: Global,
-        machine: &Machine,
-        asked: &[Asked],
-        fault: Option<Fault>,
-    ) -> Result<Asking, AllocError>
-        ensures lines { IfOk result (λ a. string_bytes a.lines ≡ questions_text (machine_in machine.now) (all_asked_in asked.now)) }
-        ensures fault { IfOk result (λ a. a.fault ≡ fault) }
-    {
-        let lines = questions_text(alloc, machine, asked)?;
-        Ok(Asking { lines, fault })
-    }
-
-    // Writes the lines to the log, then the line of the fault.
-    fn tell<O: Outputs>(&self, out: &mut O) -> Status
+    // Writes the lines of the questions to the log, then the line of the fault.
+    fn tell<O: Outputs>(&self, alloc: Global, out: &mut O) -> Status
         requires { HasRoom (O.seen out.old).failures }
-        ensures { Concludes (lines_then (string_bytes self.now.lines) (option_map fault_view self.now.fault)) result (O.seen out.old)
+        ensures { Concludes (lines_then (asked_text self.now) (option_map fault_view self.now.fault)) result (O.seen out.old)
             (O.seen out.new) }
     {
-        match log_all(out, self.lines.as_bytes()) {
+        match log_questions(alloc, &self.machine, self.store.questions(), out) {
             Ok(()) => end(&self.fault, out),
-            Err(_) => Status::Device,
+            Err(WriteStop::Device) => Status::Device,
+            Err(WriteStop::Memory) => Status::Memory,
         }
     }
 }
 
-// Returns what a run asked, given how the definitions ended.
+// Returns the fault in which the definitions ended, if they did.
 //
 // The definitions ran over outputs that keep nothing, and `failures` counts the failures of those outputs. They fail only if no memory is
 // left.
-fn tell_after(
-    alloc: Global,
-    machine: &Machine,
-    asked: &[Asked],
-    ended: Result<(), Stop>,
-    failures: u64,
-) -> Result<Asking, Stop>
-    ensures { Ended ended (questions_text (machine_in machine.now) (all_asked_in asked.now)) failures result }
+fn fault_after(ended: Result<(), Stop>, failures: u64) -> Result<Option<Fault>, Stop>
+    ensures { Ended ended failures result }
 {
     match ended {
-        Ok(()) => Ok(Asking::of(alloc, machine, asked, None)?),
-        Err(Stop::Refused(fault)) => Ok(Asking::of(alloc, machine, asked, Some(fault))?),
+        Ok(()) => Ok(None),
+        Err(Stop::Refused(fault)) => Ok(Some(fault)),
         Err(Stop::Device) if failures == 0 => Err(Stop::Device),
         Err(Stop::Device) => Err(Stop::Memory),
         Err(Stop::Memory) => Err(Stop::Memory),
     }
 }
 
-// Evaluates the definitions in a new world and returns what they asked.
+// Evaluates the definitions in a new world, which then has their questions, and returns the fault in which they ended.
 fn ask_in<T: Tree, L: Ledger>(
     alloc: Global,
     store: &mut Store,
     tree: &mut T,
-    machine: &Machine,
     steps: &mut Steps<L>,
-) -> Result<Asking, Stop>
+) -> Result<Option<Fault>, Stop>
     requires new { store.old.entered ≡ [] }
     requires tree { HasRoom (T.seen tree.old).failures }
     ensures asks { (files : Files) → Holds (T.seen tree.old) files
-        → Asks (carry files definitions (world_of store.old))
-        (text_of (machine_in machine.now) (carry files definitions (world_of store.old))) result }
+        → AsksIn (carry files definitions (world_of store.old)) store.new.asked result }
     ensures device { (T.seen tree.new).failures ≡ failures_after (T.seen tree.old).failures result }
 {
     let mut nothing = NoOutputs::new(alloc);
     let ended = definitions(alloc, store, tree, &mut nothing, steps);
-    tell_after(alloc, machine, store.questions(), ended, nothing.failures())
+    fault_after(ended, nothing.failures())
 }
 
 // Evaluates the definitions over this machine file and returns what they asked.
@@ -128,8 +107,14 @@ fn ask_over<T: Tree, L: Ledger>(
         → AsksOver files (settings_view settings.now) (machine_in (rc_value machine.now)) result }
     ensures device { (T.seen tree.new).failures ≡ failures_after (T.seen tree.old).failures result }
 {
+    let own = machine.clone()?;
     let mut store = Store::new(alloc, settings.copy(alloc)?, machine.clone()?)?;
-    ask_in(alloc, &mut store, tree, machine, steps)
+    let fault = ask_in(alloc, &mut store, tree, steps)?;
+    Ok(Asking {
+        store,
+        machine: own,
+        fault,
+    })
 }
 
 // Reads the machine file and, if it has no fault, evaluates the definitions.
@@ -187,12 +172,12 @@ pub(crate) fn ask_run<T: Tree>(
 }
 
 // Writes the lines of a run that was asked for its questions, or the fault at which it stopped.
-fn settle<O: Outputs>(answer: Result<Asking, Stop>, out: &mut O) -> Status
+fn settle<O: Outputs>(alloc: Global, answer: Result<Asking, Stop>, out: &mut O) -> Status
     requires { HasRoom (O.seen out.old).failures }
     ensures { Told answer result (O.seen out.old) (O.seen out.new) }
 {
     match answer {
-        Ok(asking) => asking.tell(out),
+        Ok(asking) => asking.tell(alloc, out),
         Err(stop) => tell_fault(stop, out),
     }
 }
@@ -221,5 +206,5 @@ pub fn questions<T: Tree, O: Outputs>(
         (O.seen out.new).failures }
 {
     let answer = ask_run(alloc, tree, settings, machine);
-    settle(answer, out)
+    settle(alloc, answer, out)
 }

@@ -1,9 +1,9 @@
 use Rattle.std.proofs.lemmas.Result.{on_ok_weaker}
-use Rattle.introspection.specs.Questions.{label_of}
-use Rattle.introspection.proofs.questions.LabelSerialize.serialize.Goals as goal
+use Rattle.introspection.specs.Questions.{head_of}
+use Rattle.introspection.proofs.questions.HeadSerialize.serialize.Goals as goal
 
 pub returns : goal.returns
-unfolding label_of
+unfolding head_of
 returns g c =
     let log = g.S.Serializer.written in
     let l1 = log c.key.new.self in
@@ -12,8 +12,6 @@ returns g c =
     let m2 = log c.send_key.new.out in
     let l3 = log c.key-3.new.self in
     let m3 = log c.send_reply.new.out in
-    let l4 = log c.key-4.new.self in
-    let m4 = log c.send_beside.new.out in
     on_ok_weaker c.end_map.result (λ ended. (
       log c.begin_map.new.self,
       c.in_ok-begin_map.ensures,
@@ -27,13 +25,7 @@ returns g c =
           m2,
           c.in_ok-key-2.ensures,
           c.in_ok-send_key.ensures,
-          (
-            l3,
-            m3,
-            c.in_ok-key-3.ensures,
-            c.in_ok-send_reply.ensures,
-            (l4, m4, c.in_ok-key-4.ensures, c.in_ok-send_beside.ensures, ended),
-          ),
+          (l3, m3, c.in_ok-key-3.ensures, c.in_ok-send_reply.ensures, ended),
         ),
       ),
     )) c.end_map.ensures
