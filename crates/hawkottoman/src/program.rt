@@ -84,11 +84,20 @@ fn perform_line<R: Files<File = File> + AllocGlobal, L: Write + Drop, F: Write +
     let machine = machine_bytes(rt, root, &line.machine_file)?;
     let place = place_below(rt.alloc(), root, line.folder.as_str())?;
     let mut out = DiskOutputs::new(rt, rt.alloc(), place, log, faults)?;
+    let current = String::from_str(rt.alloc(), CURRENT_FOLDER)?;
+    let mut tree = DiskTree::new(rt, rt.alloc(), current);
+    // Only `setup` writes, so only it locks the build directory.
+    if matches!(line.task, Task::Setup) {
+        out.claim()?;
+    }
     let given = RunInputs {
         root,
         machine: &machine,
     };
-    perform_on_disk(rt, line, &given, &mut out)
+    let status = perform_over(rt.alloc(), line, &given, &mut tree, &mut out);
+    // The status says how the run ended, even if an unfinished output can't be removed.
+    let _ = out.clean_up();
+    Ok(status)
 }
 
 fn place_below(alloc: Global, root: &str, folder: &str) -> Result<OutputPlace, AllocError> {
@@ -136,26 +145,6 @@ fn perform_over<T: Tree, O: Outputs>(
         Err(SettingsFault::Memory) => Status::Memory,
         Err(_) => Status::Device,
     }
-}
-
-// Does what the line says over the sources in this folder. Only `setup` writes, so only it locks the build directory.
-fn perform_on_disk<'o, R: Files<File = File> + AllocGlobal, L: Write + Drop, F: Write + Drop>(
-    rt: &R,
-    line: Line,
-    place: &RunInputs<'_>,
-    out: &mut DiskOutputs<'o, R, L, F>,
-) -> io::Result<Status>
-    requires { HasRoom (⟦<DiskOutputs<'o, R, L, F> as Outputs>⟧.seen out.old).failures }
-{
-    let current = String::from_str(rt.alloc(), CURRENT_FOLDER)?;
-    let mut tree = DiskTree::new(rt, rt.alloc(), current);
-    if matches!(line.task, Task::Setup) {
-        out.claim()?;
-    }
-    let status = perform_over(rt.alloc(), line, place, &mut tree, out);
-    // The status says how the run ended, even if an unfinished output can't be removed.
-    let _ = out.clean_up();
-    Ok(status)
 }
 
 // Returns whether there is a `meson.build` in the folder below this root.
