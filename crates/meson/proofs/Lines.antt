@@ -4,7 +4,7 @@ use Rattle.std.specs.Prelude.{string_bytes}
 use Rattle.std.specs.List.{flat_map}
 use Rattle.std.proofs.lemmas.Grind.{flat_map-append}
 use Rattle.std.proofs.lemmas.List.{append-nil, append_assoc, map-append, take-append-drop, take_all, take_more}
-use Rattle.ports.specs.Endings.{Ending, Failed, HasRoom, Short, Whole}
+use Rattle.ports.specs.Endings.{Failed, HasRoom, Short, Whole}
 use Rattle.ports.specs.Outputs.{OutputState, Step, Writes, logs}
 use Rattle.ports.proofs.Sending.{writes_none, writes_nothing, writes_stop, writes_then}
 use Rattle.backend.specs.BuildFile.{ending_of}
