@@ -1,4 +1,4 @@
-"""Programs in C of this folder, built by the system's compiler into a temporary folder, each once in a run."""
+"""Builds the C programs of this folder with the system's compiler, into a temporary folder and each once in a run."""
 import atexit
 import functools
 import os

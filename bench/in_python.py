@@ -1,4 +1,4 @@
-"""Loads of the language, with the same statements in Python in the file 'same.py'."""
+"""Makes loads of the language, with the same statements in Python in the file 'same.py'."""
 import collections.abc
 
 import loads

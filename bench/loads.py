@@ -1,4 +1,4 @@
-"""What is measured: each generator writes a load of some size into a folder, and gives how many items or bytes the load has."""
+"""Defines the loads: each generator writes a load of some size into a folder, and returns how many items or bytes the load has."""
 import collections.abc
 import functools
 import itertools
@@ -118,7 +118,7 @@ OPERATIONS_A_ROUND = 10
 
 
 def rounds(folder: str, count: int) -> int:
-    """Rounds of a loop with ten operations each; one item is an operation."""
+    """Writes rounds of a loop with ten operations each; one item is an operation."""
     write(folder, "meson.build", f"project('p','c')\n{ROUNDS_BEGIN}{looped(count, OPERATIONS)}")
     return count * OPERATIONS_A_ROUND
 
@@ -128,7 +128,7 @@ ADDITION = "  n = n + i * 2 - 1\n"
 
 
 def additions(folder: str, count: int) -> int:
-    """Rounds of a loop with one sum each."""
+    """Writes rounds of a loop with one sum each."""
     write(folder, "meson.build", f"project('p','c')\n{ADDITIONS_BEGIN}{looped(count, ADDITION)}")
     return count
 
@@ -291,7 +291,7 @@ HOSTILE_KEYS = 60_000
 
 
 def hostile_names(folder: str, kind: str) -> int:
-    """Assignments to so many names."""
+    """Writes assignments to so many names."""
     lines = "".join(f"{name} = 1\n" for name in keys(kind, HOSTILE_KEYS))
     write(folder, "meson.build", f"project('p','c')\n{lines}")
     return HOSTILE_KEYS

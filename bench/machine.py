@@ -32,7 +32,7 @@ BUILD, MACHINE = "build-measured", "measured.ini"
 
 
 class Measured:
-    """One project: a copy as it is, and one that is ported. `clock` is the field of a run that counts: `wall` or `processor`."""
+    """Measures one project: a copy as it is, and one that is ported. `clock` is the field of a run that counts: `wall` or `processor`."""
 
     def __init__(self, source: str, scratch: str, program: str, command: str, clock: str) -> None:
         name = os.path.basename(os.path.abspath(source))
@@ -50,7 +50,7 @@ class Measured:
             return []
 
     def take(self, column: str, runs: list[Ran], count: int = 1) -> None:
-        """Keeps the least of the sums of so many commands, where none failed."""
+        """Keeps the least of the sums of so many commands, if none failed."""
         if len(runs) == count:
             whole = sum(getattr(it, self.clock) for it in runs)
             self.least[column] = min(whole, self.least.get(column, whole))

@@ -1,5 +1,5 @@
-"""The calls of the system that no run of a project can do without, as the list that limit.c carries out: each definition file is read,
-each other file of the sources looked at once, and each output written and renamed, in folders that are made."""
+"""Lists the system calls that each run of a project needs, as the list that limit.c carries out. Each definition file is read, each other
+source file is looked at once, and each output is written and renamed, in folders that are made."""
 import os
 
 OPTION_FILES = ("meson.options", "meson_options.txt")

@@ -37,7 +37,8 @@ BUILD, LIMIT_BUILD, LIMIT_CALLS = "build", "limit", "calls"
 
 @dataclasses.dataclass
 class Load:
-    """A load in some sizes, from small to great, or of two kinds; without a generator a size is the count that a call is given."""
+    """Describes a load in several sizes, from small to great, or of two kinds. Without a generator a size is the count that a call is
+    given."""
 
     name: str
     sizes: tuple
@@ -60,7 +61,7 @@ Commands = collections.abc.Callable[[Load, typing.Any], dict[str, list[str]]]
 
 @dataclasses.dataclass
 class Group:
-    """Loads that one command works through. The time of a run is that of its calls if the program prints it, else the processor's."""
+    """Holds the loads of one command. The time of a run is that of its calls if the program prints it, else the processor's."""
 
     says: str
     one: str
@@ -143,7 +144,7 @@ def limited(name: str, size: int, make: loads.Maker, peak: float | None = None) 
 
 
 def spoken(name: str, size: int, make: loads.Maker) -> Load:
-    """Statements that are compared with the same in Python."""
+    """Returns a load of statements that are compared with the same in Python."""
     return Load(name, (size,), make, over=BESIDE_PYTHON)
 
 

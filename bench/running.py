@@ -15,7 +15,7 @@ NAMES_ON_PATH = {"muon": ("muon-meson", "muon"), "meson": ("meson",)}
 
 @dataclasses.dataclass
 class Ran:
-    """One run, or the least of some: seconds of the processor and of the clock, the most memory, and what was printed."""
+    """Holds the measurements of one run, or the least of several: processor and clock seconds, peak memory, and the output."""
 
     processor: float
     wall: float

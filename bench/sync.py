@@ -35,7 +35,7 @@ PROGRAM = os.path.join(CHECKOUT, "crates", "hawkottoman", "out", "hawkottoman")
 # How the library changes the syncs of a run, by the name of the row.
 WAYS = {"no sync": {"FAULTS_SYNC": "none"}, "as the program does": {}, "a sync of each output": {"FAULTS_SYNC": "all"}}
 
-# What the build directory has before the run that is measured: the value that its outputs were made with, where it has some.
+# What the build directory has before the run that is measured: the value that its outputs were made with, if it has some.
 BEFORE = {"into an empty folder": None, "over outputs of other bytes": "old", "over outputs of the same bytes": "new"}
 
 

@@ -1,4 +1,4 @@
-"""Hawkottoman for Python: `meson setup` for C projects as a pure function from a source tree in memory to the build files.
+"""Provides Hawkottoman for Python: `meson setup` for C projects as a pure function from a source tree in memory to the build files.
 
     import hawkottoman
 
@@ -23,13 +23,13 @@ __all__ = ["BadSettings", "BadSlices", "Event", "Kind", "OutOfMemory", "Run", "S
 
 
 class Status(enum.IntEnum):
-    """How a run ended."""
+    """Says how a run ended."""
     DONE = 0
     FAULT = 1
 
 
 class Kind(enum.Enum):
-    """What an event is."""
+    """Names the kind of an event."""
     OPEN = ord("O")
     BYTES = ord("B")
     CLOSE = ord("C")
@@ -54,14 +54,15 @@ ERRORS: dict[int, type[Exception]] = {3: OutOfMemory, 4: BadSettings, 5: BadSlic
 
 @dataclasses.dataclass(frozen=True)
 class Event:
-    """What a run wrote: an output's path where it begins, bytes of the open output, its end, bytes of the log or of a fault's line."""
+    """Holds one thing that a run wrote. It is the path of an output that begins, bytes of the open output, its end, or bytes of the log or
+    of a fault's line."""
     kind: Kind
     data: bytes
 
 
 @dataclasses.dataclass(frozen=True)
 class Run:
-    """What a run wrote, in order, and how it ended."""
+    """Holds what a run wrote, in order, and how it ended."""
     status: Status
     events: tuple[Event, ...]
 

@@ -1,1 +1,1 @@
-"""The tests that are scripts, and what they are made of."""
+"""Holds the tests that are scripts, and their parts."""

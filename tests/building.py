@@ -1,4 +1,4 @@
-"""Which checks `build-program` begins, over crates made by hand; tests/scripts runs this too."""
+"""Tests which checks `build-program` begins, over crates made by hand; tests/scripts runs this too."""
 from collections.abc import Sequence
 
 from tests.workshop import check

@@ -1,5 +1,5 @@
-"""The command `meson` itself and the scripts that call it, which tests/scripts runs too: in a copy of the checkout with three crates, a
-toolchain that makes a program of a few lines in place of the real one, and a Ninja that keeps its words."""
+"""Tests the command `meson` itself and the scripts that call it; tests/scripts runs this too. The tests use a copy of the checkout with
+three crates. A toolchain that makes a program of a few lines is in place of the real one, and a Ninja records its arguments."""
 import json
 import os
 import pty
@@ -446,7 +446,7 @@ def test_reasons() -> None:
 
 
 def explains_what_is_unread(explains: Callable[..., None], sources: str) -> None:
-    """Status 2: the file that the definitions name, and no other that can't be read either."""
+    """Tests status 2: the explanation names the file that the definitions name, and no other that can't be read either."""
     os.mkfifo(f"{sources}/a.c")
     device_fault = "echo 'meson: device fault' >&2; exit 2"
     explains("a file that can't be read", device_fault, ["b"], 2, "a.c: is no file, but a pipe")

@@ -1,4 +1,4 @@
-"""Copies of the checkout's examples, for tests that work in them."""
+"""Copies the checkout's examples, for tests that work in them."""
 import os
 import shutil
 

@@ -1,4 +1,4 @@
-"""Whether each wrong body still fits the file that it changes, which a check shows only after minutes; tests/scripts runs this too."""
+"""Tests that each wrong body still fits the file that it changes, which a check shows only after minutes; tests/scripts runs this too."""
 import glob
 from importlib.machinery import SourceFileLoader
 from importlib.util import module_from_spec, spec_from_loader

@@ -1,4 +1,4 @@
-"""Whether tools/ and tests/ are packages with one import root, the checkout; tests/scripts runs this too."""
+"""Tests that tools/ and tests/ are packages with one import root, the checkout; tests/scripts runs this too."""
 import ast
 import glob
 import os

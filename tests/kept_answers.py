@@ -55,7 +55,7 @@ def variables() -> dict[str, str]:
 
 
 class Asked:
-    """What a run of `meson machine-file` gave, and how often it has called the compiler and the program."""
+    """Holds the results of a run of `meson machine-file`, and how often it has called the compiler and the program."""
 
     def __init__(self, *words: str, env: dict[str, str] | None = None) -> None:
         log = put("kept/log", "")

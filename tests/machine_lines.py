@@ -1,4 +1,4 @@
-"""A strict reader of machine files, by the rules of their lines alone: what it takes, a machine file is.
+"""Reads machine files strictly, by the rules of their lines alone: a text that it accepts is a machine file.
 
 Each line, without blanks at its ends, is empty, a comment, `[section]`, or `key = value`, cut at the first `=`
 (in `[checks]` the last). A value is a string '..', a number, a truth value or a list of such strings, then at most a

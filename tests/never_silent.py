@@ -1,5 +1,5 @@
-"""What the command `meson` says, or does again, so that nothing is wrong in silence; tests/scripts runs this after commands.py, in the same
-copy of the checkout."""
+"""Tests that the command `meson` reports what is wrong, or does its work again, so that nothing goes wrong silently. tests/scripts runs
+this after commands.py, in the same copy of the checkout."""
 import os
 import pty
 import re
@@ -25,7 +25,7 @@ def ask(*questions: tuple[str, str, str, int]) -> None:
 
 
 def fresh(text: str = "", **parts: object) -> None:
-    """Sources and what the program writes of them."""
+    """Writes sources and what the program writes of them."""
     for name in ("template", "silent"):
         shutil.rmtree(f"{WORK}/{name}", ignore_errors=True)
     configured("template", **parts)

@@ -1,4 +1,4 @@
-"""Cases of plain text, as tests/porting and tests/explained have them: `== TITLE`, then directives with the lines below them."""
+"""Reads the plain-text cases of tests/porting and tests/explained: `== TITLE`, then directives with the lines below them."""
 import dataclasses
 import os
 import sys

@@ -27,12 +27,12 @@ RUNS = '#include <fcntl.h>\n__attribute__((constructor)) static void f(void) { c
 
 
 class Filter(ctypes.Structure):
-    """`struct sock_filter`: a step of a filter of system calls."""
+    """Defines `struct sock_filter`: a step of a filter of system calls."""
     _fields_ = (("code", ctypes.c_uint16), ("jt", ctypes.c_uint8), ("jf", ctypes.c_uint8), ("k", ctypes.c_uint32))
 
 
 class Program(ctypes.Structure):
-    """`struct sock_fprog`."""
+    """Defines `struct sock_fprog`."""
     _fields_ = (("length", ctypes.c_uint16), ("steps", ctypes.POINTER(Filter)))
 
 
@@ -58,7 +58,7 @@ def tool() -> str:
 
 
 def in_sandbox(name: str, words: list[str], source: str = MAIN, mode: str = "link") -> None:
-    """Words that the compiler is given although no table would have them."""
+    """Runs the compiler with arguments that no table would have."""
     with compiler_in("m") as compiler:
         done = compiler.attempt(mode, source, Flags(tuple(words)), hears=True)
     if HAS_LANDLOCK:

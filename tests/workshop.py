@@ -1,4 +1,4 @@
-"""Where the scripts are tried: a temporary folder, what is put there and run there, and the checks that are counted."""
+"""Provides a temporary folder in which the scripts are tried, puts files there, runs commands there, and counts the checks."""
 import json
 import os
 import shutil
@@ -12,7 +12,7 @@ CHECKOUT = os.path.dirname(os.path.dirname(os.path.realpath(__file__)))
 WORK = tempfile.mkdtemp()
 CLEARED = ("CC", "AR", "CFLAGS", "CPPFLAGS", "LDFLAGS", "DESTDIR", "NINJA", "PKG_CONFIG", "STRIP")
 counts = {True: 0, False: 0}
-PROGRAMS: list[str] = []  # the program that `meson machine-file` asks, where it isn't that of the checkout
+PROGRAMS: list[str] = []  # the program that `meson machine-file` asks, if it isn't that of the checkout
 
 
 def check(name: str, holds: object, shown: object = "") -> None:

@@ -1,1 +1,1 @@
-"""The commands of `meson` that are scripts, and what they are made of; `meson self-install` installs it."""
+"""Holds the commands of `meson` that are scripts, and their parts; `meson self-install` installs it."""

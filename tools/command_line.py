@@ -1,7 +1,7 @@
-"""The words of a command: its options, its other words, and its help.
+"""Reads the command line of a command: its options, its other arguments, and its help.
 
-It takes what `argparse` takes of these commands, in the same calls, and costs a tenth of its time to load: options may be shortened where
-that is clear, values may be joined to them, and words and options may be mixed.
+It takes what `argparse` takes of these commands, in the same calls, and costs a tenth of its time to load: options may be shortened if
+that is clear, values may be joined to them, and arguments and options may be mixed.
 """
 from __future__ import annotations
 
@@ -20,14 +20,14 @@ COUNTS = {"*": (0, None), "+": (1, None), "?": (0, 1), None: (1, 1)}
 
 
 class Given:
-    """What a command was given: an attribute for each option and each kind of word."""
+    """Holds what a command was given: an attribute for each option and each kind of argument."""
 
     def __init__(self) -> None:
         self.__dict__: dict[str, Any] = {}
 
 
 class Option:
-    """An option, or a kind of word, which has no dashes before its name."""
+    """Describes an option, or a kind of argument, which has no dashes before its name."""
 
     def __init__(self, names: tuple[str, ...], dest: str | None = None, metavar: str | None = None, action: str = "store",
                  default: object = None, type: Callable[[str], object] = str, help: str = "", nargs: str | None = None,
@@ -173,7 +173,7 @@ def check_folder(script: str, folder: str, names: list[str]) -> None:
 
 
 def filled(first: str, parts: list[str], column: int | None = None) -> str:
-    """Parts in lines of at most WIDTH characters, all but the first line further in."""
+    """Returns the parts in lines of at most WIDTH characters, all but the first line further in."""
     lines, column = [first.rstrip() if column is None else first], len(first) if column is None else column
     for part in parts:
         if len(lines[-1]) + 1 + len(part) > WIDTH and lines[-1].strip():

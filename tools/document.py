@@ -1,4 +1,4 @@
-"""What `meson setup` says of a configured folder to other programs: meson-info/introspect.json."""
+"""Reads what `meson setup` says of a configured folder to other programs: meson-info/introspect.json."""
 from __future__ import annotations
 
 import json
@@ -31,7 +31,8 @@ NO_NAME = re.compile("[\0\ud800-\udfff]")
 
 
 class Document:
-    """The project's name, its targets and tests, of what is installed the path and the destination, and the files that it was made from."""
+    """Holds the project's name, its targets and tests, the path and destination of each installed file, and the files that it was made
+    from."""
 
     def __init__(self, project: str, targets: list[Target], tests: list[Test], installed: dict[str, str],
                  made_from: dict[str, list[str]]) -> None:
@@ -90,7 +91,7 @@ def read_document(folder: str) -> Document:
 
 
 def refuse_own_names(folder: str) -> None:
-    """Stops where a target of a configured folder would be made in the place of what the commands keep there."""
+    """Stops if a target of a configured folder would be made in the place of what the commands keep there."""
     if not os.path.exists(document_path(folder)):
         return
     for target in read_document(folder).targets:

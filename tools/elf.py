@@ -1,4 +1,4 @@
-"""The dynamic section of an ELF file: where a program looks for its libraries."""
+"""Reads the dynamic section of an ELF file, which says where a program looks for its libraries."""
 import struct
 from collections.abc import Iterator
 
@@ -8,7 +8,7 @@ STRTAB, RPATH, RUNPATH = 5, 15, 29
 
 
 class NoElf(Exception):
-    """The bytes are no whole ELF file."""
+    """Reports that the bytes are no whole ELF file."""
 
 
 def drop_search(data: bytearray, folders: set[str]) -> None:
@@ -20,7 +20,7 @@ def drop_search(data: bytearray, folders: set[str]) -> None:
 
 
 class Elf:
-    """A program or a shared library, with bytes that can be changed."""
+    """Holds a program or a shared library, with bytes that can be changed."""
 
     def __init__(self, data: bytearray) -> None:
         self.data = data

@@ -1,4 +1,4 @@
-"""How a script ends: with a status and, where something went wrong, with one line on the standard error that says what.
+"""Ends a script with a status and, if something went wrong, with one line on the standard error that says what.
 
 This covers what can go wrong outside of a script: a standard output that is full or closed, and a signal that asks the script to end. If
 the reader of a pipe has gone, nothing is said.

@@ -1,4 +1,4 @@
-"""Files that are read and logs that are made: no pipe or device in the place of a file is waited for or read to its end."""
+"""Reads files and makes logs: a pipe or device in the place of a file is neither waited for nor read to its end."""
 from __future__ import annotations
 
 import errno

@@ -1,4 +1,4 @@
-"""A folder that shows sources as they would be: links to what stays, files for what is another."""
+"""Makes a folder that shows sources as they would be: links to what stays, files for what is another."""
 import os
 
 

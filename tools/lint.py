@@ -1,4 +1,4 @@
-"""What the definition files of a configured folder say that has no effect, or not the one that it seems to have."""
+"""Finds parts of a configured folder's definition files that have no effect, or not the one that they seem to have."""
 from __future__ import annotations
 
 import os
@@ -61,7 +61,7 @@ def include_folders(call: tree.Call) -> list[tree.Text]:
 
 
 def of_test(call: tree.Call) -> Iterator[tuple[int, str]]:
-    """Keywords of a test that the program takes, and that have no effect on `meson test`."""
+    """Yields the keywords of a test that the program takes, and that have no effect on `meson test`."""
     words = call.keywords
     suites = {it.value for it in tree.inside(words["suite"].value) if isinstance(it, tree.Text)} if "suite" in words else set()
     parallel = words.get("is_parallel")

@@ -1,4 +1,4 @@
-"""Arguments of the real Meson for `setup` and `configure`, and what is right here in their place."""
+"""Lists arguments of the real Meson for `setup` and `configure`, and the right ones here in their place."""
 from __future__ import annotations
 
 # Options here, by their names there; and those that take no value.

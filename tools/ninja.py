@@ -70,7 +70,7 @@ def call(words: list[str], env: dict[str, str] | None = None, shows_output: bool
 
 
 def with_links(folder: str, outputs: list[str]) -> list[str]:
-    """Outputs of a folder, and the names of those that are shared libraries, which are links to them."""
+    """Returns the outputs of a folder, and the names of those that are shared libraries, which are links to them."""
     text = read_text(os.path.join(folder, "build.ninja"))
     edges = re.findall(r"^build ((?:[^$ :|\n]|\$.)+): symlink (.+)$", text, re.M)
     wanted = set(outputs)

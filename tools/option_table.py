@@ -1,4 +1,4 @@
-"""The options of a configured folder as a table: value, default, choices, what set them, and what they are for."""
+"""Shows the options of a configured folder as a table: value, default, choices, what set them, and what they are for."""
 from __future__ import annotations
 
 import os
@@ -72,7 +72,7 @@ def choices_of(call: tree.Call, text: str) -> str:
 
 
 def setters(setup: Setup, content: dict[str, Any]) -> dict[str, str]:
-    """Returns what set an option, where something did: the last place counts."""
+    """Returns what set an option, if something did: the last place counts."""
     found: dict[str, str] = {}
     root = os.path.join(setup.sources, "meson.build")
     try:

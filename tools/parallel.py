@@ -1,4 +1,4 @@
-"""Work that is done side by side, and ended where the script is."""
+"""Runs work in parallel, and ends it if the script ends."""
 from __future__ import annotations
 
 import os
@@ -11,7 +11,7 @@ if TYPE_CHECKING:
 
 
 class Lanes:
-    """Threads that take items one by one, until one of them fails."""
+    """Starts threads that take items one by one, until one of them fails."""
 
     def __init__(self, work: Callable[[Any], Any], items: list[Any], end: Callable[[], None]) -> None:
         self.work, self.items, self.end = work, items, end

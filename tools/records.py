@@ -1,4 +1,4 @@
-"""Classes of plain data, made as `dataclasses` makes them, of which these scripts use the small part that is here.
+"""Makes classes of plain data as `dataclasses` does, with the small part of it that these scripts use.
 
 `dataclasses` takes as long to load as a whole script, and most of a millisecond for each class, since it compiles each method. A type
 checker reads the calls below as those of `dataclasses`.
@@ -13,7 +13,7 @@ else:
     MISSING = object()
 
     class Made:
-        """What makes the value of a field that is not given."""
+        """Holds the function that makes the value of a field that is not given."""
 
         def __init__(self, make):
             self.make = make

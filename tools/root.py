@@ -15,7 +15,7 @@ NEW_FILE = os.O_WRONLY | os.O_CREAT | os.O_EXCL | os.O_NOFOLLOW | os.O_CLOEXEC
 
 
 class Outside(Exception):
-    """The destination isn't below the root; the text says why."""
+    """Says why the destination isn't below the root."""
 
 
 def parts_of(destination: str) -> list[str]:

@@ -1,7 +1,7 @@
-"""The machine file that `meson configure` keeps in a build directory: BUILDDIR/meson-private/machine.ini.
+"""Makes the machine file that `meson configure` keeps in a build directory: BUILDDIR/meson-private/machine.ini.
 
-It is made again each time: the machine may have a package now that it had not. Answers that still hold come from the user's cache. What
-was filled in by hand stays where the machine has no answer. Another compiler and other flags are taken only if a variable of the
+The file is made again each time: the machine may have a package now that it had not. Answers that still hold come from the user's cache.
+What was filled in by hand stays where the machine has no answer. Another compiler and other flags are taken only if a variable of the
 environment names them now; nothing that the file names is run.
 """
 from __future__ import annotations
@@ -39,7 +39,7 @@ def encoded(text: str) -> bytes:
 
 
 class SavedMachineFile:
-    """The file of one build directory: `program` asks about the sources with these settings."""
+    """Makes the file of one build directory: `program` asks about the sources with these settings."""
 
     def __init__(self, program: str, sources: str, folder: str, settings: list[str]) -> None:
         self.program, self.sources, self.folder, self.settings = program, sources, folder, settings

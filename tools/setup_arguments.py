@@ -1,4 +1,4 @@
-"""The arguments of the last `meson setup` of a folder, with which other commands configure it again.
+"""Reads the arguments of the last `meson setup` of a folder, with which other commands configure it again.
 
 BUILDDIR/meson-private/words has them, after the name of its form and the source directory, to which paths are relative. Each ends with a
 zero byte and a line end. The command `meson` writes this file, and reads it if no argument has a line end. These scripts have the command
@@ -20,7 +20,7 @@ MESON = os.path.join(os.path.dirname(os.path.dirname(os.path.realpath(__file__))
 
 
 class Setup:
-    """The source directory, and the arguments of `meson setup`."""
+    """Holds the source directory, and the arguments of `meson setup`."""
 
     def __init__(self, sources: str, words: list[str]) -> None:
         self.sources, self.words = sources, words

@@ -1,4 +1,4 @@
-"""A limit of the processor's time, for what is not worth more: sources can be made so that they are dear to look at."""
+"""Limits the processor's time for what is not worth more: sources can be made so that they are dear to look at."""
 from __future__ import annotations
 
 import signal
@@ -13,7 +13,7 @@ SECONDS = 4
 
 
 class TooLong(Exception):
-    """The time is over."""
+    """Reports that the time is over."""
 
 
 def give_up(number: int, frame: FrameType | None) -> NoReturn:

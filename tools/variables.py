@@ -1,4 +1,4 @@
-"""Variables of the environment that name commands and their words."""
+"""Reads variables of the environment that name commands and their arguments."""
 import os
 
 from tools.ending import Stop

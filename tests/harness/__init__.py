@@ -1,1 +1,1 @@
-"""What `run_cases` and other tests of the program run: the form of cases, runs of them, and what a run must come to."""
+"""Provides what `run_cases` and other tests of the program share: the form of cases, runs of them, and the results that they require."""

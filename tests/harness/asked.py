@@ -1,4 +1,4 @@
-"""The questions of a run: how a case writes one, and where those that came differ."""
+"""Reads the questions that a case requires of a run, and finds where those of the run differ."""
 import dataclasses
 import json
 import re
@@ -8,7 +8,7 @@ from tests.harness.form import FormError
 # The keys of a line, in their order.
 KEYS = ["section", "key", "answer", "file", "line", "beside"]
 
-# A question up to its answer: its section, and its key where it has one.
+# A question up to its answer: its section, and its key if it has one.
 HEAD = re.compile(r"\[(?P<section>[^\]]*)\](?: (?P<key>.*?))?: ", re.S)
 
 # What may follow an answer: a place, and what else the call says.
@@ -25,7 +25,7 @@ def compact(value: object) -> str:
 
 @dataclasses.dataclass(frozen=True)
 class Question:
-    """A question that must come: the place is not looked at where there is none."""
+    """Holds a question that must come. If it has no place, the place of the run's question isn't compared."""
 
     section: str
     key: str | None
@@ -73,7 +73,7 @@ def questions_of(texts: list) -> list:
 
 
 def lines_of(log: bytes) -> list:
-    """Returns the lines that a program wrote, each an object. ValueError where one has another form than all must have."""
+    """Returns the lines that a program wrote, each an object. ValueError if one has another form than all must have."""
     lines = []
     for number, text in enumerate(log.decode().splitlines(keepends=True), 1):
         line = json.loads(text)

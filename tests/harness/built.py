@@ -1,4 +1,4 @@
-"""The program and the library for C and Python of this checkout, built where that is needed."""
+"""Builds the program and the library for C and Python of this checkout, if needed."""
 import os
 import pathlib
 import subprocess

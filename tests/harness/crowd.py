@@ -14,8 +14,8 @@ WAITS = 'read gate; exec "$0" "$@"'
 
 @dataclasses.dataclass
 class Run:
-    """One run that has ended: its words, its status, which is below 0 where a signal ended it, and what it said; whether it was ended
-    since it went on for too long."""
+    """Holds a run that has ended: its arguments, its status (negative if a signal ended it), and its messages. Also says whether it was
+    ended since it went on for too long."""
 
     words: list
     status: int

@@ -1,4 +1,4 @@
-"""The library faults.c, by which calls of a program fail, built by the system's C compiler."""
+"""Builds the library faults.c with the system's C compiler; it makes calls of a program fail."""
 import os
 import subprocess
 

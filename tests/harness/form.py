@@ -28,12 +28,12 @@ EXPECTS = {"log", "fault", "status", "complaint", "out", "no", "edge", "json", "
 
 
 class FormError(Exception):
-    """What is wrong with a file of cases, and where."""
+    """Says what is wrong with a file of cases, and where."""
 
 
 @dataclasses.dataclass
 class Item:
-    """One directive: its word, the rest of its line, and the lines that are indented below it."""
+    """Holds one directive: its word, the rest of its line, and the lines that are indented below it."""
 
     word: str
     text: str
@@ -43,7 +43,7 @@ class Item:
 
 @dataclasses.dataclass
 class Case:
-    """What one run is given and must come to."""
+    """Holds what one run is given, and the results that it must have."""
 
     group: str
     title: str

@@ -20,7 +20,7 @@ OVER_OLD = " over old outputs"
 
 @dataclasses.dataclass
 class Came:
-    """What came of a run: its status, what it said, its outputs by their names, and what it looked at, where that was traced."""
+    """Holds the results of a run: its status, its messages, its outputs by their names, and what it looked at, if that was traced."""
 
     status: int
     log: bytes
@@ -42,7 +42,7 @@ class Came:
     order: list | None = None
 
     def given_up(self):
-        """Returns the outputs that were begun and not ended, where the run was traced: the disk has none of them."""
+        """Returns the outputs that were begun and not ended, if the run was traced: the disk has none of them."""
         return [it for it in self.begun if it not in self.outputs]
 
     def left_over(self):
@@ -51,7 +51,7 @@ class Came:
 
 
 class Given:
-    """The sources of one case, at the path of this root, what else it gives, and what must come."""
+    """Holds the sources of one case, at the path of this root, what else it gives, and the results that it requires."""
 
     def __init__(self, case, root):
         self.root = root

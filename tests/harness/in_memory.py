@@ -14,7 +14,7 @@ MOST_SECONDS = 300
 
 
 class Memory(Given):
-    """The sources of one case, in memory."""
+    """Holds the sources of one case, in memory."""
 
     def __init__(self, case):
         super().__init__(case, ROOT)
@@ -34,7 +34,7 @@ class Memory(Given):
         return os.path.normpath(path) == path and not path.startswith(("/", "../")) and not self.is_of_build(path)
 
     def run(self, files=None, traced=False):
-        """Runs the case over its files, or over these. What is looked at is not seen, also where it is to be traced."""
+        """Runs the case over its files, or over these. What is looked at is not seen, even if it is to be traced."""
         call = getattr(hawkottoman, self.task.decode())
         words = [it.decode().removeprefix("-D") for it in self.words]
         faulthandler.dump_traceback_later(MOST_SECONDS, exit=True)

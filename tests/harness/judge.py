@@ -1,4 +1,4 @@
-"""What a case must come to, and where what came differs."""
+"""Compares the results of a run with those that its case requires."""
 import difflib
 import itertools
 import json
@@ -37,7 +37,7 @@ UNENDED = "|new"
 
 
 class Expected:
-    """What a run must come to: its status, log and complaints, and parts of its outputs."""
+    """Holds the required results of a run: its status, log and complaints, and parts of its outputs."""
 
     def __init__(self):
         self.status = 0
@@ -50,7 +50,7 @@ class Expected:
         self.edges, self.no_edges = [], []
         self.values = []
         self.looks = None
-        # The events in their order, each a word and its bytes, or none where it may have any.
+        # The events in their order, each a word and its bytes, or none if it may have any.
         self.order = None
         # Whether the run reports its questions; the texts of those after the call of 'project', and of those of that call.
         self.tells, self.asked, self.asked_by_project = False, None, None
@@ -162,7 +162,7 @@ class Expected:
         self.log = None if None in of_log else b"".join(of_log)
 
     def order_differs(self, came):
-        """Returns what differs of the order of the events, where the case says it and the run shows it."""
+        """Returns what differs of the order of the events, if the case says it and the run shows it."""
         if self.order is None or came is None:
             return []
         pairs = itertools.zip_longest(self.order, came, fillvalue=("", b""))
@@ -277,7 +277,7 @@ def shown(text):
 
 
 def lines_of_events(order: list) -> bytes:
-    """Events as a case writes them."""
+    """Returns events as a case writes them."""
     return b"".join(word.encode() + b" " + text.replace(b"\n", "¶".encode()) + b"\n" for word, text in order)
 
 

@@ -33,7 +33,8 @@ LIBRARY, PROGRAM = "through the library", "by the program"
 
 @dataclasses.dataclass(frozen=True)
 class Means:
-    """By what cases are run: the program, the library of harness/faults.c, and whether the library of the checkout runs what it can."""
+    """Holds the means to run cases: the program, the library of harness/faults.c, and whether the library of the checkout runs the cases
+    that it can."""
 
     program: str
     faults: str
@@ -41,7 +42,7 @@ class Means:
 
 
 class Room(Given):
-    """A folder with the sources of one case, made anew for each run."""
+    """Makes a folder with the sources of one case, anew for each run."""
 
     def __init__(self, case, folder, program, library):
         super().__init__(case, os.path.join(folder, "s"))

@@ -1,1 +1,1 @@
-"""What a machine file is made of: the questions of a project's run, and the answers of this machine."""
+"""Makes a machine file from the questions of a project's run and the answers of this machine."""

@@ -1,7 +1,8 @@
-"""Which words of a project, and of what pkg-config says for it, a compiler is given: those of the tables in allowed.txt and few others.
+"""Decides which arguments of a project, and of what pkg-config prints for it, the compiler gets: those in the tables of allowed.txt and few
+others.
 
-Each of these only describes code, or names what the compiler and the linker read. None names a place to write to, a program or a plugin, a
-folder in which the compiler looks for its own programs, or a file of words.
+Each of these arguments only describes code, or names what the compiler and the linker read. None names a place to write to, a program or a
+plugin, a folder in which the compiler looks for its own programs, or a file of words.
 """
 import os
 import re
@@ -33,7 +34,7 @@ SYMBOLS = re.compile(f"-Wl,--?(?:version-script|dynamic-list)[,=]({LINKED_PATH})
 
 
 class Names:
-    """The names of a table. A `*` in a name matches letters, digits, dots and dashes."""
+    """Holds the names of a table. A `*` in a name matches letters, digits, dots and dashes."""
 
     def __init__(self, names: list[str]) -> None:
         self.plain = {it for it in names if "*" not in it}
@@ -72,7 +73,7 @@ def is_package(name: str) -> bool:
 
 @dataclasses.dataclass(frozen=True)
 class Allowed:
-    """What is allowed for the project in these folders."""
+    """Decides what is allowed for the project in these folders."""
     sources: tuple[str, ...]
 
     def refused(self, words: list[str] | tuple[str, ...]) -> str | None:

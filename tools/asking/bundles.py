@@ -54,7 +54,7 @@ SUMMARY = (r"collect2: error: ld returned \d+ exit status|.*error: linker comman
 
 @dataclasses.dataclass(frozen=True)
 class Check:
-    """A check with its prefix and flags."""
+    """Holds a check with its prefix and flags."""
     key: str
     prefix: str
     flags: Flags
@@ -140,7 +140,7 @@ def ask_headers(compiler: Compiler, bundle: list[Check], before: str, flags: Fla
 
 
 def ask_words(compiler: Compiler, bundle: list[Check]) -> Answers:
-    """Words of the compiler, given together: one that it doesn't know it names."""
+    """Gives the compiler all arguments together; it names each one that it doesn't know."""
     if any(it.startswith("-Werror") for it in compiler.c_args):
         return {}
     settled: Answers = {}
@@ -162,7 +162,7 @@ def ask_words(compiler: Compiler, bundle: list[Check]) -> Answers:
 
 
 class Unit:
-    """One source for the checks of a bundle: each has lines of its own, so that an error says whose it is."""
+    """Writes one source for the checks of a bundle: each check has lines of its own, so that an error says which check it belongs to."""
 
     def __init__(self, compiler: Compiler, bundle: list[Check], flags: Flags) -> None:
         self.compiler, self.bundle, self.mark = compiler, bundle, "unit_" + os.urandom(8).hex()

@@ -1,4 +1,4 @@
-"""Answers that are kept from one machine file to the next, in a file of the user's cache.
+"""Keeps answers from one machine file to the next, in a file of the user's cache.
 
 Each is kept by the whole question, the compiler and the environment, with its evidence: it is good as long as each of these files is as it
 was. A cache that is damaged, or isn't the user's, counts as empty, and one that can't be written is left alone.
@@ -41,7 +41,7 @@ def label_of(question: object) -> str:
 
 
 class Kept:
-    """What a file of answers holds: times and sizes of paths, lists of paths, and answers with the numbers of these lists."""
+    """Holds the contents of a file of answers: times and sizes of paths, lists of paths, and answers with the numbers of these lists."""
 
     def __init__(self, text: bytes = b"") -> None:
         self.stamps: dict[str, Stamp] = {}
@@ -61,7 +61,7 @@ class Kept:
         return json.dumps([FORM, list(self.stamps), list(self.stamps.values()), lists, self.answers], separators=(",", ":")).encode()
 
     def add(self, stamps: dict[str, Stamp], answers: dict[str, object]) -> None:
-        """Answers with their evidence; lists that say otherwise of a path go, with what rests on them."""
+        """Adds answers with their evidence. Lists that say otherwise of a path go, with the answers that depend on them."""
         changed = {it for it, stamp in stamps.items() if it in self.stamps and self.stamps[it] != stamp}
         gone = {number for number, it in enumerate(self.lists) if not changed.isdisjoint(it)} if changed else set()
         self.answers = {label: it for label, it in self.answers.items() if it[1] not in gone}

@@ -1,4 +1,4 @@
-"""The checks of a compiler, each compiled as the real Meson does it."""
+"""Answers the checks of a compiler; each is compiled as the real Meson does it."""
 from tools.asking.compiler import MAIN, Compiler, Flags
 
 # How each check is tried, and a source that the compiler takes where the answer is true.
@@ -21,7 +21,7 @@ UNDECLARED = ("#define {a} no_{a}\n" + DECLARED_BEFORE + "#undef {a}\nchar {a} (
               " }}")
 BUILTIN = ("{prefix}\nint main(void) {{\n#if {needs_macro:d} && !defined({a})\n#error\n#endif\n#ifdef __has_builtin\n"
            "#if !__has_builtin({builtin})\n#error\n#endif\n#elif !defined({a})\n{builtin};\n#endif\nreturn 0; }}")
-# The same condition for the preprocessor, with a name of its own: where it doesn't hold, a compilation of `BUILTIN` ends in an `#error`.
+# The same condition for the preprocessor, with a name of its own: if it doesn't hold, a compilation of `BUILTIN` ends in an `#error`.
 BUILTIN_TEST = ("#undef {mark}\n#ifdef __has_builtin\n#if __has_builtin({builtin})\n#define {mark}\n#endif\n#else\n#define {mark}\n#endif\n"
                 "#if defined({mark}) && ({needs_macro:d} == 0 || defined({a}))")
 # What a number is, what is before it, and a type that it needs.
@@ -83,7 +83,7 @@ def names_of_function(name: str, prefix: str) -> dict[str, object]:
 
 
 def number(compiler: Compiler, expression: str, before: str, flags: Flags) -> int:
-    """Returns the value of a constant, or -1 where the compiler knows none: found by halves, with a compilation for each question."""
+    """Returns the value of a constant, or -1 if the compiler knows none: found by halves, with a compilation for each question."""
     # A program that shows it has to be linked, as in the real Meson, and is not run.
     if not compiler.takes("link", f'{before}\nint main(void) {{ printf("%ld", {expression}); return 0; }}', flags):
         return -1

@@ -1,4 +1,4 @@
-"""What a machine file says that this machine answers otherwise."""
+"""Finds the entries of a machine file that this machine answers otherwise."""
 from __future__ import annotations
 
 from tools.asking.text import BLANKS, Sections, spelled
@@ -11,7 +11,7 @@ ABSENT = object()
 
 
 def value_of(text: str) -> object:
-    """Returns the value that a line of a machine file gives to its key; its text where it is none."""
+    """Returns the value that a line of a machine file gives to its key; its text if it is none."""
     import ast
     plain = {"true": True, "false": False}
     try:

@@ -135,7 +135,7 @@ class Compiler:
         self.c_args, self.c_link_args = c_args, c_link_args
 
     def try_out(self) -> None:
-        """Stops where an empty program can't be compiled and linked with the flags in use: every check would be false then."""
+        """Stops if an empty program can't be compiled and linked with the flags in use: every check would be false then."""
         fault = self.choose_sandbox()
         if fault:
             raise Stop(fault)

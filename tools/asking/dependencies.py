@@ -1,6 +1,6 @@
-"""The dependencies of this machine: those that pkg-config knows, and those that Meson finds by compiling and linking.
+"""Finds the dependencies of this machine: those that pkg-config knows, and those that Meson finds by compiling and linking.
 
-Of these the words and the order are those of the real Meson: what the C library has needs no word, else the library is linked.
+Their arguments and their order are those of the real Meson: what the C library has needs no argument, else the library is linked.
 """
 import functools
 import os
@@ -35,7 +35,7 @@ def package_folders(compiler: Compiler) -> list[str]:
 
 
 def of_pkg_config(compiler: Compiler, name: str) -> Found | None:
-    """Returns what pkg-config says of a package, where all of its words are such as a project may give."""
+    """Returns what pkg-config says of a package, if all of its words are such as a project may give."""
     if at_work():
         add_packages(name, package_folders(compiler))
     asked = lambda word: compiler.ask([*pkg_config(), word, "--", name])

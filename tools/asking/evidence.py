@@ -1,4 +1,4 @@
-"""What an answer of the machine rests on: files that were read, and paths at which nothing was found.
+"""Collects what an answer of the machine depends on: files that were read, and paths at which nothing was found.
 
 While a thread answers a question, `gathered` collects for it each file that the compiler, the linker and pkg-config have read, and each
 path that would have been read in its place. An answer is good as long as all of these are as they were.
@@ -22,7 +22,7 @@ HERE = threading.local()  # `gathers`: the evidence of the question that this th
 
 
 class Evidence:
-    """Paths, and whether these are all that an answer rests on."""
+    """Holds paths, and whether the answer depends on nothing else."""
 
     def __init__(self) -> None:
         self.paths: set[str] = set()

@@ -1,4 +1,4 @@
-"""What this machine answers to questions, and what is to be said of these answers."""
+"""Answers questions for this machine, and makes the messages about these answers."""
 import os
 import shutil
 from collections.abc import Iterator

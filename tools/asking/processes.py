@@ -1,4 +1,4 @@
-"""Commands that are run to ask the machine. Each has a group of processes of its own, so that it is ended with all that it has started."""
+"""Runs the commands that query the machine. Each has a process group of its own, so that it is ended with all that it has started."""
 import contextlib
 import os
 import selectors
@@ -73,7 +73,7 @@ def run(words: list[str], folder: str | None = None, executable: str | None = No
 
 
 class TooMuch(Exception):
-    """A command prints or says more than anybody reads."""
+    """Reports that a command prints or says more than anybody reads."""
 
 
 def heard(process: subprocess.Popen, end: float, most: int) -> tuple[bytes, bytes]:
@@ -101,7 +101,7 @@ def heard(process: subprocess.Popen, end: float, most: int) -> tuple[bytes, byte
 
 @contextlib.contextmanager
 def killed_early(process: subprocess.Popen, is_asked_first: bool = False) -> Iterator[None]:
-    """Ends a process, and all that it has started in its group, where the block doesn't come to its end."""
+    """Ends a process, and all that it has started in its group, if the block doesn't come to its end."""
     try:
         yield
     except BaseException:

@@ -1,4 +1,4 @@
-"""Which files a compiler and pkg-config execute: the commands themselves, the compiler's own programs, and what loads them."""
+"""Finds the files that a compiler and pkg-config execute: the commands themselves, the compiler's own programs, and their loaders."""
 import os
 import re
 import shutil
@@ -12,7 +12,7 @@ CALLED = ("cc1", "collect2", "lto1", "lto-wrapper", "as", "ld", "ld.bfd", "ld.go
 # Commands that run the compiler that is named after them.
 LAUNCHERS = ("ccache", "sccache", "distcc", "icecc")
 INTERPRETER = 3  # the kind of an ELF file's segment that names the loader
-FIRST_BYTES, MOST_BYTES = 1 << 16, 1 << 20  # of a program that are read: of an ELF file the first ones, where they name its loader
+FIRST_BYTES, MOST_BYTES = 1 << 16, 1 << 20  # of a program that are read: of an ELF file the first ones, if they name its loader
 DEEPEST = 4  # scripts that call scripts
 
 

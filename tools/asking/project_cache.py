@@ -1,4 +1,4 @@
-"""What the cache remembers of a project, so that its next machine file takes fewer runs of the program.
+"""Remembers facts of a project in the cache, so that its next machine file takes fewer runs of the program.
 
 The options in use are kept by all that they come from. The machine file that came last is where the next run begins: it counts only if
 that run asks for exactly what is in it, and the machine answers so.
@@ -46,7 +46,7 @@ def is_in_use(kept: object) -> bool:
 
 
 class LastMachineFile:
-    """The sections of the machine file that came last of a project, with these words and what the compiler is."""
+    """Holds the sections of a project's last machine file, for these arguments and this compiler."""
 
     def __init__(self, cache: Cache, project: Project, compiler: list[object]) -> None:
         self.cache = cache

@@ -1,4 +1,4 @@
-"""What a run of the program asks of the machine, as `meson questions` prints it."""
+"""Reads the questions that a run of the program has for the machine, as `meson questions` prints them."""
 import json
 import os
 import tempfile
@@ -24,7 +24,8 @@ CHANGING = ("prefix", "args", "dependencies", "include_directories")
 
 @dataclasses.dataclass(frozen=True)
 class Question:
-    """A section, and a key if the question is not about the whole section; the first place of the question, and what else the call says."""
+    """Holds a section, and a key if the question is not about the whole section. Also holds the first place of the question, and what else
+    the call says."""
     section: str
     key: str | None
     file: str
@@ -66,14 +67,14 @@ def question_of(line: str) -> Question:
 
 @dataclasses.dataclass(frozen=True)
 class Told:
-    """The questions of a run in their order, and the line of the fault that it ended with, where it did."""
+    """Holds the questions of a run in their order, and the line of the fault that it ended with, if there was one."""
     questions: list[Question]
     fault: str
 
 
 @dataclasses.dataclass(frozen=True)
 class Project:
-    """What a run of the program is given: the program, the source directory, the arguments `-D..`, and a folder for temporary
+    """Holds the input of a run of the program: the program, the source directory, the arguments `-D..`, and a folder for temporary
     files."""
     program: str
     sources: str

@@ -37,12 +37,12 @@ VARIABLES = {"CCACHE_DISABLE": "1", "CCACHE_PREFIX": "", "SCCACHE_DISABLE": "1",
 
 
 class Ruleset(ctypes.Structure):
-    """`struct landlock_ruleset_attr` of linux/landlock.h."""
+    """Defines `struct landlock_ruleset_attr` of linux/landlock.h."""
     _fields_ = (("files", ctypes.c_uint64), ("network", ctypes.c_uint64), ("scoped", ctypes.c_uint64))
 
 
 class Beneath(ctypes.Structure):
-    """`struct landlock_path_beneath_attr`."""
+    """Defines `struct landlock_path_beneath_attr`."""
     _pack_ = 1
     _fields_ = (("allowed", ctypes.c_uint64), ("parent", ctypes.c_int32))
 
@@ -61,7 +61,7 @@ def call(number: int, *arguments: object) -> int:
 
 
 def version_of_landlock() -> int:
-    """Returns the version that the kernel has; 0 where it has none, or refuses it."""
+    """Returns the version that the kernel has; 0 if it has none, or refuses it."""
     try:
         return call(CREATE_RULESET, None, ctypes.c_size_t(0), ctypes.c_uint32(OF_VERSION))
     except OSError:
@@ -95,7 +95,7 @@ def processes_of_all() -> int:
 
 @dataclasses.dataclass(frozen=True)
 class Sandbox:
-    """The version of Landlock, 0 where there is none; the files that can be executed, or none where any can; and what it can't bound."""
+    """Holds the version of Landlock, 0 if there is none; the files that can be executed, or None if any can; and what it can't bound."""
     version: int
     programs: tuple[str, ...] | None
     lack: str = ""
@@ -103,7 +103,7 @@ class Sandbox:
 
     @property
     def handled(self) -> int:
-        """Returns the rights to files that are taken away where no rule gives them."""
+        """Returns the rights to files that are taken away if no rule gives them."""
         known = sum(rights for version, rights in RIGHTS.items() if version <= self.version)
         return known if self.programs is not None else known & ~EXECUTE
 

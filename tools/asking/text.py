@@ -1,4 +1,4 @@
-"""How a machine file is written, and what it can hold."""
+"""Writes machine files, and says what they can hold."""
 BLANKS = " \t\r"
 Sections = dict[str, dict[str, object]]
 

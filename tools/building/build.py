@@ -15,8 +15,8 @@ GB = 1_000_000_000
 
 
 class Build:
-    """What is proved, what is being proved, and the processors and the memory that all of it may take. `below` has libraries that checks
-    have made, by the names of their crates: with some, the last crate alone is left."""
+    """Holds what is proved, what is being proved, and the processors and the memory that the whole build may take. `below` has libraries
+    that checks have made, by the names of their crates: with some, the last crate alone is left."""
 
     def __init__(self, kit: Kit, crates: dict[str, Crate], jobs: int, room: int, below: dict[str, pathlib.Path] | None = None) -> None:
         self.kit, self.crates, self.jobs, self.room, self.below = kit, crates, jobs, room, below or {}
@@ -25,7 +25,7 @@ class Build:
         self.commands: set[subprocess.Popen] = set()
         self.failed: list[str] = []
         self.start = time.monotonic()
-        # Of the checks that have ended: the seconds where that was measured, and here.
+        # Of the checks that have ended: the seconds there, if they were measured, and here.
         self.measured, self.taken = 0.0, 0.0
 
     @property

@@ -1,4 +1,4 @@
-"""What the commands that build the program and the library have in common."""
+"""Provides what `build-program` and `build-library` have in common."""
 import argparse
 import contextlib
 import fcntl
@@ -105,7 +105,7 @@ def above_zero(word: str) -> int:
 
 
 def exit_with(main: Callable[[], int]) -> NoReturn:
-    """Ends with the status of a command, whose checks end with it where a signal comes."""
+    """Ends with the status of a command, whose checks end with it if a signal comes."""
     signal.signal(signal.SIGTERM, lambda *_: sys.exit(128 + signal.SIGTERM))
     try:
         sys.exit(main())

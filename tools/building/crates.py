@@ -1,5 +1,5 @@
-"""Lists the crates of the program and of the library for C: what each is made from and where, and what a check of it takes of time and
-of memory."""
+"""Lists the crates of the program and of the library for C. Says what each is made from and where, and how much time and memory its check
+takes."""
 import dataclasses
 import functools
 import hashlib
@@ -22,7 +22,7 @@ SECONDS, SECONDS_A_LINE = 60, 0.13
 SIZE, SIZE_A_LINE = 1300, 0.5
 # The share of the memory at its end that a check takes from the begin on, by what is loaded. The rest comes evenly.
 FIRST_SHARE = 0.6
-# What several processors do to a check: its seconds of loading stay, and this share of the others, where no share was measured. With MOST
+# What several processors do to a check: its seconds of loading stay, and this share of the others, if no share was measured. With MOST
 # of them interp took 379 seconds where it took 900 with one. Each further one takes some of the memory again.
 LOADING, ALONE, MOST = 20, 0.2, 4
 SIZE_A_PROCESSOR = 0.25
@@ -30,9 +30,9 @@ SIZE_A_PROCESSOR = 0.25
 
 @dataclasses.dataclass(eq=False)
 class Crate:
-    """A crate: the libraries that crates.txt lists for it, the crates below it, a digest of its files, and what its check
-    is guessed to take by one processor: seconds, where that was measured, and MiB at its end. `shared` is the share of these seconds that
-    it took by MOST processors, where that was measured."""
+    """Holds a crate: the libraries that crates.txt lists for it, the crates below it, and a digest of its files. Also holds what its check
+    is guessed to take on one processor: seconds, if that was measured, and MiB at its end. `shared` is the share of these seconds that it
+    took on MOST processors, if that was measured."""
     name: str
     listed: list[str]
     below: set[str]

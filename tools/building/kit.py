@@ -1,4 +1,4 @@
-"""The toolchain: which it is, and the commands that prove a crate and link the program."""
+"""Finds the toolchain, and returns the commands that prove a crate and link the program."""
 import pathlib
 import shutil
 import subprocess
@@ -7,7 +7,7 @@ from tools.building.crates import LIBRARIES, LIBRARY, MADE, OUT, PROGRAM, Crate
 
 
 class Kit:
-    """The toolchain that the command `rt` is of."""
+    """Holds the toolchain that the command `rt` belongs to."""
 
     def __init__(self) -> None:
         self.folder = pathlib.Path(shutil.which("rt") or "rt").resolve().parent.parent
@@ -27,7 +27,7 @@ class Kit:
         return words
 
     def build(self, crate: Crate, processors: int, below: dict[str, pathlib.Path] | None = None) -> list[str]:
-        """Returns the command that proves a crate by so many processors and, where it is proved, writes its statements, or the code of
+        """Returns the command that proves a crate by so many processors and, if it is proved, writes its statements, or the code of
         the program or of the library for C. `below` has the libraries of this repository by their names, in place of those of LIBRARIES."""
         root = "src/main.rt" if crate.name == PROGRAM else "src/lib.rt"
         below = below or {name: LIBRARIES / f"{name}.rlib" for name in sorted(crate.below)}

@@ -15,7 +15,7 @@ FIRST_TRIES, TRIES = 4000, 600
 
 @dataclasses.dataclass
 class Check:
-    """A running check: its crate, when it began, about how long it takes, and its number of processors."""
+    """Holds a running check: its crate, when it began, about how long it takes, and its number of processors."""
     crate: Crate
     begin: float
     length: float
@@ -30,8 +30,8 @@ class Check:
 
 
 class Plan:
-    """The order in which the crates that are left begin, each once those before it have begun, and how many processors those take at most
-    that take more than one."""
+    """Orders the crates that are left, each of which begins once those before it have begun. Also bounds the processors of the checks that
+    take more than one."""
 
     def __init__(self, crates: list[Crate], jobs: int, room: float) -> None:
         self.jobs, self.room = jobs, room
@@ -47,7 +47,7 @@ class Plan:
         return not at_work and check.processors == 1 or max(taken) <= self.room
 
     def next_check(self, order: list[Crate], most: dict[str, int], at_work: list[Check], now: float, pace: float) -> Check | None:
-        """Returns the check that begins now, if any: of the first crate, where all below it is proved and a processor and memory are
+        """Returns the check that begins now, if any: of the first crate, if all below it is proved and a processor and memory are
         free. The pace is the seconds here for one of those that were measured."""
         idle = self.jobs - sum(it.processors for it in at_work)
         if not order or idle < 1:

@@ -72,7 +72,7 @@ def stripped(path: str, data: bytes | bytearray) -> bytes:
 
 
 class Installation:
-    """What is installed of a build directory, and where."""
+    """Installs the outputs and files of a build directory at their destinations."""
 
     def __init__(self, words: Given, document: Document) -> None:
         self.words, self.folder, self.root, self.log = words, os.path.realpath(words.folder), Root(words.destdir), []

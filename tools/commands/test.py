@@ -119,7 +119,7 @@ def build_for(tests: list[Test], document: Document, folder: str) -> None:
 
 
 class Progress:
-    """The line below the results that says which tests are running. It is shown only on a terminal."""
+    """Shows which tests are running, in a line below the results. It is shown only on a terminal."""
 
     def __init__(self, total: int) -> None:
         self.total, self.done, self.running = total, 0, []

@@ -1,1 +1,1 @@
-"""What the first fault of a run is about, in words."""
+"""Explains in words what the first fault of a run is about."""

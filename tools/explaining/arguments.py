@@ -1,4 +1,4 @@
-"""E9: a call with its arguments, by what the program reports of them, or else by what the call does with them."""
+"""Explains E9: a call with its arguments, by what the program reports of them, or else by what the call does with them."""
 from __future__ import annotations
 
 import re

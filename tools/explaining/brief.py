@@ -1,4 +1,4 @@
-"""A fault in one line, for those who did not ask for more: what it is about, and what to do."""
+"""Explains a fault in one line, for those who did not ask for more: what it is about, and what to do."""
 from __future__ import annotations
 
 import json
@@ -40,7 +40,7 @@ def of_fault(asked: Asked, fault: Fault) -> str:
 
 
 def instead_of(asked: Asked, fault: Fault, told: str) -> str:
-    """Returns what is said in place of the explanation, where there is better advice."""
+    """Returns what is said in place of the explanation, if there is better advice."""
     is_absent = fault.number == E14 and fault.name == "meson.build" and fault.line == 1 and not os.path.exists("meson.build")
     above = next((it for it in ("..", "../..", "../../..") if os.path.exists(os.path.join(it, "meson.build"))), None)
     if is_absent or fault.number == E13 and above is not None and fault.file == "meson.build":

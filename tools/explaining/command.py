@@ -1,4 +1,4 @@
-"""The command: makes the run, and shows what its fault is about."""
+"""Runs the command: makes the run, and shows what its fault is about."""
 from __future__ import annotations
 
 import os

@@ -1,4 +1,4 @@
-"""What an explanation is made from."""
+"""Holds the input of an explanation."""
 from __future__ import annotations
 
 import json
@@ -20,7 +20,7 @@ from tools.porting.parser import parse
 
 @dataclasses.dataclass
 class Context:
-    """A fault of a definition file, what the program reports of it, where it is, and a probe that finds the values there."""
+    """Holds a fault of a definition file, the program's report on it, its place, and a probe that finds the values there."""
     asked: Asked
     fault: Fault
     told: FaultReport
@@ -56,7 +56,7 @@ class Context:
         return os.path.dirname(self.fault.file)
 
     def call(self) -> tree.Call | None:
-        """Returns the call at fault; where that isn't known, the outermost of the line."""
+        """Returns the call at fault; if that isn't known, the outermost of the line."""
         calls = self.place.calls()
         node = self.probe.culprit if calls and self.probe.can_ask else None
         return node if isinstance(node, tree.Call) else calls[0] if calls else None
@@ -104,7 +104,7 @@ def statements_below(root: str) -> Iterator[tuple[str, tree.Statement]]:
 
 
 def read(path: str) -> str | None:
-    """Returns the text of a file of the sources, where it can be had."""
+    """Returns the text of a file of the sources, if it can be had."""
     try:
         return read_text(path, DEFINITION)
     except (OSError, ValueError):

@@ -1,4 +1,4 @@
-"""What is said of a fault, and how it is shown."""
+"""Defines what an explanation says of a fault, and shows it."""
 from __future__ import annotations
 
 import difflib
@@ -13,7 +13,7 @@ LONGEST, WIDEST = 40, 400
 
 @dataclasses.dataclass(frozen=True)
 class Detail:
-    """Lines of words; the place in the file that they are about, where that is known."""
+    """Holds lines of words, and the place in the file that they are about, if it is known."""
     lines: tuple[str, ...]
     at: int | None = None
 
@@ -29,7 +29,7 @@ def quoted(text: str) -> str:
 
 
 def named(text: str) -> str:
-    """Returns a token as it is written; between quotes, where it has none of its own."""
+    """Returns a token as it is written; between quotes, if it has none of its own."""
     return quoted(text) if not text.lstrip("f").startswith("'") else quoted(text)[1:-1]
 
 

@@ -1,4 +1,4 @@
-"""Status 2: which file or folder can't be read or written, and the system's reason."""
+"""Explains status 2: which file or folder can't be read or written, and the system's reason."""
 from __future__ import annotations
 
 import errno
@@ -92,7 +92,7 @@ def unwritten(asked: Asked) -> str | None:
 
 
 def unwritable(folder: str) -> str | None:
-    """Returns the system's reason where nothing can be made in a folder."""
+    """Returns the system's reason if nothing can be made in a folder."""
     if os.statvfs(folder).f_flag & os.ST_RDONLY:
         return os.strerror(errno.EROFS)
     return None if os.access(folder, os.W_OK | os.X_OK) else os.strerror(errno.EACCES)

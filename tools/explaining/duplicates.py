@@ -1,4 +1,4 @@
-"""E11: a keyword, a key, an output or a source twice."""
+"""Explains E11: a keyword, a key, an output or a source twice."""
 from __future__ import annotations
 
 import os

@@ -1,4 +1,4 @@
-"""What `meson fault` reports that a fault is about, and where that is in a call."""
+"""Reads from `meson fault` what a fault is about, and finds where that is in a call."""
 from __future__ import annotations
 
 import re
@@ -26,7 +26,7 @@ NEEDS, UNSETTABLE = "needs ", "is no name that can be set"
 
 @dataclasses.dataclass(frozen=True)
 class FaultReport:
-    """The whole report, empty if there is none; what it is about, by its form; and what is so of that."""
+    """Holds the whole report, empty if there is none; the thing that it is about, by its form; and what the report says of that thing."""
     whole: str = ""
     so: str = ""
     keyword: str | None = None
@@ -53,12 +53,12 @@ class FaultReport:
 
     @property
     def kind(self) -> str | None:
-        """Returns what is taken there, in words, where something else was given."""
+        """Returns what is taken there, in words, if something else was given."""
         return self.so.removeprefix(TAKES).partition(GOT)[0] if self.so.startswith(TAKES) else None
 
     @property
     def function(self) -> str | None:
-        """Returns the name of the function or method that it is about, where it says that."""
+        """Returns the name of the function or method that it is about, if it says that."""
         return self.text if self.so.startswith(NEEDS) else self.method
 
     def words_of(self, call: tree.Call) -> list[tree.Keyword]:

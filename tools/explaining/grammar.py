@@ -1,4 +1,4 @@
-"""E1 to E4: bytes, tokens and grammar, by the text of the file alone."""
+"""Explains E1 to E4: bytes, tokens and grammar, by the text of the file alone."""
 from __future__ import annotations
 
 import re
@@ -200,7 +200,7 @@ def in_brackets(opened: str, before: Token, token: Token) -> str:
 
 
 def on_line(text: str, line: int) -> Detail:
-    """Returns the line at fault, where no place in it is known."""
+    """Returns the line at fault, if no place in it is known."""
     words = WORD.findall(line_text(text, line))
     end = start_of(text, line)
     what = f"at {quoted(words[0])}" if words else "at the end of the line"

@@ -1,4 +1,4 @@
-"""E19, E21 and E22: what a line of a template, a text of build.ninja and a value can hold."""
+"""Explains E19, E21 and E22: what a line of a template, a text of build.ninja and a value can hold."""
 from __future__ import annotations
 
 import re

@@ -1,4 +1,4 @@
-"""E16: what the program reports of a line of a machine file, and what that line could be."""
+"""Explains E16: what the program reports of a line of a machine file, and what that line could be."""
 from __future__ import annotations
 
 import re
@@ -72,7 +72,7 @@ def hint_of(value: str) -> str:
 
 
 def line_before(lines: list[str], number: int, fits: Callable[[str], bool]) -> int:
-    """Returns the line above in the same section that fits; 0 where none does."""
+    """Returns the line above in the same section that fits; 0 if none does."""
     for above in range(number - 1, 0, -1):
         line = lines[above - 1].strip()
         if line.startswith("["):

@@ -1,4 +1,4 @@
-"""E5, E8, E14, E17 and E23: names that are not there, or that are left out."""
+"""Explains E5, E8, E14, E17 and E23: names that are not there, or that are left out."""
 from __future__ import annotations
 
 import difflib
@@ -118,7 +118,7 @@ def not_found(context: Context) -> Detail:
 
 
 def no_dependency(context: Context, call: tree.Call, names: list[str]) -> str:
-    """Returns what the machine file says of each name; where it has one, its version doesn't fit."""
+    """Returns what the machine file says of each name; if it has one, its version doesn't fit."""
     wanted = context.value(call.keywords["version"].value) if "version" in call.keywords else None
     wants = f", and 'version' asks for {listed(quoted(it.text) for it in flat(wanted))}" if wanted else ""
     found = {it: context.answer(f"dependency {it}") for it in names}

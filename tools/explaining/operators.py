@@ -1,4 +1,4 @@
-"""E6, E7 and E10: operators, conditions, numbers and indexes, with what their operands were."""
+"""Explains E6, E7 and E10: operators, conditions, numbers and indexes, with the values of their operands."""
 from __future__ import annotations
 
 import re

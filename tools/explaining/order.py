@@ -1,4 +1,4 @@
-"""E12, E13, E18, E20 and E24: calls that are refused where they are: folders, `project`, `assert`, changes that come too late."""
+"""Explains E12, E13, E18, E20 and E24: calls that are refused where they are: folders, `project`, `assert`, changes that come too late."""
 from __future__ import annotations
 
 import os

@@ -1,4 +1,4 @@
-"""The statement of a file that a fault's line belongs to, and its nodes."""
+"""Finds the statement of a file that a fault's line belongs to, and its nodes."""
 from __future__ import annotations
 
 from collections.abc import Iterator
@@ -11,7 +11,7 @@ from tools.porting.parser import parse
 
 @dataclasses.dataclass(frozen=True)
 class Place:
-    """A definition file, the line of the fault, the statement that it belongs to, and the first statement of the file."""
+    """Holds a definition file, the line of the fault, the statement that the line belongs to, and the first statement of the file."""
     file: str
     text: str
     line: int

@@ -1,4 +1,4 @@
-"""What to write in place of what is left out: the tables of docs/PORTING.md, word for word."""
+"""Lists what to write in place of what is left out: the tables of docs/PORTING.md, word for word."""
 from __future__ import annotations
 
 import re

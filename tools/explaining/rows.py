@@ -1,4 +1,4 @@
-"""What functions and methods have and take, for words of explanations: keywords and kinds of values."""
+"""Describes what functions and methods have and take, for the texts of explanations: keywords and kinds of values."""
 from __future__ import annotations
 
 
@@ -8,7 +8,7 @@ from tools.explaining.values import DICTIONARY, INTEGER, LIST, OBJECT, TEXT, TRU
 
 @dataclasses.dataclass(frozen=True)
 class Kind:
-    """What a function takes in one place; of a list each item, if lists are opened."""
+    """Describes what a function takes in one place; of a list each item, if lists are opened."""
     words: str
     types: tuple[str, ...]
     opens: bool = False

@@ -1,4 +1,4 @@
-"""What calls refuse of values that are of the right kinds: why a reported text doesn't fit, and rules that the program doesn't report."""
+"""Explains why calls refuse values of the right kinds: why a reported text doesn't fit, and rules that the program doesn't report."""
 from __future__ import annotations
 
 import os

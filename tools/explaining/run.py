@@ -1,4 +1,4 @@
-"""Runs of the program: over the sources, and over a temporary folder of links to them in which one file is another one."""
+"""Runs the program: over the sources, and over a temporary folder of links to them in which one file is another one."""
 from __future__ import annotations
 
 import contextlib
@@ -21,7 +21,8 @@ LONGEST, MOST_BYTES = 300, (32 << 20) + 1
 
 @dataclasses.dataclass(frozen=True)
 class Fault:
-    """A fault line: its file, the line there, its number, the text after that; and what its run asked, a line of JSON each."""
+    """Holds a fault line: its file, the line there, its number, and the text after that. Also holds the questions of its run, a line of
+    JSON each."""
     file: str
     line: int
     number: int
@@ -39,7 +40,7 @@ class Fault:
 
 @dataclasses.dataclass(frozen=True)
 class Outcome:
-    """What came of a run; `asked` as of a fault."""
+    """Holds the results of a run; `asked` as of a fault."""
     status: int
     fault: Fault | None
     asked: str
@@ -48,7 +49,7 @@ class Outcome:
 
 @dataclasses.dataclass(frozen=True)
 class Asked:
-    """What a run is given and when it began: the program, the source directory, the arguments, and the bytes of the machine file."""
+    """Holds the input of a run and when it began: the program, the source directory, the arguments, and the bytes of the machine file."""
     program: str
     root: str
     words: list[str]
@@ -118,14 +119,14 @@ def about(asked: Asked, fault: Fault) -> str:
 
 
 class Room:
-    """A folder of links to the sources, with another file in the place of one."""
+    """Makes a folder of links to the sources, with another file in the place of one."""
 
     def __init__(self, asked: Asked, scratch: str, path: str, text: str) -> None:
         self.asked, self.scratch, self.folder, self.path = asked, scratch, os.path.join(scratch, "sources"), path
         linked_copy(asked.root, self.folder, {path: text})
 
     def run(self, text: str) -> Outcome:
-        """Returns what the program says where the file has this text."""
+        """Returns what the program says if the file has this text."""
         with open(os.path.join(self.folder, self.path), "w", encoding="utf-8", newline="") as it:
             it.write(text)
         return questions(self.asked, self.folder, self.scratch)

@@ -1,4 +1,4 @@
-"""E15, and E23 of options: what the program reports of them, at each place that gives an option a value or declares it."""
+"""Explains E15, and E23 of options: what the program reports of them, at each place that gives an option a value or declares it."""
 from __future__ import annotations
 
 import os

@@ -1,4 +1,4 @@
-"""What values are, by the text that they are printed as inside of a list."""
+"""Reads values from the text that they are printed as inside of a list."""
 from __future__ import annotations
 
 
@@ -12,7 +12,8 @@ OWN = {"meson": "meson object", "host_machine": "machine", "build_machine": "mac
 
 @dataclasses.dataclass(frozen=True)
 class Value:
-    """Its type, and of a text the text, of others what is printed; `items` of a list, or keys and values, where they are known."""
+    """Holds a value: its type, and its text if it is a text, else its printed form. `items` are those of a list, or keys and values, if
+    they are known."""
     kind: str
     text: str = ""
     items: tuple["Value", ...] = ()
@@ -32,7 +33,7 @@ class Value:
 
 
 def flat(value: Value) -> list[Value]:
-    """Returns a value, or those in it where it is a list, at each depth."""
+    """Returns a value, or those in it if it is a list, at each depth."""
     if value.kind != LIST:
         return [value]
     return [inner for item in value.items for inner in flat(item)]

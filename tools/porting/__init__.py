@@ -1,1 +1,1 @@
-"""What `meson port` is made of."""
+"""Holds the parts of `meson port`."""

@@ -33,7 +33,7 @@ ERROR = re.compile(r"(fatal )?error: |undefined reference|No such file|multiple 
 
 @dataclasses.dataclass(frozen=True)
 class Edge:
-    """A step of a build: its rule, what it makes, what it is made from, what else is made before it, and the words of its command."""
+    """Holds a step of a build: its rule, its outputs, its inputs, what else is made before it, and the arguments of its command."""
     rule: str
     outputs: list[str]
     inputs: list[str]
@@ -56,7 +56,7 @@ def edges_of(text: str) -> list[Edge]:
 
 
 class Trial:
-    """A build of the copy in `folder` of a project that is in `root`."""
+    """Builds the copy in `folder` of a project that is in `root`."""
 
     def __init__(self, root: str, folder: str, scratch: str) -> None:
         self.folder, self.begun, self.failed = os.path.join(folder, BUILD), time.monotonic(), ""

@@ -1,4 +1,4 @@
-"""Functions and methods that are left out here, where another call does the same."""
+"""Replaces functions and methods that are left out here, if another call does the same."""
 from __future__ import annotations
 
 import os

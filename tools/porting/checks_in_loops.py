@@ -1,4 +1,4 @@
-"""Names for checks in a loop: one name for each question, so that each has its own answer."""
+"""Gives checks in a loop names: one name for each question, so that each has its own answer."""
 from __future__ import annotations
 
 import itertools
@@ -46,7 +46,7 @@ def is_same_list(one: object, other: object) -> bool:
 
 
 def known_parts(site: Site, rounds: list[Thing]) -> Iterator[tuple[str, list[str]]]:
-    """Expressions of variables at a call whose text is known in each round, those of the loops round it first."""
+    """Yields the variables at a call whose text is known in each round, with these texts. Those of the loops round it are first."""
     used = {name for it in site.call.items for name in tree.names_in(it)}
     names = list(dict.fromkeys([*loop_names(site.file.body, site.call), *sorted(used)]))
     for name in names:

@@ -1,4 +1,4 @@
-"""The command `meson port`: its words, its order, what it prints and writes."""
+"""Runs the command `meson port`: its arguments, its order, what it prints and writes."""
 from __future__ import annotations
 
 import contextlib

@@ -38,7 +38,7 @@ def spoken(project: Project, text: str) -> None:
 
 
 class NotRun(Exception):
-    """A command that can't be run or written down here; the text says why."""
+    """Says why a command can't be run or written down here."""
 
 
 def words_of(project: Project, site: Site, values: list[object]) -> list[str] | None:
@@ -136,7 +136,7 @@ def missing_program(project: Project, site: Site, rounds: list[Thing]) -> str:
 
 
 def outcome(project: Project, site: Site, words: list[str]) -> subprocess.CompletedProcess[str]:
-    """Returns what a command comes to, where that can be written down."""
+    """Returns what a command comes to, if that can be written down."""
     done = run(project, words, os.path.join(project.root, site.folder))
     if done is None or len(done.stdout) + len(done.stderr) > LARGEST:
         raise NotRun("it can't be run here")

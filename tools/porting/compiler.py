@@ -1,4 +1,4 @@
-"""Checks of the compiler that are left out here, written as checks that are not."""
+"""Rewrites checks of the compiler that are left out here as checks that are not."""
 from __future__ import annotations
 
 from collections.abc import Iterator

@@ -32,7 +32,7 @@ TAKEN = {"args", "dependencies", "include_directories", "name", "prefix", "low",
 
 
 class NotFollowed(Exception):
-    """A part of the question isn't known here."""
+    """Reports that a part of the question isn't known here."""
 
 
 def answers(project: Project) -> Iterator[Change]:

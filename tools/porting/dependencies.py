@@ -1,4 +1,4 @@
-"""Dependencies: parts of them, and what they say of themselves."""
+"""Rewrites parts of dependencies, and what dependencies say of themselves."""
 from __future__ import annotations
 
 from collections.abc import Iterator

@@ -1,4 +1,4 @@
-"""Changes of a text that keep all bytes outside of them, and the line of the first text that each line came from."""
+"""Changes a text, keeps all bytes outside of the changes, and finds the line of the first text that each line came from."""
 from __future__ import annotations
 
 
@@ -18,7 +18,7 @@ class Edit:
 
 @dataclasses.dataclass
 class Change:
-    """Edits that are made together or not at all, and files that are written with them."""
+    """Holds edits that are made together or not at all, and files that are written with them."""
     path: str
     place: int
     what: str
@@ -106,7 +106,7 @@ def do_clash(edits: list[Edit]) -> bool:
 
 
 class Taken:
-    """Edits by the parts of the files in which they are, so that those near an edit are found without a look at all others."""
+    """Holds edits by the parts of the files in which they are, so that those near an edit are found without a look at all others."""
     PART = 10  # a part has 1,024 characters
 
     def __init__(self) -> None:

@@ -60,7 +60,7 @@ CHOICES = {"default_library": ("shared", "static"), "buildtype": ("plain", "debu
 
 
 class Left(Exception):
-    """A file is left by subdir_done, a round by break or continue, and all by `error` and by what a language else needs."""
+    """Leaves a file at `subdir_done`, a round at `break` or `continue`, and all files at `error` and at what needs another language."""
 
     def __init__(self, word: str) -> None:
         super().__init__(word)
@@ -72,7 +72,7 @@ class TooMuch(Exception):
 
 
 class Evaluation:
-    """One pass over the files from meson.build on, of at most so many steps."""
+    """Makes one pass over the files from meson.build on, of at most so many steps."""
 
     def __init__(self, root: str, body_of: Callable[[str], list[tree.Statement] | None], options: list[tree.Call],
                  most_steps: int = MOST_STEPS, is_usual: bool = False) -> None:

@@ -1,4 +1,4 @@
-"""Methods that turn a feature option on or off, as statements before the one that has them."""
+"""Rewrites methods that turn a feature option on or off as statements before the one that has them."""
 from __future__ import annotations
 
 import re

@@ -1,4 +1,4 @@
-"""Generators: a custom target for each input."""
+"""Replaces generators: each input gets a custom target."""
 from __future__ import annotations
 
 import os

@@ -1,4 +1,4 @@
-"""`gnome`: what its tools make of headers and of resources, by custom targets that call these tools as the real Meson does."""
+"""Replaces calls of `gnome`: custom targets call its tools for headers and resources as the real Meson does."""
 from __future__ import annotations
 
 import os
@@ -42,7 +42,7 @@ HEADER = {
 
 
 class NotFollowed(Exception):
-    """The call can't be written as custom targets; the text says why."""
+    """Says why the call can't be written as custom targets."""
 
 
 def tools(project: Project) -> Iterator[Change]:
@@ -92,7 +92,7 @@ def source_of(site: Site, keyword: str) -> str:
 
 
 def given(site: Site, *keywords: str) -> list[str]:
-    """Keywords as they are given."""
+    """Returns the keywords as they are given."""
     return [site.file.source(site.call.keywords[it]) for it in keywords if it in site.call.keywords]
 
 

@@ -1,4 +1,4 @@
-"""Headers that custom targets make: the folder of each is looked through by the targets that name it."""
+"""Adds the folders of headers that custom targets make to the targets that name these headers."""
 from __future__ import annotations
 
 import os

@@ -1,4 +1,4 @@
-"""What is installed or written while configuring, and what is left to the package."""
+"""Rewrites what is installed or written while configuring, or leaves it to the package."""
 from __future__ import annotations
 
 import os

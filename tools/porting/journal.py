@@ -31,7 +31,8 @@ TEMPLATES = re.compile(r".+\.(pc\.in|template)")
 
 @dataclasses.dataclass(frozen=True)
 class Entry:
-    """A file's place below the root, the name under which its new text waits, and the digest of what it is before; empty of a new file."""
+    """Holds a file's place below the root, the name under which its new text waits, and the digest of its text before; empty for a new
+    file."""
     place: str
     waiting: str
     before: str

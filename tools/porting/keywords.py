@@ -1,4 +1,4 @@
-"""Keywords that have no place here: dropped where they change nothing on Linux, else written another way."""
+"""Drops keywords that have no place here if they change nothing on Linux, and writes the others another way."""
 from __future__ import annotations
 
 from collections.abc import Iterator

@@ -1,4 +1,4 @@
-"""The tokens of a definition file, each with its place, so that a change can keep all other bytes."""
+"""Reads the tokens of a definition file, each with its place, so that a change can keep all other bytes."""
 from __future__ import annotations
 
 import bisect
@@ -26,7 +26,7 @@ MOST_TOKENS = 1 << 18  # of a file: it takes hundreds of bytes to hold one
 
 
 class SyntaxFault(Exception):
-    """A text that is no definition file; `line` is where it stops to be one."""
+    """Reports a text that is no definition file; `line` is where it stops to be one."""
 
     def __init__(self, line: int, why: str) -> None:
         super().__init__(f"line {line}: {why}")
@@ -47,7 +47,7 @@ def line_at(text: str, at: int) -> int:
 
 
 class Lines:
-    """The line of each place of a text, for those who ask often."""
+    """Finds the line of each place of a text, for those who ask often."""
 
     def __init__(self, text: str) -> None:
         self.starts = [0, *(match.end() for match in re.finditer("\n", text))]

@@ -1,4 +1,4 @@
-"""What a library needs where it is linked: the packages and libraries below it, and when they are there."""
+"""Finds what a library needs when it is linked: the packages and libraries below it, and when they are there."""
 from __future__ import annotations
 
 import re
@@ -15,19 +15,19 @@ WITHOUT_FILE = {"threads": ("-pthread", "-pthread"), "openmp": ("-fopenmp", "-fo
 
 
 class NotSure(Exception):
-    """The call can't be written here; the text says why."""
+    """Says why the call can't be written here."""
 
 
 @dataclasses.dataclass(frozen=True)
 class Need:
-    """What a library needs: `where` it belongs (requires, libs, cflags), and when, by an expression; always without one."""
+    """Holds a need of a library: `where` it belongs (requires, libs, cflags), and when, by an expression; without one, always."""
     where: str
     text: str
     condition: str = ""
 
 
 class Needs:
-    """What libraries need that one call names, by the variables at that call."""
+    """Finds the needs of the libraries that one call names, by the variables at that call."""
 
     def __init__(self, project: Project, names: dict[str, object]) -> None:
         self.project, self.names = project, names

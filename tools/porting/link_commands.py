@@ -1,4 +1,4 @@
-"""Modules whose files have names that no library here has: the objects in a static library, and a custom target that links them."""
+"""Rewrites modules whose files have names that no library here has: a static library holds the objects, and a custom target links them."""
 from __future__ import annotations
 
 from collections.abc import Iterator
@@ -23,7 +23,7 @@ ASKING = ("libs=$(for it in ", '; do "$0" --libs $it || exit; done) && exec "$@"
 
 
 class NotFollowed(Exception):
-    """The module can't be written as a link command; the text says why."""
+    """Says why the module can't be written as a link command."""
 
 
 def named_modules(project: Project) -> Iterator[Change]:
@@ -78,7 +78,7 @@ def part_of_name(project: Project, site: Site, keyword: str, usual: str) -> str:
 
 
 class Linking(Needs):
-    """What a module links after its objects: expressions of the words of its command, and packages."""
+    """Holds what a module links after its objects: expressions of the arguments of its command, and packages."""
 
     def __init__(self, project: Project, site: Site) -> None:
         things = project.known.things[site.call]

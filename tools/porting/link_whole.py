@@ -1,4 +1,4 @@
-"""Libraries that are linked whole: their sources, in each target that has all of them."""
+"""Replaces libraries that are linked whole by their sources, in each target that has all of them."""
 from __future__ import annotations
 
 import os
@@ -18,7 +18,7 @@ TAKEN = ("include_directories", "dependencies", "link_with")
 
 
 class NotFollowed(Exception):
-    """The library can't be written as its sources; the text says why."""
+    """Says why the library can't be written as its sources."""
 
 
 def whole_libraries(project: Project) -> Iterator[Change]:

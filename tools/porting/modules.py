@@ -1,4 +1,4 @@
-"""Modules, other languages and subprojects: what the real Meson alone has."""
+"""Rewrites uses of modules, other languages and subprojects, which the real Meson alone has."""
 from __future__ import annotations
 
 from collections.abc import Iterator

@@ -1,4 +1,4 @@
-"""Objects of another target: a static library of the same sources, which replaces both."""
+"""Replaces the objects of another target by a new static library of the same sources, which is linked in their place."""
 from __future__ import annotations
 
 from collections.abc import Iterator

@@ -1,4 +1,4 @@
-"""What operators and indexes give of values that may be unknown."""
+"""Computes what operators and indexes give of values that may be unknown."""
 from __future__ import annotations
 
 from tools.porting.values import (MOST_ITEMS, UNKNOWN, Either, Item, Many, Table, Thing, Unknown, bounded, choices_of, either, is_same,

@@ -1,4 +1,4 @@
-"""Options that every project of the real Meson has, and this program's projects have not."""
+"""Rewrites options that every project of the real Meson has, and this program's projects have not."""
 from __future__ import annotations
 
 from collections.abc import Iterator

@@ -1,4 +1,4 @@
-"""Files outside of the project, which commands name by their paths."""
+"""Has commands name files outside of the project by their paths."""
 from __future__ import annotations
 
 import os

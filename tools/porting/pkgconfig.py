@@ -1,4 +1,4 @@
-"""`pkg.generate`: one general template, and a `configure_file` with a dictionary for each call."""
+"""Replaces `pkg.generate` by one general template, and a `configure_file` with a dictionary for each call."""
 from __future__ import annotations
 
 import itertools
@@ -37,7 +37,7 @@ STATIC = "get_option('default_library') == 'static'"
 
 @dataclasses.dataclass(frozen=True)
 class Part:
-    """A piece of a line: a known text, or an expression that is a text or, where it `is_list`, a list of texts."""
+    """Holds a piece of a line: a known text, or an expression that is a text or, if it `is_list`, a list of texts."""
     text: str | None
     source: str = ""
     is_list: bool = False
@@ -86,7 +86,7 @@ def merged(requirements: list[Part], others: list[Part]) -> list[Part]:
 
 
 class Writer(Needs):
-    """One call of `generate`, as it is written here."""
+    """Writes one call of `generate` as it is written here."""
 
     def __init__(self, project: Project, site: Site) -> None:
         self.site, self.call = site, site.call

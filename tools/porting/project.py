@@ -1,4 +1,4 @@
-"""A project's definition files as they are and as they become."""
+"""Holds a project's definition files as they are and as they become."""
 from __future__ import annotations
 
 import functools
@@ -21,12 +21,12 @@ OUTSIDE = "is outside of SOURCE-DIR, or a link leads there: it is not read"
 
 
 class Unreadable(Exception):
-    """A definition file that can't be read; the text says which, where and why."""
+    """Reports a definition file that can't be read; the text says which, where and why."""
 
 
 @dataclasses.dataclass
 class File:
-    """One definition file: `origins` has for each line that of the file before."""
+    """Holds one definition file: `origins` has for each line the line of the file before the changes."""
     path: str
     before: str | None
     text: str
@@ -62,7 +62,7 @@ class File:
 
 @dataclasses.dataclass(frozen=True)
 class Site:
-    """A call that may be carried out, with the statement that it is in."""
+    """Holds a call that may be carried out, with the statement that it is in."""
     file: File
     statement: tree.Statement
     call: tree.Call
@@ -85,7 +85,7 @@ class Done:
 
 
 class Project:
-    """The files of a project that `meson.build` leads to, and what is known of them."""
+    """Holds the files of a project that `meson.build` leads to, and what is known of them."""
 
     def __init__(self, root: str) -> None:
         self.root = root

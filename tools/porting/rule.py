@@ -1,4 +1,4 @@
-"""What a rule is, and what the rules are written with."""
+"""Defines a rule, and the means to write one."""
 from __future__ import annotations
 
 import os
@@ -19,8 +19,8 @@ LIBRARIES = ("static_library", "shared_library", "library", "both_libraries")
 
 @dataclasses.dataclass(frozen=True)
 class Rule:
-    """A rule `is_sure` if what is built and installed stays as it was, and so do the tests. Other rules need an option: their name or,
-    if they keep what is built and installed, `--all`."""
+    """Holds a rule. The rule `is_sure` if what is built and installed stays as it was, and so do the tests. Other rules need an option:
+    their name or, if they keep what is built and installed, `--all`."""
     name: str
     does: str
     change: Callable[[Project], Iterable[Change]]

@@ -1,4 +1,4 @@
-"""The rules, in the order in which they are carried out."""
+"""Lists the rules, in the order in which they are carried out."""
 from __future__ import annotations
 
 from tools.porting import (calls, commands, compiler, compiler_options, compiler_runs, dependencies, features, generators, gnome, headers,

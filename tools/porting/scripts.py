@@ -1,4 +1,4 @@
-"""Scripts of commands, and files that are copied or made while configuring."""
+"""Rewrites scripts of commands, and files that are copied or made while configuring."""
 from __future__ import annotations
 
 import os

@@ -1,4 +1,4 @@
-"""Checks of a source that has to compile or to link, as checks of a type or a function that the source has."""
+"""Writes checks of a source that has to compile or to link as checks of a type or a function that the source has."""
 from __future__ import annotations
 
 import os
@@ -25,7 +25,7 @@ MARK = "\0"
 
 
 class Names:
-    """Names of checks that differ from one another and from what a project's checks name."""
+    """Makes names of checks that differ from one another and from what a project's checks name."""
 
     def __init__(self, project: Project) -> None:
         self.taken = {it.value for path in project.known.entered for statement in tree.statements_in(project.files[path].body)
@@ -96,7 +96,7 @@ def sources(project: Project) -> Iterator[Change]:
 
 @dataclasses.dataclass(frozen=True)
 class Source:
-    """What a check compiles: its expression, its known texts, and its node where that can be kept."""
+    """Holds the source that a check compiles: its expression, its known texts, and its node if that can be kept."""
     source: str
     texts: list[str]
     node: tree.Node | None = None
@@ -104,7 +104,7 @@ class Source:
 
 @dataclasses.dataclass(frozen=True)
 class Named:
-    """A check's name: its known beginning, and its expression."""
+    """Holds a check's name: its known beginning, and its expression."""
     text: str
     source: str
 

@@ -1,4 +1,4 @@
-"""Names of templates that have truth values: for `@NAME@` the real Meson writes `True`, and this program `true`."""
+"""Rewrites truth values of the names of templates: for `@NAME@` the real Meson writes `True`, and this program `true`."""
 from __future__ import annotations
 
 import re
@@ -19,8 +19,8 @@ DEFINED = re.compile(r"^\s*#mesondefine[ \t]+([-A-Za-z0-9_]+)", re.MULTILINE)
 
 @dataclasses.dataclass(eq=False)
 class Entry:
-    """A truth value of a configuration: the call that it is in, its names, one in each round of a loop, and what templates do with
-    the names of that configuration."""
+    """Holds a truth value of a configuration: the call that it is in, and its names, one in each round of a loop. Also holds what templates
+    do with the names of that configuration."""
     owner: Site
     names: set[str]
     node: tree.Node

@@ -1,4 +1,4 @@
-"""Tests: what they are declared by, what they run, where and with which variables."""
+"""Rewrites how tests are declared, what they run, where, and with which variables."""
 from __future__ import annotations
 
 from collections.abc import Iterator

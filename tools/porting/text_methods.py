@@ -1,4 +1,4 @@
-"""What the methods of texts, lists, dictionaries, integers and truth values give, of values that may be unknown."""
+"""Computes the results of methods of texts, lists, dictionaries, integers and truth values that may be unknown."""
 from __future__ import annotations
 
 import re

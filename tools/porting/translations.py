@@ -1,4 +1,4 @@
-"""`i18n`: translations, made by the tools of gettext, which the real Meson calls too."""
+"""Replaces calls of `i18n`: the tools of gettext, which the real Meson calls too, make the translations."""
 from __future__ import annotations
 
 import os

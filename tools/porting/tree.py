@@ -1,4 +1,4 @@
-"""The tree of a definition file. Each node knows where it begins and ends in the text."""
+"""Defines the tree of a definition file. Each node knows where it begins and ends in the text."""
 from __future__ import annotations
 
 from collections.abc import Iterator
@@ -46,14 +46,14 @@ class Dictionary(Node):
 
 @dataclasses.dataclass(eq=False)
 class Keyword(Node):
-    """`name: value` among arguments."""
+    """Holds `name: value` among arguments."""
     name: str
     value: Node
 
 
 @dataclasses.dataclass(eq=False)
 class Call(Node):
-    """A call of a function, or of a method where there is a receiver; `opened` is the place of its bracket."""
+    """Holds a call of a function, or of a method if there is a receiver; `opened` is the place of its bracket."""
     name: str
     receiver: Node | None
     items: list[Node]
@@ -124,7 +124,7 @@ class Jump(Statement):
 
 @dataclasses.dataclass(eq=False)
 class Branch(Node):
-    """A condition, none for `else`, and the statements below it."""
+    """Holds a condition, None for `else`, and the statements below it."""
     condition: Node | None
     body: list[Statement]
 

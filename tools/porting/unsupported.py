@@ -1,4 +1,4 @@
-"""What is left out here and is where it may be carried out, with what to write in its place."""
+"""Finds what this program doesn't support in places that may be carried out, and what to write in its place."""
 from __future__ import annotations
 
 
@@ -93,7 +93,7 @@ FORMATS = ("meson",)
 
 @dataclasses.dataclass(frozen=True)
 class Unsupported:
-    """`is_sure` where the place is reached on every machine and with all options."""
+    """Holds a place that this program refuses. It `is_sure` if the place is reached on every machine and with all options."""
     path: str
     line: int
     text: str

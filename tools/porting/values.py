@@ -23,20 +23,20 @@ class Unknown:
 
 @dataclasses.dataclass(frozen=True)
 class Either:
-    """One of these values."""
+    """Holds the possible values; the value is one of them."""
     choices: tuple
 
 
 @dataclasses.dataclass(eq=False)
 class Item:
-    """An item of a list, which `is_sure` or may be there."""
+    """Holds an item of a list, which `is_sure` or may be there."""
     value: object
     is_sure: bool = True
 
 
 @dataclasses.dataclass(eq=False)
 class Many:
-    """A list; where it isn't `is_whole` it may have other items too."""
+    """Holds a list; if it isn't `is_whole` it may have other items too."""
     items: list[Item]
     is_whole: bool = True
 
@@ -53,14 +53,14 @@ class Many:
 
 @dataclasses.dataclass(eq=False)
 class Table:
-    """A dictionary by its keys; where it isn't `is_whole` it may have other keys too, and not all of these."""
+    """Holds a dictionary by its keys; if it isn't `is_whole` it may have other keys too, and not all of these."""
     pairs: dict[str, object]
     is_whole: bool = True
 
 
 @dataclasses.dataclass(eq=False)
 class Thing:
-    """An object that a call gives: what kind, which call, and with which arguments."""
+    """Holds an object that a call gives: what kind, which call, and with which arguments."""
     kind: str
     call: tree.Call | None = None
     path: str = ""
