@@ -1,6 +1,6 @@
 """Tests that comments are plain English. In the crates each public item and each module says in its first sentence what it does or holds,
-with the verb first, and no sentence is too long. In the scripts each function begins with a verb, and no comment has a word of the house.
-tests/scripts runs this too; `python3 -B -m tests.comments` prints what it finds."""
+with the verb first, and no sentence is too long. In the scripts each module, class and function begins with a verb, and no comment has a
+word of the house. tests/scripts runs this too; `python3 -B -m tests.comments` prints what it finds."""
 import ast
 import glob
 import inspect
@@ -18,6 +18,12 @@ MARKS = {".rt": r"//[/!]?", ".antt": "--"}
 ITEM = re.compile(r"""\s*pub (?:(?:const|unsafe|async|extern "C") )*(?:fn|struct|enum|trait|type|const)\b""")
 # A first word such as "Returns".
 VERB = re.compile(r"(?:[A-Z][a-z]*s|Does)\b")
+# A first word that ends as a verb does and is none: any before "of" or a colon, and these.
+NOUN = re.compile(r"\w+s(?: of\b|:)|(?:Arguments|Assignments|Cases|Classes|Commands|Edits|Events|Files|Functions|Generators|Headers|Inputs|"
+                  r"Its|Keywords|Libraries|Lines|Methods|Modules|Objects|Options|Outputs|Parts|Paths|Programs|Scripts|Sources|Statements|"
+                  r"Status|This|Threads|Values|Variables|Words)\b")
+# The library for Python raises these classes, with their documentation as the message.
+MESSAGES = ("OutOfMemory", "BadSettings", "BadSlices")
 # A rule of `meson port` has a sentence about the project in place of that, as does a test about the command.
 RULE = "Iterator[Change]"
 
@@ -73,7 +79,7 @@ def all_misfits() -> list[str]:
 
 def scripts() -> list[str]:
     """Returns the paths of the scripts in Python and in the language of the shell, below the checkout."""
-    places = ("meson", "test", "tools/**", "tests/**", "bench/*", "python/*")
+    places = ("meson", "test", "tools/**", "tests/**", "bench/*", "python/*", "examples/**", "packaging/**")
     paths = [it for where in places for it in glob.glob(where, root_dir=CHECKOUT, recursive=True)]
     return sorted(it for it in paths if os.path.isfile(os.path.join(CHECKOUT, it)) and is_script(it))
 
@@ -99,10 +105,20 @@ def remarks(text: str) -> Iterator[str]:
 
 
 def verbless(text: str) -> list[str]:
-    """Returns the names of the functions of a Python script whose documentation does not begin with a verb."""
-    functions = [it for it in ast.walk(ast.parse(text)) if isinstance(it, ast.FunctionDef) and ast.get_docstring(it)]
-    others = [it for it in functions if not it.name.startswith("test_") and not (it.returns and ast.unparse(it.returns) == RULE)]
-    return [it.name for it in others if not VERB.match(ast.get_docstring(it) or "")]
+    """Returns the modules, classes and functions of a Python script whose documentation does not begin with a verb, by their names."""
+    found = []
+    for node in ast.walk(ast.parse(text)):
+        said = ast.get_docstring(node) if isinstance(node, (ast.Module, ast.ClassDef, ast.FunctionDef)) else None
+        if said is not None and not is_free(node) and (not VERB.match(said) or NOUN.match(said)):
+            found.append(getattr(node, "name", "the module"))
+    return found
+
+
+def is_free(node: ast.AST) -> bool:
+    """Returns whether the documentation of a function or a class may begin otherwise: a test, a rule of `meson port`, or a message."""
+    if isinstance(node, ast.FunctionDef):
+        return node.name.startswith("test_") or node.returns is not None and ast.unparse(node.returns) == RULE
+    return isinstance(node, ast.ClassDef) and node.name in MESSAGES
 
 
 def misfits_of_script(name: str, text: str) -> list[str]:
@@ -134,13 +150,19 @@ def test_finding() -> None:
 
 
 def test_finding_in_scripts() -> None:
-    """A script in the house's words is refused: its functions without a verb, and its comments with such words."""
+    """A script in the house's words is refused: its module, classes and functions without a verb, and its comments with such words."""
     code = '"""Tests it.\n\n    told  a word\n\nIt ends.\n"""\n\ndef a(told):\n    """A path behind `it`."""\n    return "beside"  # stands here\n'
     code += '\n\ndef b() -> Iterator[Change]:\n    """A call stays."""\n\n\ndef test_c():\n    """A file that is asked for."""\n'
     code += '\n\ndef d():\n    """Returns it."""\n    # `stands`, unasked\n'
     wanted = ["no verb first: a", "behind: A path behind `it`.", "is asked: A file that is asked for.", "stand: # stands here"]
     found = misfits_of_script("a.py", code)
     check("comments: what is wrong in a script is found", found == [f"a.py: {it}" for it in wanted], found)
+    code = '"""What it has in common."""\n\n\nclass A:\n    """A compiler and its answers."""\n\n\nclass B:\n    """Holds it."""\n'
+    code += '\n\nclass C:\n    """Answers of a compiler."""\n\n    def d(self):\n        """Words as they are given."""\n'
+    code += '\n\nclass BadSlices(ValueError):\n    """A path has no end."""\n'
+    wanted = [f"a.py: no verb first: {it}" for it in ("the module", "A", "C", "d")]
+    found = misfits_of_script("a.py", code)
+    check("comments: modules and classes that begin with no verb are found", found == wanted, found)
     found = misfits_of_script("b", "#!/bin/sh\n# Is `told`.\nf() {\n    # It stands here.\n    echo behind\n}\n")
     check("comments: what is wrong in a script of the shell is found", found == ["b: stand: # It stands here."], found)
 
@@ -148,7 +170,8 @@ def test_finding_in_scripts() -> None:
 def test_comments_of_scripts() -> None:
     found = all_misfits_of_scripts()
     is_plain = len(scripts()) > 150 and not found
-    check("comments: of the scripts, each function begins with a verb, and no comment has a word of the house", is_plain, "\n".join(found))
+    check("comments: of the scripts, each module, class and function begins with a verb, and no comment has a word of the house", is_plain,
+          "\n".join(found))
 
 
 def test_comments() -> None:
