@@ -8,7 +8,7 @@ import io
 import os
 import re
 import tokenize
-from collections.abc import Iterator
+from collections.abc import Callable, Iterator
 
 from tests.documents import HOUSE, LONGEST, NEVER, house_words, long_sentences
 from tests.workshop import CHECKOUT, check
@@ -69,11 +69,12 @@ def misfits(name: str, text: str) -> list[str]:
     return [f"{name}: {it}" for it in found]
 
 
-def all_misfits() -> list[str]:
+def all_misfits(names: list[str], misfits_of: Callable[[str, str], list[str]]) -> list[str]:
+    """Returns what is wrong with the comments of these files, of which each is judged by its name and its text."""
     found = []
-    for name in sources():
+    for name in names:
         with open(os.path.join(CHECKOUT, name), encoding="utf-8") as it:
-            found += misfits(name, it.read())
+            found += misfits_of(name, it.read())
     return found
 
 
@@ -130,14 +131,6 @@ def misfits_of_script(name: str, text: str) -> list[str]:
     return [f"{name}: {it}" for it in found]
 
 
-def all_misfits_of_scripts() -> list[str]:
-    found = []
-    for name in scripts():
-        with open(os.path.join(CHECKOUT, name), encoding="utf-8") as it:
-            found += misfits_of_script(name, it.read())
-    return found
-
-
 def test_finding() -> None:
     """What is found, in files of a few lines."""
     long = " ".join(["word"] * 31)
@@ -168,15 +161,17 @@ def test_finding_in_scripts() -> None:
 
 
 def test_comments_of_scripts() -> None:
-    found = all_misfits_of_scripts()
-    is_plain = len(scripts()) > 150 and not found
+    names = scripts()
+    found = all_misfits(names, misfits_of_script)
+    is_plain = len(names) > 150 and not found
     check("comments: of the scripts, each module, class and function begins with a verb, and no comment has a word of the house", is_plain,
           "\n".join(found))
 
 
 def test_comments() -> None:
-    found = all_misfits()
-    check("comments: of the crates, each item and module says what it does, in short sentences", bool(sources()) and not found,
+    names = sources()
+    found = all_misfits(names, misfits)
+    check("comments: of the crates, each item and module says what it does, in short sentences", bool(names) and not found,
           "\n".join(found))
 
 
@@ -184,4 +179,4 @@ TESTS = (test_finding, test_comments, test_finding_in_scripts, test_comments_of_
 
 
 if __name__ == "__main__":
-    print("\n".join([*all_misfits(), *all_misfits_of_scripts()]))
+    print("\n".join([*all_misfits(sources(), misfits), *all_misfits(scripts(), misfits_of_script)]))
