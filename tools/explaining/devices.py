@@ -7,12 +7,13 @@ import os
 import stat
 
 from tools.explaining.context import statements_below
-from tools.explaining.run import Asked
+from tools.explaining.run import Asked, outputs
 from tools.files import DEFINITION_FILES
 from tools.porting import tree
 
 FOLDER = os.O_RDONLY | os.O_DIRECTORY | os.O_CLOEXEC | os.O_NOFOLLOW
 OUTPUTS = ("build.ninja", "meson-info/introspect.json")
+OF_ANOTHER_MESON = "meson-private/coredata.dat"
 
 
 def failed(asked: Asked) -> str | None:
@@ -72,13 +73,23 @@ def reason(path: str) -> str | None:
 
 
 def unwritten(asked: Asked) -> str | None:
-    """Returns why BUILDDIR can't be written; nothing is made or changed."""
-    path, build = asked.root, asked.build or "."
-    for part in build.split("/"):
-        above, path = path, os.path.join(path, part)
-        shown = os.path.relpath(path, asked.root)
+    """Returns why BUILDDIR or an output can't be written; nothing is made or changed there."""
+    build = asked.build or "."
+    path = os.path.join(asked.root, build)
+    why = blocked(asked.root, build)
+    if why or not os.path.lexists(path):
+        return why
+    return of_folder(path, build) or of_outputs(asked.root, [f"{build}/{it}" for it in (*OUTPUTS, *outputs(asked))])
+
+
+def blocked(root: str, path: str) -> str | None:
+    """Returns why a folder below `root` is none, or can't be made."""
+    place = root
+    for part in path.split("/"):
+        above, place = place, os.path.join(place, part)
+        shown = os.path.relpath(place, root)
         try:
-            kind = os.lstat(path).st_mode
+            kind = os.lstat(place).st_mode
         except FileNotFoundError:
             why = unwritable(above)
             return f"{shown}: can't be made: {why}" if why else None
@@ -88,7 +99,21 @@ def unwritten(asked: Asked) -> str | None:
             return f"{shown}: is a link, and no link is followed on the way to an output"
         if not stat.S_ISDIR(kind):
             return f"{shown}: Not a directory"
-    return of_folder(path, build)
+    return None
+
+
+def of_outputs(root: str, paths: list[str]) -> str | None:
+    """Returns which of these outputs can't get its place, and why."""
+    for path in paths:
+        folder, place = os.path.dirname(path), os.path.join(root, path)
+        why = blocked(root, folder)
+        if why:
+            return why
+        if os.path.isdir(place) and not os.path.islink(place):
+            return f"{path}: {os.strerror(errno.EISDIR)}"
+        if os.path.isdir(os.path.join(root, folder)) and unwritable(os.path.join(root, folder)):
+            return f"{folder}: {unwritable(os.path.join(root, folder))}"
+    return None
 
 
 def unwritable(folder: str) -> str | None:
@@ -99,8 +124,11 @@ def unwritable(folder: str) -> str | None:
 
 
 def of_folder(path: str, build: str) -> str | None:
+    """Returns why BUILDDIR can't be written, if it is there."""
     if os.path.lexists(os.path.join(path, "meson.build")):
         return f"{build}: holds a meson.build, so it is a folder of sources"
+    if os.path.exists(os.path.join(path, OF_ANOTHER_MESON)):
+        return f"{build}: is a build folder of another Meson (it has {OF_ANOTHER_MESON}): take another folder"
     if unwritable(path):
         return f"{build}: {unwritable(path)}"
     try:
@@ -113,8 +141,4 @@ def of_folder(path: str, build: str) -> str | None:
         return f"{build}: another run is at work there, which locks it"
     finally:
         os.close(number)
-    info = os.path.join(path, "meson-info")
-    if os.path.lexists(info) and (os.path.islink(info) or not os.path.isdir(info)):
-        return f"{build}/meson-info: is no folder"
-    in_the_way = next((it for it in OUTPUTS if os.path.isdir(os.path.join(path, it))), None)
-    return f"{build}/{in_the_way}: {os.strerror(errno.EISDIR)}" if in_the_way else None
+    return None

@@ -11,7 +11,7 @@ from collections.abc import Iterator
 from tools import records as dataclasses
 from tools.asking.processes import MOST_TOLD, NoAnswer, run
 from tools.linked_copy import linked_copy
-from tools.setup_arguments import build_folder_of, settings_of
+from tools.setup_arguments import build_folder_of, machine_path, settings_of
 
 FAULT = re.compile(r"(.+?):(\d+): ERROR: E(\d+) ?(.*)", re.S)
 MACHINE, WORDS = "<machine file>", "<command line>"
@@ -85,16 +85,34 @@ def with_machine(words: list[str], path: str) -> list[str]:
     return made
 
 
+def kept_machine(asked: Asked, scratch: str) -> str:
+    """Writes the bytes of the machine file to a file of their own, since they may have come through a pipe. Returns its path."""
+    path = os.path.join(scratch, "native.ini")
+    with open(path, "wb") as it:
+        it.write(asked.machine or b"")
+    return path
+
+
+def outputs(asked: Asked) -> list[str]:
+    """Returns the paths below BUILDDIR at which `setup` writes: those that it makes in a new folder next to links to the sources."""
+    with tempfile.TemporaryDirectory(prefix="meson-explain-") as scratch:
+        folder, build = os.path.join(scratch, "sources"), os.path.basename(scratch)
+        linked_copy(asked.root, folder, {})
+        words = [f"-D{it}" for it in asked.settings()]
+        machine = kept_machine(asked, scratch) if asked.machine is not None else machine_path(asked.words)
+        if machine is not None:
+            words += ["--native-file", os.path.join(asked.root, machine)]
+        with contextlib.suppress(NoAnswer):
+            run(["meson", "setup", *words, build], folder, asked.program, hears=False, seconds=LONGEST)
+        made = os.path.join(folder, build)
+        return sorted(os.path.relpath(os.path.join(place, name), made) for place, _, names in os.walk(made) for name in names)
+
+
 def questions(asked: Asked, folder: str, scratch: str, task: str = "questions") -> Outcome:
     """Returns what the program reports of a folder, in which it writes nothing: the fault in which `setup` would end, and the questions
     before it. With the task `fault` it returns what that fault is about in place of the questions. Raises NoAnswer if the program can't
-    be run, or prints too much. The bytes of the machine file are in a file of their own, since they may have come through a pipe."""
-    words = asked.words
-    if asked.machine is not None:
-        path = os.path.join(scratch, "native.ini")
-        with open(path, "wb") as it:
-            it.write(asked.machine)
-        words = with_machine(words, path)
+    be run, or prints too much."""
+    words = asked.words if asked.machine is None else with_machine(asked.words, kept_machine(asked, scratch))
     done = run(["meson", task, *words], folder, asked.program, seconds=LONGEST, variables=dict(os.environ), errors="backslashreplace",
                most=MOST_TOLD)
     if done.status is None:
