@@ -1,11 +1,13 @@
 """Tests that the documents are plain English: no sentence is too long or turned around, and house words are rare or absent. Also tests that
-their links lead somewhere, and that crates/library_tests calls each call of docs/LIBRARY.md. The help texts and messages of the commands have
-no house words at all. tests/scripts runs this too; `python3 -B -m tests.documents` in the checkout prints the counts."""
+their links lead somewhere, that they name the logic of the toolchain, and that crates/library_tests calls each call of docs/LIBRARY.md. The
+help texts and messages of the commands have no house words at all. tests/scripts runs this too; `python3 -B -m tests.documents` in the
+checkout prints the counts."""
 import ast
 import glob
 import itertools
 import os
 import re
+import shutil
 
 from tests.workshop import CHECKOUT, check, run
 
@@ -258,7 +260,15 @@ def test_calls() -> None:
     check("documents: crates/library_tests calls each call of docs/LIBRARY.md", bool(source) and not missing, missing)
 
 
-TESTS = [test_counting, test_refusing, test_calls, test_documents, test_helps, test_helps_of_tests, test_messages]
+def test_toolchain() -> None:
+    """The logic that the documents name is that of the toolchain, whatever kit has it."""
+    named = {name: set(re.findall(r"`rattle-kit-\w+\s+logic\s+(\w+)`", text_of(name))) for name in ("README.md", "docs/PROVED.md")}
+    wanted = set(run(["rt", "version"]).stdout.split()[-1:]) if shutil.which("rt") else named["README.md"]
+    is_good = len(wanted) == 1 and all(it == wanted for it in named.values())
+    check("documents: the logic of the toolchain", is_good, f"{named} {wanted}")
+
+
+TESTS = [test_counting, test_refusing, test_calls, test_documents, test_toolchain, test_helps, test_helps_of_tests, test_messages]
 
 
 if __name__ == "__main__":
