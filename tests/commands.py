@@ -499,6 +499,7 @@ def test_compile() -> None:
     compiles("-j and -v", ["-C", "sources/b", "-j", "3", "-v"], "-j 3 -v|")
     compiles("words for Ninja", ["-C", "sources/b", "--ninja-args=-k 0"], "-k 0|all")
     compiles("words for Ninja, with a comma", ["-C", "sources/b", "--ninja-args=-x a,b"], "-x a,b|all")
+    compiles("words for Ninja, between commas", ["-C", "sources/b", "--ninja-args=-k,0"], "-k 0|all")
     compiles("words for Ninja, as a list", ["-C", "sources/b", "--ninja-args=['-k', '0']"], "-k 0|all")
     done = meson("compile", "-C", "sources/b", "--clean")
     is_clean = done.returncode == 0 and taken("asked-of-ninja") == "-C\nsources/b\n-t\nclean\n"

@@ -390,8 +390,13 @@ def test_bad_words() -> None:
 
 
 def test_streams_of_setup() -> None:
-    """A machine file that is a pipe is read once."""
+    """A machine file that is a pipe is read once, and an output that can't be written is reported in one line."""
     fresh()
+    wanted = (2, "meson: the standard output can't be written\n")
+    for words in ("--version", "setup --help"):
+        for stream in ("/dev/full", "&-"):
+            done = run(["sh", "-c", f"{MESON} {words} >{stream}"], cwd=SOURCES)
+            check(f"meson {words} >{stream}", (done.returncode, done.stderr) == wanted, f"{done}")
     ask(("checks", '"has_function f"', "null", 2))
     done = run(["sh", "-c", 'echo "[checks]" | "$0" setup --native-file /dev/stdin b', MESON], cwd=SOURCES)
     check("meson setup: a machine file that is a pipe", done.returncode == 0 and done.stderr == "", f"{done}")

@@ -34,16 +34,20 @@ def arguments() -> Given:
     parser.add_argument("-j", "--jobs", type=int, help="how many commands run at once (default: that of Ninja)")
     parser.add_argument("-v", "--verbose", action="store_true", help="show whole commands")
     parser.add_argument("--clean", action="store_true", help="remove what was built, and build nothing")
-    parser.add_argument("--ninja-args", metavar="WORDS", default="", help="further arguments for Ninja, as a shell splits them")
+    parser.add_argument("--ninja-args", metavar="WORDS", default="", help="further arguments for Ninja, with blanks or commas between them")
     words = parser.parse_args()
     if words.jobs is not None and words.jobs < 1:
         parser.error("--jobs takes a number above 0")
     if words.clean and words.targets:
         parser.error("--clean takes no targets")
-    # The real Meson takes a list too, as ['-k', '0'].
-    is_list = words.ninja_args.startswith("[")
-    words.ninja_args = words_in(words.ninja_args.strip("[]").replace(",", " ") if is_list else words.ninja_args, "--ninja-args")
+    words.ninja_args = words_in(without_commas(words.ninja_args), "--ninja-args")
     return words
+
+
+def without_commas(given: str) -> str:
+    """Returns the arguments for Ninja with blanks between them. The real Meson takes -n,-v and ['-k', '0'] too."""
+    has_commas = given.startswith("[") or " " not in given
+    return given.strip("[]").replace(",", " ") if has_commas else given
 
 
 def kind_of(target: Target) -> str:
