@@ -187,6 +187,8 @@ def test_documents() -> None:
     uneven = uneven_entries(text_of("docs/DECISIONS.md"))
     check("documents: docs/DECISIONS.md: an entry has three to eight sentences", not uneven, uneven)
     check("documents: README.md is short", lines <= README_LINES, lines)
+    licences = set(re.findall(r"^License: *(.*)$", text_of("docs/PACKAGING.md"), re.M))
+    check("documents: docs/PACKAGING.md: packages leave the licence to be filled in", licences == {"to be filled in"}, licences)
 
 
 COMMANDS = ("configure", "explain", "compile", "test", "install", "introspect", "machine-file", "port", "self-install")
