@@ -1,12 +1,13 @@
 """Ends a script that gets a signal before it has begun. Each script imports this first.
 
 There is nothing to clean up yet, so the script ends at once, with one line and the status of an interrupted script. Later `run_script`
-handles the signals.
+handles the signals. This module imports only parts that the interpreter has loaded by then: `signal` takes milliseconds, in which SIGINT
+would still end the script by a traceback.
 """
 from __future__ import annotations
 
+import _signal as signal
 import os
-import signal
 import sys
 
 TYPE_CHECKING = False
