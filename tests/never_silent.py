@@ -13,6 +13,7 @@ from tests.attacks import is_running
 from tests.commands import MESON, NOTHING_ASKED, meson, taken, with_tools
 from tests.workshop import (CHECKOUT, COMMAND, WORK, check, configured, environment, only_on_path, over, put, read, refuses, run, shell,
                             wait_until)
+from tools.explaining.devices import is_full
 
 ASKED = '{"section":"%s","key":%s,"answer":%s,"file":"meson.build","line":%d,"beside":{}}'
 SOURCES = os.path.join(os.path.realpath(WORK), "silent")
@@ -361,6 +362,7 @@ def test_device_faults() -> None:
     says("a machine file whose name is misspelt", lines(near), "--native-file", "nativ.ini", status=2)
     way = "of/this: the machine file: No such file or directory; `meson machine-file > of/this` makes one"
     says("a machine file in a folder that is not there", lines(way), "--native-file", "of/this", status=2)
+    check("meson setup: a disk without room for an output", is_full(WORK, [1, 1 << 62]) and not is_full(WORK, [1]) and not is_full(WORK, []))
     os.remove(f"{WORK}/instead")
     fresh()
 

@@ -103,3 +103,5 @@ class SavedMachineFile:
             Root(self.sources).put("/" + self.path, write_file(encoded(text), 0o644, (now, now)))
         except Outside as error:
             raise Stop(f"{self.path}: {error}") from error
+        except OSError as error:
+            raise Stop(f"{self.path}: {error.strerror}") from error

@@ -79,7 +79,12 @@ def unwritten(asked: Asked) -> str | None:
     why = blocked(asked.root, build)
     if why or not os.path.lexists(path):
         return why
-    return of_folder(path, build) or of_outputs(asked.root, [f"{build}/{it}" for it in (*OUTPUTS, *outputs(asked))])
+    why = of_folder(path, build)
+    if why:
+        return why
+    sizes = outputs(asked)
+    why = of_outputs(asked.root, [f"{build}/{it}" for it in (*OUTPUTS, *sizes)])
+    return why or (f"{build}: {os.strerror(errno.ENOSPC)}" if is_full(path, list(sizes.values())) else None)
 
 
 def blocked(root: str, path: str) -> str | None:
@@ -114,6 +119,13 @@ def of_outputs(root: str, paths: list[str]) -> str | None:
         if os.path.isdir(os.path.join(root, folder)) and unwritable(os.path.join(root, folder)):
             return f"{folder}: {unwritable(os.path.join(root, folder))}"
     return None
+
+
+def is_full(folder: str, sizes: list[int]) -> bool:
+    """Returns whether the disk of a folder has no room for the largest of files with these sizes."""
+    disk = os.statvfs(folder)
+    free = disk.f_bfree if os.geteuid() == 0 else disk.f_bavail
+    return free * disk.f_frsize < max(sizes, default=0)
 
 
 def unwritable(folder: str) -> str | None:

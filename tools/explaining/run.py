@@ -93,8 +93,8 @@ def kept_machine(asked: Asked, scratch: str) -> str:
     return path
 
 
-def outputs(asked: Asked) -> list[str]:
-    """Returns the paths below BUILDDIR at which `setup` writes: those that it makes in a new folder next to links to the sources."""
+def outputs(asked: Asked) -> dict[str, int]:
+    """Returns the paths below BUILDDIR at which `setup` writes, with the sizes: those of a new folder next to links to the sources."""
     with tempfile.TemporaryDirectory(prefix="meson-explain-") as scratch:
         folder, build = os.path.join(scratch, "sources"), os.path.basename(scratch)
         linked_copy(asked.root, folder, {})
@@ -105,7 +105,8 @@ def outputs(asked: Asked) -> list[str]:
         with contextlib.suppress(NoAnswer):
             run(["meson", "setup", *words, build], folder, asked.program, hears=False, seconds=LONGEST)
         made = os.path.join(folder, build)
-        return sorted(os.path.relpath(os.path.join(place, name), made) for place, _, names in os.walk(made) for name in names)
+        paths = sorted(os.path.join(place, name) for place, _, names in os.walk(made) for name in names)
+        return {os.path.relpath(it, made): os.lstat(it).st_size for it in paths}
 
 
 def questions(asked: Asked, folder: str, scratch: str, task: str = "questions") -> Outcome:
