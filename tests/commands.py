@@ -374,6 +374,18 @@ def test_modes_of_templates() -> None:
     os.symlink(put("modes/outside", "#!/bin/sh\n: 2\n"), f"{output}/script")
     sets_up("a link in the place of an output leads nowhere", 1, False)
     check("meson setup: modes of outputs: what a link leads to stays", not os.stat(f"{sources}/outside").st_mode & 0o111)
+    os.remove(f"{output}/script")
+    kept = f"{sources}/b/meson-private/executables"
+    for name, make in (("a pipe", os.mkfifo), ("a link to a device", lambda it: os.symlink("/dev/zero", it))):
+        os.remove(kept)
+        make(kept)
+        sets_up(f"{name} in the place of what is kept", 2, True)
+        check(f"meson setup: modes of outputs: {name} is replaced", os.path.isfile(kept) and not os.path.islink(kept))
+    put("native.ini", "")
+    meson("setup", "--native-file", "../native.ini", "b", cwd=sources)
+    got = taken("configured")
+    check("meson setup: modes of outputs: a machine file above the sources", f" --native-file {sources}/../native.ini " in got, got)
+    taken("asked-of-ninja")
     os.remove(f"{WORK}/instead")
     shutil.rmtree(f"{WORK}/template")
     shutil.move(f"{WORK}/kept-template", f"{WORK}/template")
@@ -637,6 +649,10 @@ def try_name(installed: str) -> None:
     done = run([sys.executable, "-B", "-c", early], {"HAWKOTTOMAN_CALLED": "hawkottoman-meson", "PYTHONPATH": CHECKOUT})
     is_good = (done.returncode, done.stderr) == (130, "hawkottoman-meson test: interrupted\n")
     check("meson self-install: the name in what ends at once", is_good, f"{done}")
+    put("instead", "echo 'Usage: meson setup [OPTIONS]'; exit 0")
+    said = [run([installed, *words, "--help"], with_tools()).stdout.partition("\n")[0] for words in ([], ["setup"])]
+    check("meson self-install: the name in the program's help", said == ["Usage: hawkottoman-meson setup [OPTIONS]"] * 2, said)
+    os.remove(f"{WORK}/instead")
     wrong = {}
     for command in (it for it in FURTHER if it != "self-install"):
         done = run([installed, command, "--help"])

@@ -8,17 +8,14 @@ from __future__ import annotations
 
 import os
 import sys
-import tempfile
 import time
 
-from tools.asking import processes
 from tools.document import read_document
 from tools.ending import Stop, run_script, say
-from tools.explaining.run import LONGEST
+from tools.explaining.run import files_below, setup_elsewhere
 from tools.files import DEFINITION_FILES, read_text
-from tools.linked_copy import linked_copy
 from tools.root import Outside, Root, write_file
-from tools.setup_arguments import Setup, is_pipe, machine_path, read_setup, settings_of
+from tools.setup_arguments import Setup, is_pipe, machine_path, read_setup
 
 PLACE = "meson-private/executables"
 TEMPLATE, OUTPUT = "<", ">"
@@ -35,23 +32,14 @@ def templates_of(folder: str, sources: str) -> list[str]:
 
 def outputs_of(program: str, setup: Setup, templates: list[str]) -> list[str]:
     """Returns the outputs that a run of the program makes of one of these templates, from the build directory."""
-    build = f"build-{os.urandom(8).hex()}"
     machine = machine_path(setup.words)
     if machine is not None and is_pipe(os.path.join(setup.sources, machine)):
         raise Stop(f"{UNKNOWN}: the machine file was {machine}, which can't be read again")
-    settings = (f"-D{it}" for it in settings_of(setup.words))
-    words = [*settings, *(["--native-file", machine] if machine else []), "--", build]
-    with tempfile.TemporaryDirectory(prefix="meson-setup-") as scratch:
-        sources = os.path.join(scratch, "sources")
-        linked_copy(setup.sources, sources, {it: TEXT for it in templates})
-        done = processes.run(["meson", "setup", *words], sources, program, seconds=LONGEST, variables=dict(os.environ),
-                             errors="backslashreplace")
+    with setup_elsewhere(program, setup.sources, setup.words, dict.fromkeys(templates, TEXT)) as (done, folder):
         if not done.is_good:
             said = done.said.strip().split("\n")
             raise Stop(f"{UNKNOWN}: {said[-1]}")
-        top = os.path.join(sources, build)
-        places = (os.path.join(inner, name) for inner, _, names in os.walk(top) for name in names)
-        return sorted(os.path.relpath(it, top) for it in places if has_text(it))
+        return [os.path.relpath(it, folder) for it in files_below(folder) if has_text(it)]
 
 
 def has_text(path: str) -> bool:

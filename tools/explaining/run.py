@@ -9,7 +9,7 @@ import time
 from collections.abc import Iterator
 
 from tools import records as dataclasses
-from tools.asking.processes import MOST_TOLD, NoAnswer, run
+from tools.asking.processes import MOST_TOLD, Done, NoAnswer, run
 from tools.linked_copy import linked_copy
 from tools.setup_arguments import build_folder_of, machine_path, settings_of
 
@@ -85,37 +85,50 @@ def with_machine(words: list[str], path: str) -> list[str]:
     return made
 
 
-def kept_machine(asked: Asked, scratch: str) -> str:
-    """Writes the bytes of the machine file to a file of their own, since they may have come through a pipe. Returns its path."""
+def words_of(asked: Asked, scratch: str) -> list[str]:
+    """Returns the arguments. The bytes of the machine file are in a file of their own, since they may have come through a pipe."""
+    if asked.machine is None:
+        return asked.words
     path = os.path.join(scratch, "native.ini")
     with open(path, "wb") as it:
-        it.write(asked.machine or b"")
-    return path
+        it.write(asked.machine)
+    return with_machine(asked.words, path)
+
+
+@contextlib.contextmanager
+def setup_elsewhere(program: str, root: str, words: list[str], changed: dict[str, str]) -> Iterator[tuple[Done, str]]:
+    """Runs `setup` with these arguments over links to the sources and files with another text, in a temporary folder. Yields how it ended,
+    and its BUILDDIR."""
+    machine, build = machine_path(words), f"build-{os.urandom(8).hex()}"
+    given = [f"-D{it}" for it in settings_of(words)]
+    given += ["--native-file", os.path.join(root, machine)] if machine is not None else []
+    with tempfile.TemporaryDirectory(prefix="meson-setup-") as scratch:
+        folder = os.path.join(scratch, "sources")
+        linked_copy(root, folder, changed)
+        done = run(["meson", "setup", *given, "--", build], folder, program, seconds=LONGEST, variables=dict(os.environ),
+                   errors="backslashreplace")
+        yield done, os.path.join(folder, build)
+
+
+def files_below(folder: str) -> list[str]:
+    """Returns the paths of the files below a folder."""
+    return sorted(os.path.join(place, name) for place, _, names in os.walk(folder) for name in names)
 
 
 def outputs(asked: Asked) -> dict[str, int]:
-    """Returns the paths below BUILDDIR at which `setup` writes, with the sizes: those of a new folder next to links to the sources."""
-    with tempfile.TemporaryDirectory(prefix="meson-explain-") as scratch:
-        folder, build = os.path.join(scratch, "sources"), os.path.basename(scratch)
-        linked_copy(asked.root, folder, {})
-        words = [f"-D{it}" for it in asked.settings()]
-        machine = kept_machine(asked, scratch) if asked.machine is not None else machine_path(asked.words)
-        if machine is not None:
-            words += ["--native-file", os.path.join(asked.root, machine)]
-        with contextlib.suppress(NoAnswer):
-            run(["meson", "setup", *words, build], folder, asked.program, hears=False, seconds=LONGEST)
-        made = os.path.join(folder, build)
-        paths = sorted(os.path.join(place, name) for place, _, names in os.walk(made) for name in names)
-        return {os.path.relpath(it, made): os.lstat(it).st_size for it in paths}
+    """Returns the paths below BUILDDIR at which `setup` writes, with the sizes: those that it writes elsewhere."""
+    with tempfile.TemporaryDirectory(prefix="meson-explain-") as scratch, contextlib.suppress(NoAnswer):
+        with setup_elsewhere(asked.program, asked.root, words_of(asked, scratch), {}) as (_, folder):
+            return {os.path.relpath(it, folder): os.lstat(it).st_size for it in files_below(folder)}
+    return {}
 
 
 def questions(asked: Asked, folder: str, scratch: str, task: str = "questions") -> Outcome:
     """Returns what the program reports of a folder, in which it writes nothing: the fault in which `setup` would end, and the questions
     before it. With the task `fault` it returns what that fault is about in place of the questions. Raises NoAnswer if the program can't
     be run, or prints too much."""
-    words = asked.words if asked.machine is None else with_machine(asked.words, kept_machine(asked, scratch))
-    done = run(["meson", task, *words], folder, asked.program, seconds=LONGEST, variables=dict(os.environ), errors="backslashreplace",
-               most=MOST_TOLD)
+    done = run(["meson", task, *words_of(asked, scratch)], folder, asked.program, seconds=LONGEST, variables=dict(os.environ),
+               errors="backslashreplace", most=MOST_TOLD)
     if done.status is None:
         raise NoAnswer(done.said)
     found = FAULT.fullmatch(done.said.removesuffix("\n"))
