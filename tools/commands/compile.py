@@ -5,9 +5,9 @@ BUILDDIR/meson-private/words. Outputs that stay the same keep their time, so not
 the default targets, or those that are named: by name, by folder and name, or by an output. If several have one name, add
 `:executable`, `:shared_library`, `:static_library` or `:custom` to it.
 
-Exit status: 0 if all was built, that of Ninja if it failed or was interrupted, 1 if the folder is not configured, 4 for
-a bad command line, 130 if it was interrupted before; the status of `meson setup` if that is not 0, and then nothing is
-built.
+Exit status: 0 if all was built; that of Ninja if it failed or was interrupted; 1 if the folder is not configured; 4 for
+a bad command line; 130 if the command was interrupted before; the status of `meson setup` if that is not 0, and then
+nothing is built.
 """
 from __future__ import annotations
 
