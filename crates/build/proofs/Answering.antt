@@ -16,7 +16,7 @@ use Rattle.build.specs.project.Adding.{sources_of, is_made_source, is_present, t
 use Rattle.build.specs.project.Adding.{is_within}
 use Rattle.build.specs.project.Refused.{refusal_for_text}
 use Rattle.build.specs.project.Unheld.{unheld_text}
-use Rattle.build.specs.declared.project.refusal.ProjectRefusal.TheVariants.{Arguments, Missing, Unholdable}
+use Rattle.support.specs.declared.faults.refusal.Refusal.TheVariants.{Arguments, FileMissing, NinjaName}
 use Rattle.build.proofs.PathLists.{times-append}
 use Rattle.build.proofs.EdgeOrder.{holds_append}
 use Rattle.build.proofs.Earlier.{back_next}
@@ -61,29 +61,29 @@ sources-same p q f xs = list_all-same (is_made_source p) (is_made_source q) (sou
 
 -- ---- the first refusal
 
-pub answer_missing : (w : WorldData) (t : TargetData) → is_fit w t ≡ true → list_all (is_present w.present) (sources_of t) ≡ false → target_answer w t ≡ Err (refusal_for_text Missing [])
+pub answer_missing : (w : WorldData) (t : TargetData) → is_fit w t ≡ true → list_all (is_present w.present) (sources_of t) ≡ false → target_answer w t ≡ Err (refusal_for_text FileMissing [])
 answer_missing w t a b =
     let placed = place_answer w (outputs_of (edges_with w t)) (is_within t) in
-    let held = if are_writable (edges_with w t) then placed else Err (refusal_for_text Unholdable (unheld_text t)) in
-    ap (λ x. if x then (if list_all (is_present w.present) (sources_of t) then held else Err (refusal_for_text Missing [])) else Err (refusal_for_text Arguments [])) a
-    ∙ ap (λ x. if x then held else Err (refusal_for_text Missing [])) b
+    let held = if are_writable (edges_with w t) then placed else Err (refusal_for_text NinjaName (unheld_text t)) in
+    ap (λ x. if x then (if list_all (is_present w.present) (sources_of t) then held else Err (refusal_for_text FileMissing [])) else Err (refusal_for_text Arguments [])) a
+    ∙ ap (λ x. if x then held else Err (refusal_for_text FileMissing [])) b
 
-pub answer_unholdable : (w : WorldData) (t : TargetData) → is_fit w t ≡ true → list_all (is_present w.present) (sources_of t) ≡ true → are_writable (edges_with w t) ≡ false → target_answer w t ≡ Err (refusal_for_text Unholdable (unheld_text t))
+pub answer_unholdable : (w : WorldData) (t : TargetData) → is_fit w t ≡ true → list_all (is_present w.present) (sources_of t) ≡ true → are_writable (edges_with w t) ≡ false → target_answer w t ≡ Err (refusal_for_text NinjaName (unheld_text t))
 answer_unholdable w t a b d =
     let placed = place_answer w (outputs_of (edges_with w t)) (is_within t) in
-    let held = if are_writable (edges_with w t) then placed else Err (refusal_for_text Unholdable (unheld_text t)) in
-    ap (λ x. if x then (if list_all (is_present w.present) (sources_of t) then held else Err (refusal_for_text Missing [])) else Err (refusal_for_text Arguments [])) a
-    ∙ ap (λ x. if x then held else Err (refusal_for_text Missing [])) b
-    ∙ ap (λ x. if x then placed else Err (refusal_for_text Unholdable (unheld_text t))) d
+    let held = if are_writable (edges_with w t) then placed else Err (refusal_for_text NinjaName (unheld_text t)) in
+    ap (λ x. if x then (if list_all (is_present w.present) (sources_of t) then held else Err (refusal_for_text FileMissing [])) else Err (refusal_for_text Arguments [])) a
+    ∙ ap (λ x. if x then held else Err (refusal_for_text FileMissing [])) b
+    ∙ ap (λ x. if x then placed else Err (refusal_for_text NinjaName (unheld_text t))) d
 
 pub answer_placed : (w : WorldData) (t : TargetData) → is_fit w t ≡ true → list_all (is_present w.present) (sources_of t) ≡ true → are_writable (edges_with w t) ≡ true
     → target_answer w t ≡ place_answer w (outputs_of (edges_with w t)) (is_within t)
 answer_placed w t a b d =
     let placed = place_answer w (outputs_of (edges_with w t)) (is_within t) in
-    let held = if are_writable (edges_with w t) then placed else Err (refusal_for_text Unholdable (unheld_text t)) in
-    ap (λ x. if x then (if list_all (is_present w.present) (sources_of t) then held else Err (refusal_for_text Missing [])) else Err (refusal_for_text Arguments [])) a
-    ∙ ap (λ x. if x then held else Err (refusal_for_text Missing [])) b
-    ∙ ap (λ x. if x then placed else Err (refusal_for_text Unholdable (unheld_text t))) d
+    let held = if are_writable (edges_with w t) then placed else Err (refusal_for_text NinjaName (unheld_text t)) in
+    ap (λ x. if x then (if list_all (is_present w.present) (sources_of t) then held else Err (refusal_for_text FileMissing [])) else Err (refusal_for_text Arguments [])) a
+    ∙ ap (λ x. if x then held else Err (refusal_for_text FileMissing [])) b
+    ∙ ap (λ x. if x then placed else Err (refusal_for_text NinjaName (unheld_text t))) d
 
 -- ---- a target that fits
 

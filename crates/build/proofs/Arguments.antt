@@ -17,7 +17,7 @@ use Rattle.build.specs.project.Adding.{is_build, first_build, sources_of, is_mad
 use Rattle.build.specs.project.World.{WorldData}
 use Rattle.build.specs.project.Refused.{RefusedData, refusal_for_text}
 use Rattle.build.specs.project.Unheld.{unheld_word}
-use Rattle.build.specs.declared.project.refusal.ProjectRefusal.TheVariants.{Late, Unholdable}
+use Rattle.support.specs.declared.faults.refusal.Refusal.TheVariants.{LateArguments, NinjaName}
 use Rattle.std.specs.Prelude.{if◌then◌else◌}
 use Rattle.std.specs.List.{list_all}
 use Rattle.build.specs.edge.Holding.{value_held}
@@ -62,11 +62,11 @@ whole_with_words s ls outputs present kept cs bs w e =
 
 -- ---- what is answered
 
-pub answer_late : (w : WorldData) (words : List Text) → list_all value_held words ≡ true → list_any is_build w.targets ≡ true → arguments_answer w words ≡ Err (refusal_for_text Late (first_build w.targets))
-answer_late w words a b = ap (λ x. if x then (if list_any is_build w.targets then Err (refusal_for_text Late (first_build w.targets)) else Ok tt) else Err (refusal_for_text Unholdable (unheld_word words))) a ∙ ap (λ x. if x then Err (refusal_for_text Late (first_build w.targets)) else Ok tt) b
+pub answer_late : (w : WorldData) (words : List Text) → list_all value_held words ≡ true → list_any is_build w.targets ≡ true → arguments_answer w words ≡ Err (refusal_for_text LateArguments (first_build w.targets))
+answer_late w words a b = ap (λ x. if x then (if list_any is_build w.targets then Err (refusal_for_text LateArguments (first_build w.targets)) else Ok tt) else Err (refusal_for_text NinjaName (unheld_word words))) a ∙ ap (λ x. if x then Err (refusal_for_text LateArguments (first_build w.targets)) else Ok tt) b
 
 pub answer_words : (w : WorldData) (words : List Text) → list_all value_held words ≡ true → list_any is_build w.targets ≡ false → arguments_answer w words ≡ Ok tt
-answer_words w words a b = ap (λ x. if x then (if list_any is_build w.targets then Err (refusal_for_text Late (first_build w.targets)) else Ok tt) else Err (refusal_for_text Unholdable (unheld_word words))) a ∙ ap (λ x. if x then Err (refusal_for_text Late (first_build w.targets)) else Ok tt) b
+answer_words w words a b = ap (λ x. if x then (if list_any is_build w.targets then Err (refusal_for_text LateArguments (first_build w.targets)) else Ok tt) else Err (refusal_for_text NinjaName (unheld_word words))) a ∙ ap (λ x. if x then Err (refusal_for_text LateArguments (first_build w.targets)) else Ok tt) b
 
 pub after_unit : (r : Result (Unit {0}) RefusedData) (then_ before : WorldData) → r ≡ Ok tt → after_answer r then_ before ≡ then_
 after_unit r then_ before e = ap (λ x. after_answer x then_ before) e

@@ -17,7 +17,7 @@ use Rattle.build.specs.project.Earlier.{all_refer_back}
 use Rattle.build.specs.project.Whole.{targets_in, IsWhole, IsNext}
 use Rattle.build.specs.project.Adding.{place_answer, with_target, after_answer, unless_taken}
 use Rattle.build.specs.project.Refused.{RefusedData, refusal_for_text}
-use Rattle.build.specs.declared.project.refusal.ProjectRefusal.TheVariants.{Limit, Duplicate}
+use Rattle.support.specs.declared.faults.refusal.Refusal.TheVariants.{Limit, Duplicate}
 use Rattle.build.specs.project.View.{NotesData, world_of}
 use Rattle.build.proofs.PathLists.{once_more, taken_same, times-append}
 use Rattle.build.proofs.Earlier.{back_push, back_grown}

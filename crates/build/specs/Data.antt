@@ -1,5 +1,5 @@
 -- Defines a project's facts and targets as plain data, without their place in memory.
-use Rattle.std.specs.Prelude.{ℕ, ℤ, Bool, List, Option}
+use Rattle.std.specs.Prelude.{ℕ, ℤ, Bool, false, List, [], Option}
 use Rattle.build.specs.edge.Texts.{Path, Text}
 use Rattle.build.specs.declared.facts.OptionType.{OptionType}
 use Rattle.build.specs.declared.target.TargetKind.{TargetKind}
@@ -15,6 +15,18 @@ pub record FlagsData : Type 0 where
   pub is_debug : Bool
   pub c_args : List Text
   pub c_link_args : List Text
+
+-- Returns the flags of a project before `project` is called: all are off, empty or 0.
+abbrev pub unset_flags : FlagsData
+unset_flags = record {
+  warning_level = 0;
+  is_werror = false;
+  c_std = [];
+  optimization = [];
+  is_debug = false;
+  c_args = [];
+  c_link_args = [];
+}
 
 -- The value of an option in the form of its type. The choice of a combo and the state of a feature are texts.
 pub data OptionData : Type 0 where

@@ -1,4 +1,9 @@
 //! Holds what a project knows from `project`, its options and the machine file.
+ghost use Rattle.std.specs.Prelude.{◌≡◌};
+ghost use Rattle.build.specs.Data.{unset_flags};
+ghost use Rattle.build.specs.View.{flags_view};
+
+use std::alloc::Global;
 
 /// Holds what edges take from the options.
 pub struct Flags {
@@ -27,6 +32,23 @@ impl Drop for Flags {
             c_args: _,
             c_link_args: _,
         } = self;
+    }
+}
+
+impl Flags {
+    /// Returns the flags of a project before `project` is called: all are off, empty or 0.
+    pub fn unset(alloc: Global) -> Flags
+        ensures { flags_view result ≡ unset_flags }
+    {
+        Flags {
+            warning_level: 0,
+            is_werror: false,
+            c_std: String::new(alloc),
+            optimization: String::new(alloc),
+            is_debug: false,
+            c_args: Vec::new(alloc),
+            c_link_args: Vec::new(alloc),
+        }
     }
 }
 

@@ -11,4 +11,4 @@ pub use project::{
     outputs_differ, parts, targets_refer_back,
 };
 pub use records::{Answer, Install, Test};
-pub use refusal::{ProjectError, ProjectRefusal};
+pub use refusal::ProjectError;

@@ -1,6 +1,6 @@
 //! Tests projects that are declared call by call, their edges, and the document that shows them.
 use meson::build::edge::Edge;
-use meson::build::project::{Answer, Install, Project, ProjectError, ProjectRefusal, Test, edges};
+use meson::build::project::{Answer, Install, Project, ProjectError, Test, edges};
 use meson::build::{
     BuildTarget, CustomTarget, Facts, Flags, Lists, OptionEntry, OptionType, OptionValue, Source,
     Target, TargetKind,
@@ -110,16 +110,9 @@ fn custom(alloc: Global, longest: usize) -> Result<Target, AllocError> {
 
 // The number of a refusal.
 fn number<A>(answer: &Result<A, ProjectError>) -> Option<u8> {
-    let Err(refused) = answer else {
-        return None;
-    };
-    match refused.why {
-        ProjectRefusal::Arguments => Some(9),
-        ProjectRefusal::Duplicate => Some(11),
-        ProjectRefusal::Missing => Some(14),
-        ProjectRefusal::Unholdable => Some(21),
-        ProjectRefusal::Limit => Some(22),
-        ProjectRefusal::Late => Some(24),
+    match answer {
+        Ok(_) => None,
+        Err(refused) => Some(refused.why.number()),
     }
 }
 

@@ -7,7 +7,7 @@ use Rattle.support.specs.Faults.{FaultData}
 use Rattle.build.specs.declared.project.refusal.ProjectError.{ProjectError}
 use Rattle.template.specs.declared.config.SetStop.{SetStop}
 use Rattle.template.specs.declared.config.SetStop.TheVariants as set_stops
-use Rattle.world.specs.Operation.{of_operation, of_project}
+use Rattle.world.specs.Operation.{of_operation}
 use Rattle.world.specs.Run.{Act}
 use Rattle.world.specs.World.{World, fault_here}
 use Rattle.world.specs.Trace.{Seen, seen_from_parts}
@@ -111,7 +111,7 @@ IsPassed w (Err refused) result = Refuses (fault_here w refused.refusal (string_
 -- Holds if the call passed on the result of the project, or its refusal with its detail.
 abbrev pub IsAllowed : {B : Type 0} → World → Result B ProjectError → Result B Stop → Type 0
 IsAllowed w (Ok x) result = result ≡ Ok x
-IsAllowed w (Err refused) result = Refuses (fault_here w (of_project refused.why) (string_bytes refused.detail)) result
+IsAllowed w (Err refused) result = Refuses (fault_here w refused.why (string_bytes refused.detail)) result
 
 -- Holds if configuration data was changed, or the call is refused since the data is frozen, or memory ran out.
 abbrev pub IsConfigured : World → Result (Unit {0}) SetStop → Result (Unit {0}) Stop → Type 0

@@ -6,14 +6,13 @@ use Rattle.build.specs.project.Adding.{with_install, with_link_arguments, with_t
 use Rattle.build.specs.project.World.{WorldData, AnswerData, InstallData, TestData}
 use Rattle.build.specs.project.Refused.{RefusedData}
 use Rattle.build.specs.Data.{TargetData}
-use Rattle.world.specs.Operation.{of_project}
 use Rattle.world.specs.World.{KeepsPaths, facts_after_declaration, paths_in}
 use Rattle.world.specs.Deed.{Deed, give, refuse, read, change, ◌>>=◌}
 
 -- Returns the result of the project, or its refusal with its detail.
 unfoldable pub project_answer : {A : Type 0} → Result A RefusedData → Deed A
 project_answer (Ok a) = give a
-project_answer (Err refused) = refuse (of_project refused.why) refused.detail
+project_answer (Err refused) = refuse refused.why refused.detail
 
 -- Proves that a declaration keeps the noted paths, if its change does so whenever the project does not refuse it.
 abbrev pub after_answer-keeps : {A : Type 0} (answer : Result A RefusedData) (after before : WorldData)

@@ -7,7 +7,6 @@ use Rattle.build.specs.project.Adding.{after_answer, output_answer, with_output}
 use Rattle.build.specs.project.World.{WorldData}
 use Rattle.build.specs.project.Refused.{RefusedData}
 use Rattle.support.specs.paths.Paths.{path_in}
-use Rattle.world.specs.Operation.{of_project}
 use Rattle.world.specs.Run.{Act, ran, Done, fails, follow, pure}
 use Rattle.world.specs.Trace.{Told}
 use Rattle.world.specs.World.{facts_after_declaration, fault_here, with_facts}
@@ -45,7 +44,7 @@ after_output folder name p = after_answer (output_answer p folder name) (with_ou
 -- Succeeds if the project accepted the output, and otherwise fails with its refusal and detail.
 abbrev pub taken_by : Result (Unit {0}) RefusedData → Act (Unit {0})
 taken_by (Ok _) w = pure tt w
-taken_by (Err refused) w = fails (fault_here w (of_project refused.why) refused.detail) w
+taken_by (Err refused) w = fails (fault_here w refused.why refused.detail) w
 
 -- Reserves the path of a file of the folder, or fails with the refusal of the project.
 abbrev pub reserved_output : Path → Text → Act (Unit {0})

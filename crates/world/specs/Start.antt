@@ -2,21 +2,9 @@
 use Rattle.std.specs.Prelude.{List, [], None, false, codes}
 use Rattle.machine_file.specs.Files.{Section}
 use Rattle.build.specs.project.World.{new_world}
-use Rattle.build.specs.Data.{FactsData, FlagsData}
+use Rattle.build.specs.Data.{FactsData, unset_flags}
 use Rattle.world.specs.Settings.{SettingsData}
 use Rattle.world.specs.World.{World}
-
--- Returns the flags of a project before `project` is called: all are off, empty or 0.
-abbrev pub no_flags : FlagsData
-no_flags = record {
-  warning_level = 0;
-  is_werror = false;
-  c_std = [];
-  optimization = [];
-  is_debug = false;
-  c_args = [];
-  c_link_args = [];
-}
 
 -- Returns the facts of a project before `project` is called: its directories. All else is empty or off.
 abbrev pub facts_before_project : SettingsData → FactsData
@@ -29,7 +17,7 @@ facts_before_project s = record {
   build_root = s.build_root;
   compiler = [];
   archiver = [];
-  flags = no_flags;
+  flags = unset_flags;
   options = [];
 }
 

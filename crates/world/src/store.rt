@@ -11,12 +11,12 @@ ghost use Rattle.machine_file.specs.View.{machine_in};
 ghost use Rattle.option_values.specs.View.{value_in};
 ghost use Rattle.option_values.specs.Settings.{value_named};
 ghost use Rattle.option_values.specs.SettingsView.{options_in};
-ghost use Rattle.build.specs.View.{facts_view, flags_view};
+ghost use Rattle.build.specs.View.{facts_view};
 ghost use Rattle.world.specs.Answering.{Refuses};
 ghost use Rattle.world.specs.AskedView.{all_asked_in};
 ghost use Rattle.world.specs.SettingsView.{settings_view};
 ghost use Rattle.world.specs.Options.{option_text};
-ghost use Rattle.world.specs.Start.{first_world, no_flags, facts_before_project};
+ghost use Rattle.world.specs.Start.{first_world, facts_before_project};
 ghost use Rattle.world.specs.Store.{world_after_change, slot_value, world_of};
 ghost use Rattle.world.specs.World.{world_after_question, world_in_folder, with_line, with_options, with_place, with_variable};
 
@@ -171,23 +171,9 @@ fn unnamed_facts(alloc: Global, settings: &Settings) -> Result<Facts, AllocError
         build_root: String::from_str(alloc, settings.build_root())?,
         compiler: Vec::new(alloc),
         archiver: Vec::new(alloc),
-        flags: no_flags(alloc),
+        flags: Flags::unset(alloc),
         options: Vec::new(alloc),
     })
-}
-
-fn no_flags(alloc: Global) -> Flags
-    ensures { flags_view result ≡ no_flags }
-{
-    Flags {
-        warning_level: 0,
-        is_werror: false,
-        c_std: String::new(alloc),
-        optimization: String::new(alloc),
-        is_debug: false,
-        c_args: Vec::new(alloc),
-        c_link_args: Vec::new(alloc),
-    }
 }
 
 impl Store {

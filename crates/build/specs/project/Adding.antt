@@ -20,7 +20,7 @@ use Rattle.build.specs.project.Unheld.{unheld_text, unheld_word}
 use Rattle.build.specs.project.World.{WorldData, AnswerData, InstallData, TestData, made_in, taken_in}
 use Rattle.build.specs.declared.project.acceptance.ListOf.{ListOf}
 use Rattle.build.specs.declared.project.acceptance.ListOf.TheVariants.{OfSources, OfFolders, OfCompileArgs, OfLinkArgs, OfLibraries}
-use Rattle.build.specs.declared.project.refusal.ProjectRefusal.TheVariants.{Arguments, Missing, Unholdable, Duplicate, Limit, Late}
+use Rattle.support.specs.declared.faults.refusal.Refusal.TheVariants.{Arguments, FileMissing, NinjaName, Duplicate, Limit, LateArguments}
 
 -- ---- names (E9)
 
@@ -151,8 +151,8 @@ target_answer w t =
     if is_fit w t then
     (if list_all (is_present w.present) (sources_of t) then
     (if are_writable (edges_with w t) then place_answer w (outputs_of (edges_with w t)) (is_within t)
-    else Err (refusal_for_text Unholdable (unheld_text t)))
-    else Err (refusal_for_text Missing []))
+    else Err (refusal_for_text NinjaName (unheld_text t)))
+    else Err (refusal_for_text FileMissing []))
     else Err (refusal_for_text Arguments [])
 
 -- Returns the project after an answer: as it was, if that is a refusal.
@@ -199,7 +199,7 @@ abbrev pub output_answer : WorldData → (folder : Path) (name : Text) → Resul
 output_answer w folder name =
     if is_folder folder && is_file_name name then
     (if path_held (path_in folder name) then place_output_answer w (path_in folder name)
-    else Err (refusal_for_text Unholdable (path_in folder name)))
+    else Err (refusal_for_text NinjaName (path_in folder name)))
     else Err (refusal_for_text Arguments [])
 
 -- ---- arguments of the project
@@ -219,8 +219,8 @@ first_build (Custom t ∷ ts) = first_build ts
 abbrev pub arguments_answer : WorldData → List Text → Result (Unit {0}) RefusedData
 arguments_answer w words =
     if list_all value_held words then
-    (if list_any is_build w.targets then Err (refusal_for_text Late (first_build w.targets)) else Ok tt)
-    else Err (refusal_for_text Unholdable (unheld_word words))
+    (if list_any is_build w.targets then Err (refusal_for_text LateArguments (first_build w.targets)) else Ok tt)
+    else Err (refusal_for_text NinjaName (unheld_word words))
 
 -- Returns the project with more arguments for all compile commands.
 abbrev pub with_arguments : WorldData → List Text → WorldData

@@ -33,13 +33,14 @@ use crate::project::acceptance::{
     build_fits, custom_fits, has_made_sources, has_present_sources, is_build, is_folder, is_within,
 };
 use crate::project::records::{Answer, Install, Test};
-use crate::project::refusal::{ProjectError, ProjectRefusal, refuse};
+use crate::project::refusal::{ProjectError, refuse};
 use crate::project::unholdable::{unheld, unheld_word};
 use crate::target_edges::{Claims, LinkContext, TargetParts, claims_of, no_parts, target_parts};
 use crate::{DeclaredTarget, Facts, Surroundings, Target, linked_libraries};
 use path_set::claim;
 use std::alloc::{AllocError, Global};
 use std::marker::Model;
+use support::faults::Refusal;
 use support::paths::{is_file_name, path_in};
 use support::tables::{SipSet, new_set};
 
@@ -180,11 +181,11 @@ impl Project {
                     Ok(Ok(number))
                 } else {
                     self.linked.truncate(number);
-                    refuse(self.alloc, ProjectRefusal::Limit, "")
+                    refuse(self.alloc, Refusal::Limit, "")
                 }
             }
             Ok(Some(path)) => {
-                let answer = refuse(self.alloc, ProjectRefusal::Duplicate, path);
+                let answer = refuse(self.alloc, Refusal::Duplicate, path);
                 self.linked.truncate(number);
                 answer
             }
@@ -207,17 +208,17 @@ impl Project {
     {
         let fits = self.fits(&target)?;
         if !fits {
-            return refuse(self.alloc, ProjectRefusal::Arguments, "");
+            return refuse(self.alloc, Refusal::Arguments, "");
         }
         let present = has_present_sources(&self.notes.present, &target);
         if !present {
-            return refuse(self.alloc, ProjectRefusal::Missing, "");
+            return refuse(self.alloc, Refusal::FileMissing, "");
         }
         let libraries = linked_libraries(self.alloc, &self.linked, &target)?;
         let claims = self.claims_with(&target, &libraries)?;
         let writable = claims.writable;
         if !writable {
-            return refuse(self.alloc, ProjectRefusal::Unholdable, unheld(&target));
+            return refuse(self.alloc, Refusal::NinjaName, unheld(&target));
         }
         let within = is_within(&target);
         let one = DeclaredTarget {
@@ -256,7 +257,7 @@ impl Project {
             Ok(None) => Ok(Ok(())),
             Ok(Some(path)) => {
                 self.outputs.truncate(number);
-                refuse(self.alloc, ProjectRefusal::Duplicate, path)
+                refuse(self.alloc, Refusal::Duplicate, path)
             }
             Err(refused) => {
                 self.outputs.truncate(number);
@@ -281,12 +282,12 @@ impl Project {
     {
         let fits = output_fits(folder, name);
         if !fits {
-            return refuse(self.alloc, ProjectRefusal::Arguments, "");
+            return refuse(self.alloc, Refusal::Arguments, "");
         }
         let path = path_in(self.alloc, folder, name)?;
         let held = can_hold_path(&path);
         if !held {
-            return refuse(self.alloc, ProjectRefusal::Unholdable, &path);
+            return refuse(self.alloc, Refusal::NinjaName, &path);
         }
         self.place_output(path)
     }
@@ -305,11 +306,11 @@ impl Project {
     {
         let held = can_hold_values(words);
         if !held {
-            return refuse(self.alloc, ProjectRefusal::Unholdable, unheld_word(words));
+            return refuse(self.alloc, Refusal::NinjaName, unheld_word(words));
         }
         let late = some_build(&self.linked);
         if late {
-            return refuse(self.alloc, ProjectRefusal::Late, first_build(&self.linked));
+            return refuse(self.alloc, Refusal::LateArguments, first_build(&self.linked));
         }
         append(&mut self.surroundings.arguments, self.alloc, words)?;
         Ok(Ok(()))
@@ -329,11 +330,11 @@ impl Project {
     {
         let held = can_hold_values(words);
         if !held {
-            return refuse(self.alloc, ProjectRefusal::Unholdable, unheld_word(words));
+            return refuse(self.alloc, Refusal::NinjaName, unheld_word(words));
         }
         let late = some_build(&self.linked);
         if late {
-            return refuse(self.alloc, ProjectRefusal::Late, first_build(&self.linked));
+            return refuse(self.alloc, Refusal::LateArguments, first_build(&self.linked));
         }
         append(&mut self.surroundings.link_arguments, self.alloc, words)?;
         Ok(Ok(()))

@@ -22,6 +22,11 @@ to_string b [] = Ok (text (if b then codes "true" else codes "false"))
 to_string b (text first ∷ text second ∷ []) = Ok (text (if b then first else second))
 to_string b arguments = Err refusal.Arguments
 
+-- Describes in words what a method of a boolean takes.
+abbrev pub argument_words : BooleanMethod → List ℕ
+argument_words ToInt = codes "no arguments"
+argument_words ToString = codes "no arguments, or two texts"
+
 -- Returns the result of a method of a boolean.
 abbrev pub call : BooleanMethod → Bool → List Data → Result Data OperationRefusal
 call ToInt b arguments = to_int b arguments

@@ -1,5 +1,5 @@
 -- Defines the methods of dictionaries: the type `dict` of the page "Reference manual".
-use Rattle.std.specs.Prelude.{ℕ, List, [], ◌∷◌, is_some, Result, Ok}
+use Rattle.std.specs.Prelude.{ℕ, List, [], ◌∷◌, is_some, Result, Ok, codes}
 use Rattle.std.specs.Ordering.{nat_cmp}
 use Rattle.std.specs.Cmp.Lexicographic.{slice_cmp}
 use Rattle.std.specs.BTreeSet.{insert_key}
@@ -38,6 +38,12 @@ abbrev pub keys : Entries → List Data → Result Data OperationRefusal
 keys es arguments = do
   _ ← no_arguments arguments
   within (list (texts (sorted_with [] (keys_in es))))
+
+-- Describes in words what a method of a dictionary takes.
+abbrev pub argument_words : DictionaryMethod → List ℕ
+argument_words Get = codes "a text, or a text and a value in its place"
+argument_words HasKey = codes "one text"
+argument_words Keys = codes "no arguments"
 
 -- Returns the result of a method of a dictionary.
 abbrev pub call : DictionaryMethod → Entries → List Data → Result Data OperationRefusal

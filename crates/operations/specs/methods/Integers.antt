@@ -1,5 +1,5 @@
 -- Defines the methods of integers: the type `int` of the page "Reference manual".
-use Rattle.std.specs.Prelude.{ℕ, ℤ, ◌%◌, ◌==◌, not, unsigned_abs, List, Result, Ok}
+use Rattle.std.specs.Prelude.{ℕ, ℤ, ◌%◌, ◌==◌, not, unsigned_abs, List, Result, Ok, codes}
 use Rattle.std.specs.Fmt.{signed_decimal}
 use Rattle.values.specs.declared.refusal.OperationRefusal.{OperationRefusal}
 use Rattle.values.specs.Data.{Data, boolean, text}
@@ -27,6 +27,12 @@ abbrev pub to_string : ℤ → List Data → Result Data OperationRefusal
 to_string z arguments = do
   _ ← no_arguments arguments
   within (text (signed_decimal z))
+
+-- Describes in words what a method of an integer takes.
+abbrev pub argument_words : IntegerMethod → List ℕ
+argument_words IsEven = codes "no arguments"
+argument_words IsOdd = codes "no arguments"
+argument_words ToString = codes "no arguments"
 
 -- Returns the result of a method of an integer.
 abbrev pub call : IntegerMethod → ℤ → List Data → Result Data OperationRefusal

@@ -1,5 +1,5 @@
 -- Defines the methods of lists: the type `list` of the page "Reference manual".
-use Rattle.std.specs.Prelude.{ℕ, pos, Bool, false, ◌||◌, List, Option, Some, None, Result, Ok, Err}
+use Rattle.std.specs.Prelude.{ℕ, pos, Bool, false, ◌||◌, List, Option, Some, None, Result, Ok, Err, codes}
 use Rattle.values.specs.declared.refusal.OperationRefusal.{OperationRefusal}
 use Rattle.values.specs.declared.refusal.OperationRefusal.TheVariants as refusal
 use Rattle.values.specs.Data.{Data, boolean, integer, text, list, dictionary, object, Items, no_items, item, count}
@@ -50,6 +50,12 @@ abbrev pub len : Items → List Data → Result Data OperationRefusal
 len ds arguments = do
   _ ← no_arguments arguments
   Ok (integer (pos (count ds)))
+
+-- Describes in words what a method of a list takes.
+abbrev pub argument_words : ListMethod → List ℕ
+argument_words Contains = codes "one value"
+argument_words Get = codes "an integer, or an integer and a value in its place"
+argument_words Length = codes "no arguments"
 
 -- Returns the result of a method of a list.
 abbrev pub call : ListMethod → Items → List Data → Result Data OperationRefusal

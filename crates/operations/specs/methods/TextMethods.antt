@@ -1,5 +1,5 @@
 -- Defines the methods of texts: the type `str` of the page "Reference manual".
-use Rattle.std.specs.Prelude.{ℕ, List, [], map, nat_eq, Result, Ok}
+use Rattle.std.specs.Prelude.{ℕ, List, [], map, nat_eq, Result, Ok, codes}
 use Rattle.std.specs.Char.{to_ascii_lowercase, to_ascii_uppercase}
 use Rattle.std.specs.List as lists
 use Rattle.values.specs.declared.refusal.OperationRefusal.{OperationRefusal}
@@ -119,6 +119,24 @@ abbrev pub version_compare : List ℕ → List Data → Result Data OperationRef
 version_compare t arguments = do
   condition ← one_text arguments
   Ok (boolean (meets t condition))
+
+-- Describes in words what a method of a text takes.
+abbrev pub argument_words : TextMethod → List ℕ
+argument_words method.Contains = codes "one text"
+argument_words method.StartsWith = codes "one text"
+argument_words method.EndsWith = codes "one text"
+argument_words method.Format = codes "values that are no objects and hold none"
+argument_words method.Join = codes "texts and lists of texts"
+argument_words method.Replace = codes "two texts, of which the first is not empty"
+argument_words method.Split = codes "no arguments, or one text that is not empty"
+argument_words method.SplitLines = codes "no arguments"
+argument_words method.Strip = codes "no arguments, or one text"
+argument_words method.Substring = codes "at most two integers"
+argument_words method.ToInt = codes "no arguments, of a text that is an integer"
+argument_words method.ToLower = codes "no arguments"
+argument_words method.ToUpper = codes "no arguments"
+argument_words method.Underscorify = codes "no arguments"
+argument_words method.VersionCompare = codes "one text"
 
 -- Returns the result of a method of a text.
 abbrev pub call : TextMethod → List ℕ → List Data → Result Data OperationRefusal

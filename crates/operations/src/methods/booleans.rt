@@ -1,9 +1,9 @@
 //! Implements the methods of booleans: the type `bool` of the page "Reference manual".
 
-ghost use Rattle.std.specs.Prelude.{[], map};
+ghost use Rattle.std.specs.Prelude.{◌≡◌, [], map};
 ghost use Rattle.values.specs.Prelude.{data_of};
 ghost use Rattle.operations.specs.methods.Steps.{Gives};
-ghost use Rattle.operations.specs.methods.Booleans.{to_int, to_string, answer};
+ghost use Rattle.operations.specs.methods.Booleans.{argument_words, to_int, to_string, answer};
 
 use crate::methods::readers::none;
 use crate::methods::stop::MethodStop;
@@ -24,6 +24,16 @@ pub fn boolean_method(
     match method {
         BooleanMethod::ToInt => to_int(boolean, arguments),
         BooleanMethod::ToString => to_string(alloc, boolean, arguments),
+    }
+}
+
+/// Describes in words what a method of a boolean takes.
+pub fn argument_words(method: BooleanMethod) -> &'static str
+    ensures { result.now ≡ argument_words method }
+{
+    match method {
+        BooleanMethod::ToInt => "no arguments",
+        BooleanMethod::ToString => "no arguments, or two texts",
     }
 }
 

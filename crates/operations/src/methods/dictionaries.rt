@@ -5,7 +5,7 @@ ghost use Rattle.values.specs.Data.{keys_in};
 ghost use Rattle.values.specs.Prelude.{data_of, items_of};
 ghost use Rattle.operations.specs.methods.Steps.{Gives};
 ghost use Rattle.operations.specs.methods.TextLists.{texts};
-ghost use Rattle.operations.specs.methods.Dictionaries.{get, has_key, keys, sorted_with, answer};
+ghost use Rattle.operations.specs.methods.Dictionaries.{argument_words, get, has_key, keys, sorted_with, answer};
 
 use crate::methods::lists::take_or;
 use crate::methods::readers::{key_and_fallback, none, one, text};
@@ -31,6 +31,17 @@ pub fn dictionary_method(
         DictionaryMethod::Get => get(dictionary, arguments),
         DictionaryMethod::HasKey => has_key(dictionary, arguments),
         DictionaryMethod::Keys => keys(alloc, dictionary, arguments),
+    }
+}
+
+/// Describes in words what a method of a dictionary takes.
+pub fn argument_words(method: DictionaryMethod) -> &'static str
+    ensures { result.now ≡ argument_words method }
+{
+    match method {
+        DictionaryMethod::Get => "a text, or a text and a value in its place",
+        DictionaryMethod::HasKey => "one text",
+        DictionaryMethod::Keys => "no arguments",
     }
 }
 

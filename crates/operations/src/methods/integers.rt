@@ -1,9 +1,9 @@
 //! Implements the methods of integers: the type `int` of the page "Reference manual".
 
-ghost use Rattle.std.specs.Prelude.{map};
+ghost use Rattle.std.specs.Prelude.{◌≡◌, map};
 ghost use Rattle.values.specs.Prelude.{data_of};
 ghost use Rattle.operations.specs.methods.Steps.{Gives};
-ghost use Rattle.operations.specs.methods.Integers.{is_even, is_odd, to_string, answer};
+ghost use Rattle.operations.specs.methods.Integers.{argument_words, is_even, is_odd, to_string, answer};
 
 use crate::methods::readers::none;
 use crate::methods::stop::MethodStop;
@@ -26,6 +26,15 @@ pub fn integer_method(
         IntegerMethod::IsEven => is_even(integer, arguments),
         IntegerMethod::IsOdd => is_odd(integer, arguments),
         IntegerMethod::ToString => to_string(alloc, integer, arguments),
+    }
+}
+
+/// Describes in words what a method of an integer takes.
+pub fn argument_words(method: IntegerMethod) -> &'static str
+    ensures { result.now ≡ argument_words method }
+{
+    match method {
+        IntegerMethod::IsEven | IntegerMethod::IsOdd | IntegerMethod::ToString => "no arguments",
     }
 }
 

@@ -3,7 +3,7 @@
 ghost use Rattle.std.specs.Prelude.{◌≡◌, map, option_map};
 ghost use Rattle.values.specs.Prelude.{data_of, items_of};
 ghost use Rattle.operations.specs.methods.Steps.{Gives};
-ghost use Rattle.operations.specs.methods.Lists.{stands_in, stands_inside, contains, get, found_or, len, answer};
+ghost use Rattle.operations.specs.methods.Lists.{argument_words, stands_in, stands_inside, contains, get, found_or, len, answer};
 
 use crate::methods::readers::{integer, key_and_fallback, none, one};
 use crate::methods::stop::MethodStop;
@@ -21,6 +21,17 @@ pub fn list_method(list: &List, name: &MethodName, arguments: &[Value]) -> Resul
         ListMethod::Contains => contains(list, arguments),
         ListMethod::Get => get(list, arguments),
         ListMethod::Length => len(list, arguments),
+    }
+}
+
+/// Describes in words what a method of a list takes.
+pub fn argument_words(method: ListMethod) -> &'static str
+    ensures { result.now ≡ argument_words method }
+{
+    match method {
+        ListMethod::Contains => "one value",
+        ListMethod::Get => "an integer, or an integer and a value in its place",
+        ListMethod::Length => "no arguments",
     }
 }
 

@@ -1,13 +1,13 @@
 //! Implements the methods of texts: the type `str` of the page "Reference manual".
 
-ghost use Rattle.std.specs.Prelude.{[], ◌∷◌, map, string_bytes};
+ghost use Rattle.std.specs.Prelude.{◌≡◌, [], ◌∷◌, map, string_bytes};
 ghost use Rattle.values.specs.Data.{text as text_data};
 ghost use Rattle.values.specs.Prelude.{data_of, within};
 ghost use Rattle.operations.specs.methods.Steps.{Gives};
 ghost use Rattle.operations.specs.operators.TextLists.{text_list};
-ghost use Rattle.operations.specs.methods.TextMethods.{answer, contains, starts_with, ends_with, format, join, replace, split};
-ghost use Rattle.operations.specs.methods.TextMethods.{split_lines, strip, substring, to_int, to_lower, to_upper, underscorify};
-ghost use Rattle.operations.specs.methods.TextMethods.{version_compare};
+ghost use Rattle.operations.specs.methods.TextMethods.{answer, argument_words, contains, starts_with, ends_with, format, join};
+ghost use Rattle.operations.specs.methods.TextMethods.{replace, split, split_lines, strip, substring, to_int, to_lower};
+ghost use Rattle.operations.specs.methods.TextMethods.{to_upper, underscorify, version_compare};
 
 use crate::methods::flattening::flat_texts;
 use crate::methods::formatted::format_text;
@@ -45,6 +45,29 @@ pub fn text_method(
         TextMethod::ToUpper => to_upper(alloc, text, arguments),
         TextMethod::Underscorify => underscorify(alloc, text, arguments),
         TextMethod::VersionCompare => version_compare(text, arguments),
+    }
+}
+
+/// Describes in words what a method of a text takes.
+pub fn argument_words(method: TextMethod) -> &'static str
+    ensures { result.now ≡ argument_words method }
+{
+    match method {
+        TextMethod::Contains => "one text",
+        TextMethod::StartsWith => "one text",
+        TextMethod::EndsWith => "one text",
+        TextMethod::Format => "values that are no objects and hold none",
+        TextMethod::Join => "texts and lists of texts",
+        TextMethod::Replace => "two texts, of which the first is not empty",
+        TextMethod::Split => "no arguments, or one text that is not empty",
+        TextMethod::SplitLines => "no arguments",
+        TextMethod::Strip => "no arguments, or one text",
+        TextMethod::Substring => "at most two integers",
+        TextMethod::ToInt => "no arguments, of a text that is an integer",
+        TextMethod::ToLower => "no arguments",
+        TextMethod::ToUpper => "no arguments",
+        TextMethod::Underscorify => "no arguments",
+        TextMethod::VersionCompare => "one text",
     }
 }
 

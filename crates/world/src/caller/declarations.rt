@@ -7,7 +7,6 @@ ghost use Rattle.world.specs.Answering.{Acts, IsAllowed};
 ghost use Rattle.world.specs.Declaring.{add_arguments, add_dependency, add_install, add_link_arguments, add_target, add_test};
 ghost use Rattle.world.specs.Deed.{begin_project};
 ghost use Rattle.world.specs.Making.{reserved_output};
-ghost use Rattle.world.specs.Operation.{of_project};
 ghost use Rattle.world.specs.Store.{world_of};
 
 use crate::caller::Caller;
@@ -15,21 +14,6 @@ use crate::stop::Stop;
 use build::project::{Answer, Install, ProjectError, Test};
 use build::{Facts, Target};
 use ports::{Outputs, Tree};
-use support::faults::Refusal;
-
-/// Returns the refusal of a run for that of the project.
-pub fn of_project(refusal: build::project::ProjectRefusal) -> Refusal
-    ensures { result ≡ of_project refusal }
-{
-    match refusal {
-        build::project::ProjectRefusal::Arguments => Refusal::Arguments,
-        build::project::ProjectRefusal::Missing => Refusal::FileMissing,
-        build::project::ProjectRefusal::Unholdable => Refusal::NinjaName,
-        build::project::ProjectRefusal::Duplicate => Refusal::Duplicate,
-        build::project::ProjectRefusal::Limit => Refusal::Limit,
-        build::project::ProjectRefusal::Late => Refusal::LateArguments,
-    }
-}
 
 impl<'a, T: Tree, O: Outputs> Caller<'a, T, O> {
     ghost use Rattle.world.specs.Caller.{Does, state_of};
@@ -40,7 +24,7 @@ impl<'a, T: Tree, O: Outputs> Caller<'a, T, O> {
     {
         match answer {
             Ok(value) => Ok(value),
-            Err(refused) => self.refuse(of_project(refused.why), refused.detail.as_str()),
+            Err(refused) => self.refuse(refused.why, refused.detail.as_str()),
         }
     }
 

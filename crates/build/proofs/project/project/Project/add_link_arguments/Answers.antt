@@ -11,7 +11,7 @@ use Rattle.build.specs.project.View.{world_of}
 use Rattle.build.specs.project.NotesView.{notes_view}
 use Rattle.build.specs.project.Adding.{is_build, first_build, arguments_answer, with_link_arguments}
 use Rattle.build.specs.project.Refused.{answer_data, refusal_for_text}
-use Rattle.build.specs.declared.project.refusal.ProjectRefusal.TheVariants.{Late}
+use Rattle.support.specs.declared.faults.refusal.Refusal.TheVariants.{LateArguments}
 use Rattle.build.proofs.Arguments.{with_words, whole_with_words, answer_late, answer_words, after_unit, after_refusal, first_is, some_is}
 use Rattle.build.proofs.Placing.{on_ok}
 use Rattle.build.proofs.project.project.Project.add_link_arguments.Goals as goal
@@ -27,8 +27,8 @@ returns-then-late-clause-answer c =
     let first : c.first_build.result.now ≡ first_build w.targets =
     c.first_build.ensures ∙ ap (λ (ls : List DeclaredTarget). first_build (map (λ l. target_view l.target) ls)) c.deref-then-late.ensures.value
     ∙ first_is c.self.inside.linked.items ∙ ap (λ (x : WorldData). first_build x.targets) c.self.view_is in
-    IfOk-weaker c.refuse-then-late.result (λ r. answer_data r ≡ Err (refusal_for_text Late c.first_build.result.now)) (λ r. answer_data r ≡ arguments_answer w words)
-    (λ r e. e ∙ ap (λ n. Err (refusal_for_text Late n)) first ∙ sym (answer_late w words held some)) c.refuse-then-late.ensures
+    IfOk-weaker c.refuse-then-late.result (λ r. answer_data r ≡ Err (refusal_for_text LateArguments c.first_build.result.now)) (λ r. answer_data r ≡ arguments_answer w words)
+    (λ r e. e ∙ ap (λ n. Err (refusal_for_text LateArguments n)) first ∙ sym (answer_late w words held some)) c.refuse-then-late.ensures
 
 pub returns-then-late-clause-ok : goal.returns-then-late-clause-ok
 returns-then-late-clause-ok c =
@@ -38,7 +38,7 @@ returns-then-late-clause-ok c =
     let some : list_any is_build w.targets ≡ true =
     ap (λ (x : WorldData). list_any is_build x.targets) (sym c.self.view_is) ∙ some_is c.self.inside.linked.items
     ∙ ap (list_any (λ (l : DeclaredTarget). is_build (target_view l.target))) (sym c.deref.ensures.value) ∙ sym c.some_build-late.ensures ∙ c.if-late.true in
-    on_ok c.refuse-then-late.result (sym (after_refusal (arguments_answer w words) (refusal_for_text Late (first_build w.targets)) (with_link_arguments w words) w (answer_late w words held some)))
+    on_ok c.refuse-then-late.result (sym (after_refusal (arguments_answer w words) (refusal_for_text LateArguments (first_build w.targets)) (with_link_arguments w words) w (answer_late w words held some)))
 
 pub invariant_of-self : goal.invariant_of-self
 invariant_of-self c =

@@ -13,7 +13,7 @@ use Rattle.build.specs.project.World.{WorldData}
 use Rattle.build.specs.project.Adding.{sources_of, is_present, is_fit, edges_with, place_answer, target_answer, with_target, after_answer}
 use Rattle.build.specs.project.NotesView.{notes_view}
 use Rattle.build.specs.project.Refused.{answer_data, refusal_for_text}
-use Rattle.build.specs.declared.project.refusal.ProjectRefusal.TheVariants.{Missing, Unholdable}
+use Rattle.support.specs.declared.faults.refusal.Refusal.TheVariants.{FileMissing, NinjaName}
 use Rattle.build.proofs.Answering.{answer_missing, answer_unholdable, answer_placed, edges_are, next_ready}
 use Rattle.build.proofs.Placing.{on_ok}
 use Rattle.build.proofs.Reading.{whole_back}
@@ -32,7 +32,7 @@ returns-then-not-present-clause-answer c =
     let fit : is_fit w t ≡ true = sym c.in_ok-fits.ensures ∙ c.if-not-fits.false in
     let there : list_all (is_present w.present) (sources_of t) ≡ false =
     ap (λ (x : WorldData). list_all (is_present x.present) (sources_of t)) (sym c.self.view_is) ∙ sym c.has_present_sources-present.ensures ∙ c.if-not-present.true in
-    IfOk-weaker c.refuse-then-not-present.result (λ r. answer_data r ≡ Err (refusal_for_text Missing [])) (λ r. answer_data r ≡ target_answer w t)
+    IfOk-weaker c.refuse-then-not-present.result (λ r. answer_data r ≡ Err (refusal_for_text FileMissing [])) (λ r. answer_data r ≡ target_answer w t)
     (λ r e. e ∙ sym (answer_missing w t fit there)) c.refuse-then-not-present.ensures
 
 pub returns-then-not-present-clause-ok : goal.returns-then-not-present-clause-ok
@@ -59,8 +59,8 @@ returns-then-not-writable-clause-answer c =
     let made : target_edges w.surroundings (linked_of w.targets) c.deref-2.result.now t ≡ es =
     ap (λ x. target_edges w.surroundings (linked_of w.targets) x t) c.deref-2.ensures.value in
     let held : are_writable es ≡ false = ap are_writable (sym made) ∙ sym c.in_ok-claims.ensures.writable ∙ c.if-not-writable.true in
-    IfOk-weaker c.refuse-then-not-writable.result (λ r. answer_data r ≡ Err (refusal_for_text Unholdable c.unheld.result.now)) (λ r. answer_data r ≡ target_answer w t)
-    (λ r e. e ∙ ap (λ n. Err (refusal_for_text Unholdable n)) c.unheld.ensures ∙ sym (answer_unholdable w t fit there (ap are_writable (sym (edges_are w t ns es libs refl)) ∙ held)))
+    IfOk-weaker c.refuse-then-not-writable.result (λ r. answer_data r ≡ Err (refusal_for_text NinjaName c.unheld.result.now)) (λ r. answer_data r ≡ target_answer w t)
+    (λ r e. e ∙ ap (λ n. Err (refusal_for_text NinjaName n)) c.unheld.ensures ∙ sym (answer_unholdable w t fit there (ap are_writable (sym (edges_are w t ns es libs refl)) ∙ held)))
     c.refuse-then-not-writable.ensures
 
 pub returns-then-not-writable-clause-ok : goal.returns-then-not-writable-clause-ok

@@ -14,7 +14,7 @@ use Rattle.build.specs.project.NotesView.{notes_view}
 use Rattle.build.specs.project.Whole.{IsWhole, IsNext, targets_in}
 use Rattle.build.specs.project.Adding.{place_answer, with_target}
 use Rattle.build.specs.project.Refused.{answer_data, refusal_for_text}
-use Rattle.build.specs.declared.project.refusal.ProjectRefusal.TheVariants.{Limit, Duplicate}
+use Rattle.support.specs.declared.faults.refusal.Refusal.TheVariants.{Limit, Duplicate}
 use Rattle.build.proofs.Placing.{whole_next, whole_same, free_is, place_ok, place_long, place_twice, placed_kept, placed_back}
 use Rattle.build.proofs.Placing.{placed_twice, after_ok, after_err, on_ok, on_err, taken_off, told_none, told_path, world_with}
 use Rattle.build.proofs.Reading.{asked_last, targets_are, views-push}
