@@ -310,7 +310,11 @@ impl Project {
         }
         let late = some_build(&self.linked);
         if late {
-            return refuse(self.alloc, Refusal::LateArguments, first_build(&self.linked));
+            return refuse(
+                self.alloc,
+                Refusal::LateArguments,
+                first_build(&self.linked),
+            );
         }
         append(&mut self.surroundings.arguments, self.alloc, words)?;
         Ok(Ok(()))
@@ -334,7 +338,11 @@ impl Project {
         }
         let late = some_build(&self.linked);
         if late {
-            return refuse(self.alloc, Refusal::LateArguments, first_build(&self.linked));
+            return refuse(
+                self.alloc,
+                Refusal::LateArguments,
+                first_build(&self.linked),
+            );
         }
         append(&mut self.surroundings.link_arguments, self.alloc, words)?;
         Ok(Ok(()))

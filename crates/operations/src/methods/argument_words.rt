@@ -15,7 +15,9 @@ pub fn takes_words(receiver: &Value, name: &MethodName) -> &'static str
         Value::Boolean(_) => name.of_boolean().map_or("", booleans::argument_words),
         Value::Integer(_) => name.of_integer().map_or("", integers::argument_words),
         Value::List(_) => name.of_list().map_or("", lists::argument_words),
-        Value::Dictionary(_) => name.of_dictionary().map_or("", dictionaries::argument_words),
+        Value::Dictionary(_) => name
+            .of_dictionary()
+            .map_or("", dictionaries::argument_words),
         Value::Text(_) => name.of_text().map_or("", text_methods::argument_words),
         Value::Object(_) => "",
     }
