@@ -2,3 +2,8 @@ pub mod Noting
 pub mod InputAlone
 pub mod Saying
 pub mod Names
+pub mod FirstItems
+pub mod AnsweredAlike
+pub mod StandingCommands
+pub mod StandingTargets
+pub mod StandingDeeds

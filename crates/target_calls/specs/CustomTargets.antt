@@ -15,7 +15,7 @@ use Rattle.build.specs.Sources.{source_paths}
 use Rattle.values.specs.Flat.{opened}
 use Rattle.sources.specs.Sources.{NamedData, sources_of}
 use Rattle.target_calls.specs.BuildTargets.{NamedTargetData}
-use Rattle.target_calls.specs.Commands.{PartData, command_of}
+use Rattle.target_calls.specs.Commands.{Commands, PartData, command_of}
 use Rattle.target_calls.specs.CustomNames.{NamesData, names_of, place_of, place_with}
 use Rattle.world.specs.Here.{HereData}
 use Rattle.target_calls.specs.Sources.{file_in, sources_in}
@@ -99,14 +99,14 @@ abbrev pub with_needs : PartData → (more : List SourceData) → PartData
 with_needs command more = record { words = command.words; needs = command.needs ++ more }
 
 -- Returns the part of the command that a keyword gives. Each placeholder must have a value, and each program must have been found.
-abbrev pub part_by : HereData → ArgumentsData → PlaceData → Text → Said PartData
-part_by here a place name = found_value (command_of here place (leaves_named name a)) rules.HasMeaning name
+abbrev pub part_by : Commands → HereData → ArgumentsData → PlaceData → Text → Said PartData
+part_by commands here a place name = found_value (commands here place (leaves_named name a)) rules.HasMeaning name
 
 -- Returns the command, and the files that it needs: files and targets in it, then `depends`, then `depend_files`.
-abbrev pub whole_command : HereData → ArgumentsData → PlaceData → Said PartData
-whole_command here a place = do
-  command ← part_by here a place (codes "command")
-  depends ← part_by here a place (codes "depends")
+abbrev pub whole_command : Commands → HereData → ArgumentsData → PlaceData → Said PartData
+whole_command commands here a place = do
+  command ← part_by commands here a place (codes "command")
+  depends ← part_by commands here a place (codes "depends")
   files ← sources_by here a (codes "depend_files")
   Ok (with_needs command (depends.needs ++ files))
 
@@ -115,23 +115,27 @@ abbrev pub names_from : HereData → ArgumentsData → (inputs : List Path) → 
 names_from here a inputs = found_value (names_of (place_with here inputs [] None) a) rules.HasMeaning (codes "output")
 
 -- Returns the custom target of a call with these inputs.
-abbrev pub custom_from : HereData → ArgumentsData → (inputs : List SourceData) → Said CustomData
-custom_from here a inputs = do
+abbrev pub custom_from : Commands → HereData → ArgumentsData → (inputs : List SourceData) → Said CustomData
+custom_from commands here a inputs = do
   names ← names_from here a (flat_map (source_paths here.depth) inputs)
-  command ← whole_command here a (place_of here (flat_map (source_paths here.depth) inputs) names)
+  command ← whole_command commands here a (place_of here (flat_map (source_paths here.depth) inputs) names)
   Ok (custom_target here a names inputs command)
 
 -- Returns what a call with these inputs and source files declares.
-abbrev pub declared_files : HereData → ArgumentsData → List SourceData → List Path → Said NamedTargetData
-declared_files here a inputs files = do
-  t ← custom_from here a inputs
+abbrev pub declared_files : Commands → HereData → ArgumentsData → List SourceData → List Path → Said NamedTargetData
+declared_files commands here a inputs files = do
+  t ← custom_from commands here a inputs
   Ok (record { target = Custom t; files = files })
 
--- Returns what a call declares, or its refusal. Checked are empty lists first, then the outputs and the directory, then sources, names and
--- the command.
-unfoldable pub declared_custom : HereData → ArgumentsData → Said NamedTargetData
-declared_custom here a = do
+-- Returns what a call declares whose commands are made so, or its refusal. Checked are empty lists first, then the outputs and the
+-- directory, then sources, names and the command.
+unfoldable pub declared_by : Commands → HereData → ArgumentsData → Said NamedTargetData
+declared_by commands here a = do
   _ ← no_breach (rule_broken a)
   named ← written_sources here a
   inputs ← sources_by here a (codes "input")
-  declared_files here a inputs (flat_map file_in named)
+  declared_files commands here a inputs (flat_map file_in named)
+
+-- Returns what a call declares, or its refusal. Its command has all its words.
+abbrev pub declared_custom : HereData → ArgumentsData → Said NamedTargetData
+declared_custom here a = declared_by command_of here a

@@ -12,6 +12,8 @@ pub mod Dependencies
 pub mod Files
 pub mod FitBreaches
 pub mod Installs
+pub mod LongCommands
+pub mod LongCommandsView
 pub mod ProjectWords
 pub mod Rows
 pub mod Sources

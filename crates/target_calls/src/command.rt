@@ -6,11 +6,13 @@ ghost use Rattle.sources.specs.HolesView.{place_view};
 ghost use Rattle.sources.specs.ThingsView.{thing_view};
 ghost use Rattle.build.specs.View.{build_view, source_view};
 ghost use Rattle.world.specs.Prelude.{data_of, here_view};
-ghost use Rattle.target_calls.specs.Commands.{command_path, command_of, joined_parts, of_build_target, of_file, of_object, of_output};
+ghost use Rattle.target_calls.specs.Commands.{command_path, joined_parts, of_build_target, of_file, of_object, of_output};
 ghost use Rattle.target_calls.specs.Commands.{of_outputs};
 ghost use Rattle.target_calls.specs.Commands.{of_program, of_text, of_thing, one_path, part_of, only_words};
 ghost use Rattle.target_calls.specs.CommandsView.{part_view};
+ghost use Rattle.target_calls.specs.LongCommands.{short_command};
 
+use crate::repeated_lists::no_lists;
 use crate::source_lookup::{make_of, one_made_of};
 use build::edge::{push_copies, source_path};
 use build::{BuildTarget, Source, file_path};
@@ -201,19 +203,25 @@ fn push_part(
 
 /// Returns the command of these values, whose lists are already flattened. Returns `None` if a placeholder has no value, or if a value
 /// cannot be in a command.
+///
+/// A command that is too long repeats no list of paths. The call is refused, as it is with the whole command.
 pub fn command_of(
     here: &Here<'_>,
     place: &PlaceholderValues<'_>,
     values: &[&Value],
 ) -> Result<Option<Part>, AllocError>
     ensures { IfOk result (λ p. option_map part_view p
-        ≡ command_of (here_view here.now) (place_view place.now) (map (λ v. data_of v.now) values.now)) }
+        ≡ short_command (here_view here.now) (place_view place.now) (map (λ v. data_of v.now) values.now)) }
 {
     let mut whole = Part {
         words: Vec::with_capacity(here.alloc, values.len())?,
         needs: Vec::new(here.alloc),
     };
+    let mut had = no_lists(here.alloc);
     for value in values {
+        if had.leaves(here.earlier, whole.words.len(), value)? {
+            continue;
+        }
         if !push_part(&mut whole, here, place, value)? {
             return Ok(None);
         }

@@ -18,10 +18,11 @@ ghost use Rattle.world.specs.Prelude.{arguments_data, data_of, here_view};
 ghost use Rattle.target_calls.specs.BuildTargetsView.{named_target_view};
 ghost use Rattle.target_calls.specs.CommandsView.{part_view};
 ghost use Rattle.target_calls.specs.CustomNames.{names_in, names_of, place_of};
-ghost use Rattle.target_calls.specs.CustomTargets.{IsAllInput, captures_one, count_named, custom_from, custom_target, declared_custom};
+ghost use Rattle.target_calls.specs.CustomTargets.{IsAllInput, captures_one, count_named, custom_from, custom_target, declared_by};
 ghost use Rattle.target_calls.specs.CustomTargets.{declared_files, has_place, is_source_keyword, longest, names_from, part_by, rule_broken};
 ghost use Rattle.target_calls.specs.CustomTargets.{sources_by, whole_command, sources_in_call, written_in, written_sources};
 ghost use Rattle.target_calls.specs.CustomTargetsView.{names_view};
+ghost use Rattle.target_calls.specs.LongCommands.{short_command};
 ghost use Rattle.target_calls.specs.Sources.{sources_in};
 
 use crate::build_target::NamedTarget;
@@ -407,7 +408,7 @@ fn part_by(
     name: &str,
 ) -> Result<Result<Part, ArgumentError>, AllocError>
     ensures { IfOk result (λ p. said_data part_view p
-        ≡ part_by (here_view here.now) (arguments_data arguments.now) (place_view place.now) name.now) }
+        ≡ part_by short_command (here_view here.now) (arguments_data arguments.now) (place_view place.now) name.now) }
 {
     let values = arguments.leaves(here.alloc, name)?;
     match command_of(here, place, &values)? {
@@ -423,7 +424,7 @@ fn whole_command(
     place: &PlaceholderValues<'_>,
 ) -> Result<Result<Part, ArgumentError>, AllocError>
     ensures { IfOk result (λ p. said_data part_view p
-        ≡ whole_command (here_view here.now) (arguments_data arguments.now) (place_view place.now)) }
+        ≡ whole_command short_command (here_view here.now) (arguments_data arguments.now) (place_view place.now)) }
 {
     let mut command = match part_by(here, arguments, place, "command")? {
         Ok(part) => part,
@@ -470,7 +471,7 @@ fn command_from<'p>(
     names: &'p OutputNames,
 ) -> Result<Result<Part, ArgumentError>, AllocError>
     requires { folder.now ≡ here.now.folder.now }
-    ensures { IfOk result (λ p. said_data part_view p ≡ whole_command (here_view here.now) (arguments_data arguments.now)
+    ensures { IfOk result (λ p. said_data part_view p ≡ whole_command short_command (here_view here.now) (arguments_data arguments.now)
         (place_of (here_view here.now) (texts inputs.now) (names_view names.now))) }
 {
     let below = files_below(here, names)?;
@@ -486,7 +487,7 @@ fn custom_from(
     inputs: Vec<Source>,
 ) -> Result<Result<CustomTarget, ArgumentError>, AllocError>
     ensures { IfOk result (λ t. said_data custom_view t
-        ≡ custom_from (here_view here.now) (arguments_data arguments.now) (map source_view inputs.items)) }
+        ≡ custom_from short_command (here_view here.now) (arguments_data arguments.now) (map source_view inputs.items)) }
 {
     let paths = source_paths(here.alloc, here.depth, &inputs)?;
     let folder = String::from_str(here.alloc, here.folder)?;
@@ -509,7 +510,8 @@ fn declare_files(
     files: Vec<String>,
 ) -> Result<Result<NamedTarget, ArgumentError>, AllocError>
     ensures { IfOk result (λ t. said_data named_target_view t
-        ≡ declared_files (here_view here.now) (arguments_data arguments.now) (map source_view inputs.items) (texts files.items)) }
+        ≡ declared_files short_command (here_view here.now) (arguments_data arguments.now)
+        (map source_view inputs.items) (texts files.items)) }
 {
     match custom_from(here, arguments, inputs)? {
         Ok(target) => Ok(Ok(NamedTarget {
@@ -524,13 +526,13 @@ fn declare_files(
 ///
 /// Refused are an empty list, captured output without exactly one output file, and an install without a directory. Further refusals are a
 /// path that leads out of the source directory, a placeholder without a value, and a program that was not found.
-#[tactic(auto, unfolding(crate::specs::CustomTargets::declared_custom))]
+#[tactic(auto, unfolding(crate::specs::CustomTargets::declared_by))]
 pub fn declare_custom(
     here: &Here<'_>,
     arguments: &Arguments,
 ) -> Result<Result<NamedTarget, ArgumentError>, AllocError>
     ensures { IfOk result (λ t. said_data named_target_view t
-        ≡ declared_custom (here_view here.now) (arguments_data arguments.now)) }
+        ≡ declared_by short_command (here_view here.now) (arguments_data arguments.now)) }
 {
     if let Some((rule, keyword)) = rule_broken(arguments) {
         return Ok(Err(rule.refuse(here.alloc, keyword)?));

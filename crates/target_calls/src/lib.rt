@@ -11,6 +11,7 @@ mod dependencies;
 mod fit_breaches;
 mod installs;
 mod project_words;
+mod repeated_lists;
 mod rows;
 mod source_lookup;
 mod tree;
