@@ -388,7 +388,7 @@ def program_of_variable(project: Project, site: Site, package: str, name: str) -
     its name."""
     asked = [tree.plain(it.call.arguments[0]) for it in project.functions("find_program") if len(it.call.arguments) == 1]
     variable = assigned_name(site)
-    uses = [node for _, statement in uses_of(project, variable) for expression in tree.expressions_of(statement)
+    uses = [node for _, statement in uses_of(project, variable) for expression in statement.expressions()
             for node in tree.inside(expression) if isinstance(node, tree.Name) and node.text == variable] if variable else []
     if not any(it is site.call for it in asked) and not (uses and all(any(it is use for it in asked) for use in uses)):
         return None

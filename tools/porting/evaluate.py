@@ -145,7 +145,7 @@ class Evaluation:
         self.doubt += 1
         for statement in tree.statements_in(body):
             self.reached.add(statement)
-            for expression in tree.expressions_of(statement):
+            for expression in statement.expressions():
                 self.reached.update(tree.inside(expression))
                 for node in tree.inside(expression):
                     if isinstance(node, tree.Call) and node.name == "subdir" and isinstance(self.literal(node.arguments), str):

@@ -241,7 +241,7 @@ def in_two(site: Site, word: tree.Keyword) -> Change:
 def without_keywords(text: str, names: tuple[str, ...]) -> str:
     """Returns the text of a statement that is a call, without some of its keywords."""
     for name in names:
-        call = next(it for it in tree.inside(tree.expressions_of(parse(text)[0])[0])
+        call = next(it for it in tree.inside(parse(text)[0].expressions()[0])
                     if isinstance(it, tree.Call) and it.name == "configure_file")
         start, end = without_item(text, call, call.keywords[name])
         text = text[:start] + text[end:]

@@ -36,14 +36,14 @@ class File:
     @functools.cached_property
     def calls(self) -> list[tuple[tree.Statement, tree.Call]]:
         """Yields all calls, each with the statement that it is in."""
-        return [(statement, node) for statement in tree.statements_in(self.body) for expression in tree.expressions_of(statement)
+        return [(statement, node) for statement in tree.statements_in(self.body) for expression in statement.expressions()
                 for node in tree.inside(expression) if isinstance(node, tree.Call)]
 
     @functools.cached_property
     def variables(self) -> set[str]:
         """Returns the names of variables that are used or assigned in it."""
         statements = list(tree.statements_in(self.body))
-        used = {name for statement in statements for it in tree.expressions_of(statement) for name in tree.names_in(it)}
+        used = {name for statement in statements for it in statement.expressions() for name in tree.names_in(it)}
         return used | {it.name for it in statements if isinstance(it, tree.Assignment)}
 
     @functools.cached_property

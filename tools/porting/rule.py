@@ -123,7 +123,7 @@ def uses_of(project: Project, name: str) -> Iterator[tuple[File, tree.Statement]
     """Yields the statements that use a variable's value, reached or not."""
     for path in project.known.entered:
         for statement in tree.statements_in(project.files[path].body):
-            if any(name in tree.names_in(it) for it in tree.expressions_of(statement)):
+            if any(name in tree.names_in(it) for it in statement.expressions()):
                 yield project.files[path], statement
 
 
@@ -169,14 +169,14 @@ def of_compiler(project: Project, *names: str) -> Iterator[Site]:
 def languages_of_real(project: Project) -> set[str]:
     """Returns the languages that the real Meson alone adds to the project."""
     calls = [it for path in project.known.entered for statement in tree.statements_in(project.files[path].body)
-             for expression in tree.expressions_of(statement) for it in tree.inside(expression)
+             for expression in statement.expressions() for it in tree.inside(expression)
              if isinstance(it, tree.Call) and it.name == "add_languages" and it not in project.known.reached]
     return {it.value for call in calls for it in call.arguments if isinstance(it, tree.Text)}
 
 
 def comparison_of(site: Site) -> tree.Binary | None:
     """Returns the comparison whose left side is a call."""
-    for expression in tree.expressions_of(site.statement):
+    for expression in site.statement.expressions():
         for node in tree.inside(expression):
             if isinstance(node, tree.Binary) and node.left is site.call:
                 return node

@@ -29,7 +29,7 @@ class Names:
 
     def __init__(self, project: Project) -> None:
         self.taken = {it.value for path in project.known.entered for statement in tree.statements_in(project.files[path].body)
-                      for expression in tree.expressions_of(statement) for it in tree.inside(expression) if isinstance(it, tree.Text)}
+                      for expression in statement.expressions() for it in tree.inside(expression) if isinstance(it, tree.Text)}
 
     def free(self, wanted: str) -> str:
         number, name = 1, wanted
