@@ -4,8 +4,6 @@ from __future__ import annotations
 import bisect
 import re
 
-from tools import records as dataclasses
-
 TOKEN = re.compile(r"""
     (?P<skip> [ \t\r]+ | \#[^\n]* | \\[ \t\r]*(?:\#[^\n]*)?\n )
   | (?P<newline> \n )
@@ -33,12 +31,12 @@ class SyntaxFault(Exception):
         self.line, self.why = line, why
 
 
-@dataclasses.dataclass(frozen=True)
 class Token:
-    kind: str  # newline, text, name, keyword, number, mark, end
-    text: str
-    start: int
-    end: int
+    """Holds a token and its place. Its `kind` is newline, text, name, keyword, number, mark or end."""
+    __slots__ = ("kind", "text", "start", "end")
+
+    def __init__(self, kind: str, text: str, start: int, end: int) -> None:
+        self.kind, self.text, self.start, self.end = kind, text, start, end
 
 
 def line_at(text: str, at: int) -> int:

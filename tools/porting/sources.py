@@ -28,7 +28,7 @@ class Names:
     """Makes names of checks that differ from one another and from what a project's checks name."""
 
     def __init__(self, project: Project) -> None:
-        self.taken = {it.value for path in project.known.entered for statement in tree.statements_in(project.files[path].body)
+        self.taken = {it.value for file in project.entered for statement in file.statements
                       for expression in statement.expressions() for it in tree.inside(expression) if isinstance(it, tree.Text)}
 
     def free(self, wanted: str) -> str:

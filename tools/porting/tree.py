@@ -242,9 +242,11 @@ def names_set_by(statement: Statement) -> list[str]:
     return []
 
 
-def statements_in(body: list[Statement]) -> Iterator[Statement]:
-    """Yields all statements of a body and of the bodies in it."""
+def statements_in(body: list[Statement]) -> list[Statement]:
+    """Returns all statements of a body and of the bodies in it."""
+    found: list[Statement] = []
     for statement in body:
-        yield statement
+        found.append(statement)
         for inner in statement.bodies():
-            yield from statements_in(inner)
+            found += statements_in(inner)
+    return found
