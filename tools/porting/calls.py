@@ -10,7 +10,7 @@ from tools.porting.lexer import escaped
 from tools.porting.project import Project, Site
 from tools.porting.rule import (REAL_ALONE, assigned_name, before_statement, can_hoist, free_name, guarded,
                                 is_whole_statement, renamed, replaced, text_of)
-from tools.porting.values import ROOT, UNKNOWN, Item, Many, Table, Thing, flat, kind_of
+from tools.porting.values import ROOT, UNKNOWN, Item, Many, Table, Thing, flat, kind_of, texts_of
 
 OBJECTS_FOUND = ("dependency", "library", "internal", "program")
 RENAMED = {"add_global_arguments": "add_project_arguments", "add_global_link_arguments": "add_project_link_arguments",
@@ -131,16 +131,27 @@ def run_target(project: Project) -> Iterator[Change]:
 def lists_in_calls(project: Project) -> Iterator[Change]:
     """A list of texts where a call takes texts one by one."""
     for site in project.functions("join_paths", "dependency", "find_program"):
-        arguments = [tree.plain(it) for it in site.call.arguments]
-        if len(arguments) == 1 and isinstance(arguments[0], tree.List) and arguments[0].items:
-            items = arguments[0].items
-            yield site.change(f"{site.call.name}: takes its texts one by one",
-                              replaced(site, arguments[0], site.file.text[items[0].start:items[-1].end]))
-        elif len(arguments) == 1 and site.call.name == "join_paths":
-            is_list = kind_of(project.known.value(arguments[0])) == "list" and isinstance(arguments[0], (tree.Name, tree.Index))
-            if is_list and all(is_joined_plainly(it.arguments[0]) for it in project.known.things[site.call]):
-                text = f"'/'.join({site.file.source(arguments[0])})"
-                yield site.change("join_paths: of a list is its texts with slashes between", replaced(site, site.call, text))
+        nodes = [tree.plain(it) for it in site.call.arguments]
+        shown = [one_by_one(project, site, node, number) for number, node in enumerate(nodes)]
+        if site.call.name == "join_paths" and len(nodes) == 1 and shown[0] and not isinstance(nodes[0], tree.List):
+            yield site.change("join_paths: of a list is its texts with slashes between", replaced(site, site.call, shown[0]))
+        elif any(shown):
+            edits = [replaced(site, node, text) for node, text in zip(nodes, shown) if text]
+            yield site.change(f"{site.call.name}: takes its texts one by one", *edits)
+
+
+def one_by_one(project: Project, site: Site, node: tree.Node, number: int) -> str | None:
+    """Returns a list among the arguments of a call as its texts; none for another argument, or if the list can't be followed."""
+    if isinstance(node, tree.List) and node.items:
+        return site.file.text[node.items[0].start:node.items[-1].end]
+    value, source = project.known.value(node), site.file.source(node)
+    if kind_of(value) != "list" or not isinstance(node, (tree.Name, tree.Index)):
+        return None
+    if site.call.name == "join_paths":
+        is_plain = all(is_joined_plainly(it.arguments[number]) for it in project.known.things[site.call])
+        return f"'/'.join({source})" if is_plain else None
+    texts = texts_of(value) or []
+    return ", ".join(f"{source}[{it}]" for it in range(len(texts))) if isinstance(value, Many) and len(value.items) == len(texts) else None
 
 
 def is_joined_plainly(value: object) -> bool:

@@ -372,13 +372,37 @@ def env_words(site: Site, project: Project, node: tree.Node) -> list[str] | None
 
 
 def name_prefix(project: Project) -> Iterator[Change]:
-    """`name_prefix: 'lib'` and an empty list say what is done without them."""
+    """`name_prefix: 'lib'` and an empty list say what is done without them. So does `name_prefix: ''` of a name that has `lib` itself."""
     for site in project.functions(*LIBRARIES):
-        for name, same in (("name_prefix", "lib"), ("name_suffix", "so")):
+        for name, same in (("name_prefix", "lib"), ("name_suffix", "a" if site.call.name == "static_library" else "so")):
             word = site.call.keywords.get(name)
-            if word is not None and (project.known.value(word.value) == same and site.call.name != "static_library"
-                                     or isinstance(tree.plain(word.value), tree.List)):
+            if word is not None and (project.known.value(word.value) == same or isinstance(tree.plain(word.value), tree.List)):
                 yield drop_keyword(site, name)
+        word, first = site.call.keywords.get("name_prefix"), site.call.arguments[0] if site.call.arguments else None
+        if word is not None and text_of(project, word.value) == "" and isinstance(first, tree.Text) and is_named_lib(first):
+            start, end = without_item(site.file.text, site.call, word)
+            yield site.change(f"{site.call.name}: `name_prefix: ''` of {first.value} is dropped, as the name begins with lib",
+                              replaced(site, first, escaped(first.value.removeprefix("lib"))), (start, end, ""))
+
+
+def names_of_programs(project: Project) -> Iterator[Change]:
+    """`name_suffix:` of a program is the end of its name, and `name_prefix:` changes nothing."""
+    for site in project.functions("executable"):
+        word, first = site.call.keywords.get("name_suffix"), site.call.arguments[0] if site.call.arguments else None
+        suffix, name = text_of(project, word.value) if word else None, text_of(project, first)
+        if "name_prefix" in site.call.keywords:
+            yield drop_keyword(site, "name_prefix")
+        elif word is not None and isinstance(word.value, tree.List) and not word.value.items:
+            yield drop_keyword(site, "name_suffix")
+        elif word is not None and first is not None and suffix:
+            start, end = without_item(site.file.text, site.call, word)
+            shown = escaped(f"{name}.{suffix}") if isinstance(first, tree.Text) and name else f"{grouped(site, first)} + {escaped('.' + suffix)}"
+            yield site.change("executable: `name_suffix:` becomes the end of its name", replaced(site, first, shown), (start, end, ""))
+
+
+def is_named_lib(node: tree.Text) -> bool:
+    """Returns whether a library's name begins with `lib`, and has more."""
+    return not node.has_names and node.value.startswith("lib") and node.value != "lib"
 
 
 def install_lists(project: Project) -> Iterator[Change]:

@@ -87,6 +87,7 @@ KEYWORDS = {
 }
 for _name in ("executable", "static_library", "shared_library"):
     KEYWORDS[_name] = KEYWORDS["library"]
+KEYWORDS["static_library"] = {**KEYWORDS["library"], "name_prefix": "a name that begins with lib", "name_suffix": "the usual ending"}
 # Formats of configure_file that are taken.
 FORMATS = ("meson",)
 

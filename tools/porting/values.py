@@ -98,8 +98,8 @@ def size_of(value: object) -> tuple[int, int]:
     """Returns how many items a value has at every depth of lists, in all that it may be, and how deep they are nested."""
     if isinstance(value, Many):
         return value.size
-    sizes = [size_of(it) for it in value.choices] if isinstance(value, Either) else []
-    return sum(it[0] for it in sizes), max((it[1] for it in sizes), default=0)
+    sizes = [size_of(it) for it in value.choices if type(it) in HOLDERS] if isinstance(value, Either) else []
+    return (sum(it[0] for it in sizes), max(it[1] for it in sizes)) if sizes else (0, 0)
 
 
 def is_light(value: object) -> bool:
@@ -190,11 +190,13 @@ def either(values: Iterable[object]) -> object:
     found = distinct([choice for value in values for choice in choices_of(value)])
     if len(found) == 1:
         return found[0]
-    if all([isinstance(it, Many) for it in found]) and found:
+    if found and all([isinstance(it, Many) for it in found]):
         result = found[0]
         for it in found[1:]:
             result = joined_lists(result, it)
         return result
+    if found and len(found) <= MOST_CHOICES and not any([isinstance(it, Unknown) for it in found]):
+        return Either(tuple(found))
     kinds = {kind_of(it) for it in found}
     kind = kinds.pop() if len(kinds) == 1 else ""
     return Unknown(kind) if len(found) > MOST_CHOICES or not found or Unknown(kind) in found else Either(tuple(found))
