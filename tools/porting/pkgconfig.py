@@ -233,9 +233,11 @@ class Writer(Needs):
         # A package that the call names too is wanted once, with the versions of both.
         below = merged(self.as_parts("requires_private", [it for it in hidden if it.where == "requires"]), requires_private)
         requires_private = [it for it in requires_private if it.text is None or name_of(it.text) not in names_of(below)]
-        libs_below = self.as_parts("libs_private", [it for it in hidden if it.where == "libs"])
+        private_needs = self.private_needs()
+        libs_private = self.as_parts("libs_private", private_needs)
+        libs_static, libs_shared = self.libs_below([it for it in hidden if it.where == "libs"], private_needs)
         requires_private = below_shared(below) + requires_private
-        libs_private = self.private_libs() + below_shared(libs_below)
+        libs_private += below_shared(libs_shared)
         cflags = [] if self.is_data else self.include_flags() + self.parts("extra_cflags")
         cflags += self.as_parts("cflags", [it for it in public if it.where == "cflags"])
         return {
@@ -246,16 +248,20 @@ class Writer(Needs):
             "url": self.word("url", "''"), "version": self.word("version", "meson.project_version()"),
             "requires": joined(", ", requires + below_static(below)),
             "requires_private": joined(", ", requires_private), "conflicts": joined(" ", self.parts("conflicts")),
-            "libs": joined(" ", libs + below_static(libs_below)), "libs_private": joined(" ", libs_private),
+            "libs": joined(" ", libs + below_static(libs_static)), "libs_private": joined(" ", libs_private),
             "cflags": joined(" ", cflags)}
 
-    def private_libs(self) -> list[Part]:
-        if "libraries_private" not in self.words:
-            return []
-        needs: list[Need] = []
-        for item in flat(self.value(self.words["libraries_private"].value)):
-            needs += self.needs_of_item(item.value, item.is_sure)
-        return self.as_parts("libs_private", [it for it in needs if it.where == "libs"])
+    def libs_below(self, needs: list[Need], private: list[Need]) -> tuple[list[Part], list[Part]]:
+        """Returns the libraries below a static library, and those below a shared one, which the private ones of the call don't name."""
+        named = {(it.text, it.condition) for it in private}
+        others = [it for it in needs if named.isdisjoint([(it.text, ""), (it.text, it.condition)])]
+        found = self.as_parts("libs_private", others)
+        return (found if len(others) == len(needs) else self.as_parts("libs", needs)), found
+
+    def private_needs(self) -> list[Need]:
+        """Returns what `libraries_private:` needs when it is linked."""
+        items = flat(self.value(self.words["libraries_private"].value)) if "libraries_private" in self.words else []
+        return [need for item in items for need in self.needs_of_item(item.value, item.is_sure) if need.where == "libs"]
 
     def include_flags(self) -> list[Part]:
         if "subdirs" not in self.words:
