@@ -6,6 +6,7 @@ from collections.abc import Iterator
 
 from tools.porting import tree
 from tools.porting.edits import Change, indent_at, without_item
+from tools.porting.keywords import without_keywords
 from tools.porting.lexer import escaped
 from tools.porting.project import Project, Site
 from tools.porting.rule import (REAL_ALONE, assigned_name, before_statement, can_hoist, free_name, guarded,
@@ -97,18 +98,32 @@ def both_libraries(project: Project) -> Iterator[Change]:
             continue
         edits = [renamed(site, "shared_library")]
         static = free_name(project, f"{name}_static") if name else ""
-        call = site.file.source(site.call).replace("both_libraries", "static_library", 1)
-        for keyword in ("version", "soversion"):
-            word = site.call.keywords.get(keyword)
-            call = call.replace(site.file.text[word.start:word.end], "", 1) if word else call
-        lines = "\n".join(line for line in call.split("\n") if line.strip() not in ("", ",")).replace(", ,", ",").split("\n")
+        lines = without_keywords(site.file.source(site.call), "both_libraries", ("version", "soversion")).split("\n")
+        lines[0] = lines[0].replace("both_libraries", "static_library", 1)
         indent = indent_at(site.file.text, site.statement.start)
         first = f"{static} = " if name else ""
         edits.append(before_statement(site, [first + lines[0], *(it.removeprefix(indent) for it in lines[1:])]))
         for other in project.methods("get_static_lib", "get_shared_lib"):
             if other.file is site.file and isinstance(other.call.receiver, tree.Name) and other.call.receiver.text == name:
                 edits.append(replaced(other, other.call, static if other.call.name == "get_static_lib" else str(name)))
+        project.both |= {it.name for it in project.known.things[site.call] if it.name is not None}
         yield site.change("both_libraries becomes a shared and a static library", *edits)
+
+
+def both_by_default(project: Project) -> Iterator[Change]:
+    """Makes each `library` of a project whose default is both kinds one of both kinds."""
+    libraries = list(project.functions("library"))
+    if not all(can_hoist(it) and (assigned_name(it) or is_whole_statement(it)) for it in libraries):
+        return
+    for site in project.functions("project"):
+        word = site.call.keywords.get("default_options")
+        for node in tree.inside(word.value) if word else []:
+            if isinstance(node, tree.Text) and node.value.replace(" ", "") == "default_library=both":
+                change = site.change("project: default_library=both: each library becomes both_libraries",
+                                     replaced(site, node, "'default_library=shared'"))
+                change.edits += [edit for it in libraries for edit in it.change("", renamed(it, "both_libraries")).edits]
+                change.notes = ["a library is always made of both kinds: -Ddefault_library chooses none any more"]
+                yield change
 
 
 def run_target(project: Project) -> Iterator[Change]:

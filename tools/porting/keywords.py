@@ -232,19 +232,19 @@ def in_two(site: Site, word: tree.Keyword) -> Change:
     """Returns one call for each side of a condition that is decided while configuring."""
     statement = site.file.source(site.statement)
     indent = indent_at(site.file.text, site.statement.start)
-    sides = [without_keywords(statement, names).split("\n") for names in (("install",), ("install", "install_dir"))]
+    sides = [without_keywords(statement, "configure_file", names).split("\n") for names in (("install",), ("install", "install_dir"))]
     both = [["  " + first, *("  " + it.removeprefix(indent) for it in rest)] for first, *rest in sides]
     lines = [f"if {site.file.source(word.value)}", *both[0], "else", *both[1], "endif"]
     return site.change("configure_file: `install:` becomes two calls", in_place_of_statement(site.file, site.statement, lines))
 
 
-def without_keywords(text: str, names: tuple[str, ...]) -> str:
-    """Returns the text of a statement that is a call, without some of its keywords."""
+def without_keywords(text: str, function: str, names: tuple[str, ...]) -> str:
+    """Returns the text of a statement that is a call of a function, without some of its keywords."""
     for name in names:
-        call = next(it for it in tree.inside(parse(text)[0].expressions()[0])
-                    if isinstance(it, tree.Call) and it.name == "configure_file")
-        start, end = without_item(text, call, call.keywords[name])
-        text = text[:start] + text[end:]
+        call = next(it for it in tree.inside(parse(text)[0].expressions()[0]) if isinstance(it, tree.Call) and it.name == function)
+        if name in call.keywords:
+            start, end = without_item(text, call, call.keywords[name])
+            text = text[:start] + text[end:]
     return text
 
 

@@ -160,9 +160,11 @@ class Needs:
             return [Need("requires", base)]
         is_installed = thing.keywords.get("install", False) is not False
         own = [Need("libs", f"-l{thing.name}")] if is_installed or thing.function == "shared_library" else []
-        if thing.function == "shared_library":
-            return own
-        return own + self.needs_below(thing)
+        return own if self.is_shared_alone(thing) else own + self.needs_below(thing)
+
+    def is_shared_alone(self, thing: Thing) -> bool:
+        """Returns whether a library is never static: the real Meson names nothing that it needs."""
+        return thing.function == "shared_library" and thing.name not in self.project.both
 
     def needs_below(self, thing: Thing) -> list[Need]:
         """Returns what the libraries and dependencies need that a library or a dependency is made with.

@@ -114,6 +114,7 @@ class Project:
         self.outside: dict[str, str] = {}  # definition files that are not read, and why
         self.marked: set[str] = set()  # files that begin with MARK, which is no part of their text here
         self.pc_files: dict[str, str] = {}  # by the name of a library: its .pc file, without its ending
+        self.both: set[str] = set()  # the names of libraries that were written as a shared and a static one
         self.looks = self.doubted = 0  # how often the files were looked at, and a doubt was another one
         self.known_usual: evaluate.Evaluation | None = None
         self.entered: list[File] = []  # the definition files that are reached, in the order in which they are

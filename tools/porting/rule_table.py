@@ -56,6 +56,8 @@ RULES = (
     Rule("functions", "add_global_arguments, shared_module: add_project_arguments, shared_library", "calls.renamed_functions",
          "add_global_arguments add_global_link_arguments shared_module"),
     Rule("build-target", "build_target: the function of its kind", "calls.build_target", "build_target"),
+    Rule("both-by-default", "`default_library=both` of a project: a shared and a static library for each `library`", "calls.both_by_default",
+         "project+default_options", is_sure=False),
     Rule("both-libraries", "both_libraries: a shared and a static library", "calls.both_libraries", "both_libraries"),
     Rule("languages", "`language: ['c', 'cpp']` of a project that has only C: 'c'", "keywords.language_of_arguments", "language"),
     Rule("run-targets", "run_target, alias_target: a custom_target that isn't built by default", "calls.run_target",

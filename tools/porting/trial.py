@@ -8,7 +8,6 @@ from collections.abc import Callable
 
 from tools.asking.processes import MOST_TOLD, NoAnswer, run
 from tools.ending import one_line
-from tools.explaining.command import explained
 from tools.explaining.run import LONGEST, Asked, in_place
 from tools.linked_copy import linked_copy
 
@@ -53,6 +52,7 @@ def of_sources(program: str, root: str, words: list[str], show: Callable[[str], 
     asked = Asked(program, root, [*words, *(["--native-file", "native.ini"] if machine else []), BUILD], machine or None)
     outcome = in_place(asked)
     if outcome.fault is not None:
+        from tools.explaining.command import explained
         return "\n".join(explained(asked, outcome.fault))
     if outcome.status == 0:
         return None

@@ -157,7 +157,8 @@ def refused_of_project(project: Project, site: Site) -> list[str]:
         if isinstance(node, tree.Call) and node is not site.call and is_asked_too_early(node):
             texts.append(project.doubts.get(node, f"project: {node.name} can't be called in its arguments"))
         if isinstance(node, tree.Text) and node.value.replace(" ", "") == "default_library=both":
-            texts.append("project: default_library=both: shared_library and static_library of one name")
+            texts.append("project: default_library=both: shared_library and static_library of one name, which "
+                         "`--also both-by-default` writes")
     return texts
 
 
