@@ -158,19 +158,18 @@ def try_out(project: Project, words: Given) -> int:
 
 def ask_program(project: Project, words: Given) -> int:
     """Tries the result with the program, and builds it. Returns the status."""
-    from tools.porting.trial import first_fault, machine_file, program_of
+    from tools.porting.trial import first_fault, program_of
     program = program_of(words.program)
     if program is None:
         report("the program was not asked: it isn't built (--program names another)")
         return 0
     unwritten = {path: text for path, (_, text) in project.results().items()} if words.dry_run else {}
     options = [f"-D{it}" for it in words.options]
-    fault = first_fault(program, project.root, unwritten, options, lambda text: report(f"note: {text}"))
+    fault, machine = first_fault(program, project.root, unwritten, options, lambda text: report(f"note: {text}"))
     report("meson setup takes the result" if fault is None else f"meson setup stops at: {fault}")
     if fault is not None or words.no_build:
         return 0 if fault is None else 1
     from tools.porting.build import first_failure
-    machine = machine_file(program, project.root, options)
     text, is_good = first_failure(program, project.root, unwritten, options, machine, words.run)
     report(text)
     return 0 if is_good else 1

@@ -34,6 +34,12 @@ class Needs:
         self.notes: list[str] = []
         self.seen: set[int] = set()
 
+    @staticmethod
+    def names_at(rounds: list[Thing]) -> dict[str, object]:
+        """Returns the variables at a call, of those in a loop the ones that are the same in each round."""
+        first, *others = rounds
+        return {name: held for name, held in first.names.items() if all(name in it.names and it.names[name] is held for it in others)}
+
     def expression_of(self, value: object) -> str | None:
         """Returns an expression that gives this very value at the place of the call."""
         for name, held in self.names.items():

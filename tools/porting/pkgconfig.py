@@ -91,8 +91,7 @@ class Writer(Needs):
     def __init__(self, project: Project, site: Site) -> None:
         self.site, self.call = site, site.call
         self.words = site.call.keywords
-        things = project.known.things[site.call]
-        super().__init__(project, things[-1].names if len(things) == 1 else {})
+        super().__init__(project, self.names_at(project.known.things[site.call]))
         self.before: list[str] = []
         self.is_both = False
         self.is_data = "dataonly" in self.words and self.value(self.words["dataonly"].value) is True
