@@ -666,6 +666,8 @@ def test_what_a_trial_says() -> None:
          "`--also link-order` names static libraries")
     says("a header of another folder", "c_link", "echo fatal error: h.h: No such file; false", "the rule made-headers has its folder")
     says("what another target makes", "custom", "cat y", "No such file or directory; where another target makes it, name that target")
+    says("is made as the project has it, if it fails without optimization", "c_compile",
+         "sh -c 'case $$* in *-O0*) exit 1 ;; esac; touch x' sh", "the result was built", True)
     says("what a test needs", "custom", "touch x", "the test t needs data, which is not built by default", env=f"DATA={place}/data")
     says("what a test has", "custom", "touch x", "the result was built", True, env=f"DATA={place}/x")
 
