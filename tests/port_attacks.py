@@ -20,7 +20,7 @@ from tests.attacks import files_below, fresh, is_running, link
 from tests.workshop import CHECKOUT, WORK, check, configured, environment, put, read, run, shell, wait_until
 from tools.asking.sandbox import version_of_landlock
 from tools.ending import Stop, one_line
-from tools.porting import build, journal
+from tools.porting import build, journal, trial
 from tools.porting.command import main
 from tools.porting.project import Project
 from tools.porting.rule_table import RULES
@@ -628,11 +628,28 @@ def test_real_meson() -> None:
     check("meson port: this command isn't taken for the real Meson", not os.path.exists(f"{WORK}/ours/meson.ran"))
 
 
+def test_machine_file_of_a_trial() -> None:
+    """A build of a patch gets the machine file of the changed sources, and not of those on the disk."""
+    project("project('p', 'c')\n")
+    own, seen = trial.machine_file, []
+
+    def machine_file(program: str, root: str, words: list[str]) -> bytes:
+        seen.append(read(os.path.relpath(f"{root}/meson.build", WORK)))
+        return b"[binaries]\n"
+
+    trial.machine_file = machine_file
+    try:
+        came = trial.first_fault("/bin/true", f"{WORK}/p", {"meson.build": NEW}, [], print)
+    finally:
+        trial.machine_file = own
+    check("meson port: a trial: the machine file is that of the result", came == (None, b"[binaries]\n") and seen == [NEW], f"{came} {seen}")
+
+
 def test_what_a_trial_says() -> None:
     """What a build of the result says, and which rule helps; nothing of the project runs where that isn't allowed."""
     place = os.path.join(os.path.realpath(WORK), "trial", build.BUILD)
     fresh("trial", "scratch")
-    trial = build.Trial(f"{WORK}/p", f"{WORK}/trial", f"{WORK}/scratch")
+    built = build.Trial(f"{WORK}/p", f"{WORK}/trial", f"{WORK}/scratch")
 
     def says(name: str, edge: str, command: str, wanted: str, is_good: bool = False, env: str = "A=b", may_run: bool = True) -> None:
         fresh("trial")
@@ -640,7 +657,7 @@ def test_what_a_trial_says() -> None:
         put(f"trial/{build.BUILD}/build.ninja", text)
         made = [{"defined_in": "meson.build", "filename": [it], "name": it, "type": "custom"} for it in ("x", "data")]
         configured(f"trial/{build.BUILD}", targets=made, tests=[shell("t", ":", env=[env])])
-        got = build.outcome(trial, may_run)
+        got = build.outcome(built, may_run)
         check(f"meson port: a trial build: {name}", wanted in got[0] and got[1] == is_good, got)
 
     says("is good", "custom", "touch x", "the result was built", True)
@@ -649,11 +666,14 @@ def test_what_a_trial_says() -> None:
          "`--also link-order` names static libraries")
     says("a header of another folder", "c_link", "echo fatal error: h.h: No such file; false", "the rule made-headers has its folder")
     says("what another target makes", "custom", "cat y", "No such file or directory; where another target makes it, name that target")
+    says("is made as the project has it, if it fails without optimization", "c_compile",
+         "sh -c 'case $$* in *-O0*) exit 1 ;; esac; touch x' sh", "the result was built", True)
     says("what a test needs", "custom", "touch x", "the test t needs data, which is not built by default", env=f"DATA={place}/data")
     says("what a test has", "custom", "touch x", "the result was built", True, env=f"DATA={place}/x")
 
 
 TESTS = (test_rules_by_name, test_real_meson, test_places, test_folders_outside, test_bytes_that_stay, test_what_a_file_is,
-         test_kills, test_full_disk, test_journals_of_strangers, test_trial, test_modules, test_doubts, test_what_a_trial_says,
+         test_kills, test_full_disk, test_journals_of_strangers, test_trial, test_modules, test_doubts, test_machine_file_of_a_trial,
+         test_what_a_trial_says,
          test_lines_that_are_forged, test_streams, test_signals, test_signal_in_a_trial, test_early_signals, test_costs, test_growth,
          test_odd_files, test_installed, test_budget)

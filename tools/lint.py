@@ -32,7 +32,7 @@ def of_file(path: str, folder: str, known: set[str]) -> Iterator[str]:
         return
     line_of = Lines(text).at
     for statement in tree.statements_in(statements):
-        for call in (it for whole in tree.expressions_of(statement) for it in tree.inside(whole) if isinstance(it, tree.Call)):
+        for call in (it for whole in statement.expressions() for it in tree.inside(whole) if isinstance(it, tree.Call)):
             for at, remark in of_call(call, os.path.dirname(path), folder, known):
                 yield f"{path}:{line_of(at)}: {remark}"
 

@@ -77,7 +77,7 @@ def setters(setup: Setup, content: dict[str, Any]) -> dict[str, str]:
     root = os.path.join(setup.sources, "meson.build")
     try:
         first = parse(read_text(root))[0]
-        nodes = [it for whole in tree.expressions_of(first) for it in tree.inside(whole)]
+        nodes = [it for whole in first.expressions() for it in tree.inside(whole)]
         calls = [it for it in nodes if isinstance(it, tree.Call) and it.name == "project"]
         given = calls[0].keywords.get("default_options") if calls else None
         for it in tree.inside(given.value) if given else []:

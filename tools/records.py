@@ -34,7 +34,7 @@ else:
         for name, default in defaults.items():
             if isinstance(default, Made) and name in cls.__dict__:
                 delattr(cls, name)
-        cls.__init__, cls.__repr__ = filled, shown
+        cls.__init__, cls.__repr__ = filled_by_place(tuple(defaults)), shown
         if eq:
             cls.__eq__ = equals
             cls.__hash__ = hashed if frozen else None
@@ -42,8 +42,19 @@ else:
             cls.__setattr__ = refuse
         return cls
 
-    def filled(self, *values, **named):
-        """Returns the method `__init__`."""
+    def filled_by_place(names):
+        """Returns the method `__init__`, which is quick where each field is given by its place."""
+        count = len(names)
+
+        def fill(self, *values, **named):
+            if len(values) == count and not named:
+                self.__dict__.update(zip(names, values))
+            else:
+                filled(self, values, named)
+        return fill
+
+    def filled(self, values, named):
+        """Gives a record its fields, of which some are named or have their defaults."""
         fields = self.__fields__
         given = self.__dict__
         if len(values) > len(fields):

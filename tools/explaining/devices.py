@@ -24,7 +24,7 @@ def failed(asked: Asked) -> str | None:
 def texts_named(asked: Asked) -> list[tuple[str, str]]:
     """Returns the texts of the definition files, each with the folder in which it may be a path."""
     return [(os.path.dirname(path), node.value) for path, statement in statements_below(asked.root)
-            for expression in tree.expressions_of(statement) for node in tree.inside(expression) if isinstance(node, tree.Text)]
+            for expression in statement.expressions() for node in tree.inside(expression) if isinstance(node, tree.Text)]
 
 
 def unread(asked: Asked) -> str | None:

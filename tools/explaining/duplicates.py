@@ -17,7 +17,7 @@ RESERVED = ("all", "build.ninja", "meson-info/introspect.json")
 
 def duplicate(context: Context) -> Detail:
     """Explains E11: a keyword, a key or an output twice."""
-    nodes = [node for root in tree.expressions_of(context.place.statement) for node in tree.inside(root)]
+    nodes = [node for root in context.place.statement.expressions() for node in tree.inside(root)]
     calls = [it for it in nodes if isinstance(it, tree.Call) and context.told.may_be_of(it)] if context.told.keyword is not None else []
     if calls:
         first, second = context.told.words_of(calls[0])[:2]
@@ -88,7 +88,7 @@ def made_twice(context: Context, call: tree.Call) -> Detail:
 
 def made_before(context: Context, call: tree.Call, node: tree.Node | None, names: list[str]) -> str:
     """Says which other call makes the names; nothing if that isn't known. All calls that make files of a folder are in one file."""
-    makers = [(statement, other, output) for statement in tree.statements_in(context.place.body) for root in tree.expressions_of(statement)
+    makers = [(statement, other, output) for statement in tree.statements_in(context.place.body) for root in statement.expressions()
               for other in tree.inside(root) if isinstance(other, tree.Call) and other.receiver is None and other.name in MAKERS
               and (output := named_by(other)) is not None]
     told = context.probe.told([(statement, output) for statement, _, output in makers]) if context.probe.can_ask else []

@@ -215,7 +215,7 @@ def refused_in(body: list[tree.Statement]) -> Iterator[tuple[int, str]]:
     for statement, is_in_loop in with_loops(body, False):
         if isinstance(statement, tree.Jump) and not is_in_loop:
             yield statement.start, f"'{statement.word}' is outside of a foreach"
-        for root in tree.expressions_of(statement):
+        for root in statement.expressions():
             for node in tree.inside(root):
                 if isinstance(node, tree.Call):
                     yield from late_arguments(node)

@@ -21,7 +21,7 @@ def named_call(context: Context, name: str) -> tree.Call | None:
 def undefined(context: Context) -> Detail:
     """Explains E5."""
     name, present = context.fault.name, context.place.statement
-    at = next((it.start for root in tree.expressions_of(present) for it in tree.inside(root) if is_named(it, name)), None)
+    at = next((it.start for root in present.expressions() for it in tree.inside(root) if is_named(it, name)), None)
     if isinstance(present, tree.Assignment) and present.operator == "+=" and present.name == name:
         at = present.start
     elsewhere = {it for path, statement in context.statements() for it in tree.names_set_by(statement)
@@ -84,7 +84,7 @@ def missing_file(context: Context) -> Detail:
 
 def text_at(context: Context, path: str) -> int | None:
     """Returns the text of the statement that names a path."""
-    for root in tree.expressions_of(context.place.statement):
+    for root in context.place.statement.expressions():
         for node in tree.inside(root):
             if isinstance(node, tree.Text) and node.value:
                 named = os.path.normpath(os.path.join(context.folder, node.value))

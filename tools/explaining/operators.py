@@ -151,5 +151,5 @@ def of_statement(context: Context) -> Detail:
             assert isinstance(call, tree.Call)
             if call.name in GIVE_NOTHING:
                 return detail(f"{call.name}: it returns nothing, and a value is needed here", at=call.start)
-    first = tree.expressions_of(statement)
+    first = statement.expressions()
     return detail(f"the refused part is in {quoted(context.place.source(statement))}", at=first[0].start if first else statement.start)

@@ -62,7 +62,7 @@ def frozen(context: Context) -> Detail:
     """Explains E20."""
     call = context.call()
     name = context.place.source(call.receiver) if call and call.receiver else "the data"
-    uses = [(path, node) for path, statement in context.statements() for root in tree.expressions_of(statement)
+    uses = [(path, node) for path, statement in context.statements() for root in statement.expressions()
             for node in tree.inside(root)
             if isinstance(node, tree.Call) and node.name == "configure_file" and "configuration" in node.keywords
             and name in tree.names_in(node.keywords["configuration"].value)]
@@ -78,7 +78,7 @@ def too_late(context: Context) -> Detail:
     what, name, move = call.name if call else "add_project_arguments", context.told.target or "", "move it before the first target"
     at = call.start if call else None
     for path, statement in context.statements():
-        for root in tree.expressions_of(statement):
+        for root in statement.expressions():
             for node in tree.inside(root):
                 if isinstance(node, tree.Call) and node.receiver is None and node.name in TARGETS and name in outputs_of(node):
                     where = f"{path}:{line_at(open_text(context, path), node.start)}"

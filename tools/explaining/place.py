@@ -30,7 +30,7 @@ class Place:
 
     def calls(self) -> list[tree.Call]:
         """Returns the calls that begin on the line, outer ones first."""
-        nodes = [node for it in tree.expressions_of(self.statement) for node in tree.inside(it)]
+        nodes = [node for it in self.statement.expressions() for node in tree.inside(it)]
         found = [it for it in nodes if isinstance(it, tree.Call)]
         on_line = [it for it in found if self.line in (self.line_of(it.start), self.line_of(it.name_start))]
         return (on_line or found)[::-1]
@@ -40,13 +40,13 @@ def with_loops(body: list[tree.Statement], is_in_loop: bool) -> Iterator[tuple[t
     """Yields the statements, each with whether it is in a loop."""
     for statement in body:
         yield statement, is_in_loop
-        for inner in tree.bodies_of(statement):
+        for inner in statement.bodies():
             yield from with_loops(inner, is_in_loop or isinstance(statement, tree.Foreach))
 
 
 def head_end(statement: tree.Statement) -> int:
     """Returns where a statement ends without its body."""
-    ends = [it.end for it in tree.expressions_of(statement)]
+    ends = [it.end for it in statement.expressions()]
     return max(max(ends, default=statement.end), statement.start)
 
 

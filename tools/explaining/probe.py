@@ -163,7 +163,7 @@ class Probe:
     @functools.cached_property
     def culprit(self) -> tree.Node | None:
         """Returns the innermost node that is begun and doesn't complete, or None if all expressions of the statement do."""
-        root = next((it for it in tree.expressions_of(self.place.statement) if self.is_at_fault(it)), None)
+        root = next((it for it in self.place.statement.expressions() if self.is_at_fault(it)), None)
         return self.innermost(root) if root is not None else None
 
     def is_at_fault(self, root: tree.Node) -> bool:
@@ -214,5 +214,5 @@ class Probe:
 
 def parts(node: tree.Node) -> Iterator[tree.Node]:
     """Yields the values that a node is made of, in the order in which they are evaluated."""
-    for part in tree.parts_of(node):
+    for part in node.parts():
         yield part.value if isinstance(part, tree.Keyword) else part

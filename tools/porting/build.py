@@ -2,6 +2,8 @@
 
 If a build only compiles and links, by arguments that a compiler may get for a project (tools/asking/allowed.py), this module runs each
 step in the sandbox of `meson machine-file`. Any other build is run by Ninja, and only with --run.
+
+Objects are made without optimization, which takes a fraction of the time. What fails then is made again as the project has it.
 """
 from __future__ import annotations
 
@@ -27,6 +29,8 @@ BUILD, ALL = "build-of-the-trial", "all"
 LONGEST = 1800  # seconds of a build
 SHOWN = 100  # characters of a command that would be run
 EDGE = re.compile(r"^build (.+?): (\w+)(.*)\n(?: COMMAND = (.*)\n)?", re.M)
+# What has a compiler make an object quickly, after the arguments of the project; and the beginning of a build file's rule for that.
+QUICK, COMPILES = ["-O0", "-g0"], "rule c_compile\n command = $COMMAND"
 SUMMARY = "collect2: "  # begins a line that says nothing else
 ERROR = re.compile(r"(fatal )?error: |undefined reference|No such file|multiple definition")
 
@@ -107,28 +111,45 @@ class Trial:
 
     def carry_out(self, edges: list[Edge]) -> str:
         """Compiles side by side, then archives and links one by one: the first step that fails, and why; empty if none does."""
-        side_by_side(self.step, [it for it in edges if it.rule == "c_compile"], None, end_all)
-        for edge in edges:
-            if edge.rule != "c_compile":
-                self.step(edge)
+        objects = [it for it in edges if it.rule == "c_compile"]
+        others = [it for it in edges if it.rule != "c_compile"]
+        for beside in (QUICK, []):
+            side_by_side(lambda it: self.step(it, beside), objects, None, end_all)
+            # A source that fails was compiled as the project has it, too.
+            if self.failed:
+                return self.failed
+            for edge in others:
+                self.step(edge, [])
+            if not self.failed or not beside:
+                break
+            self.failed = ""
         return self.failed
 
-    def step(self, edge: Edge) -> None:
+    def step(self, edge: Edge, beside: list[str]) -> None:
+        """Makes a step with these further arguments, and if it fails without them."""
         if self.failed:
             return
         os.makedirs(os.path.join(self.folder, os.path.dirname(edge.outputs[0])), exist_ok=True)
         if edge.rule == "symlink":
-            os.symlink(os.path.basename(edge.inputs[0]), os.path.join(self.folder, edge.outputs[0]))
+            link = os.path.join(self.folder, edge.outputs[0])
+            if not os.path.islink(link):
+                os.symlink(os.path.basename(edge.inputs[0]), link)
             return
         own = self.compiler.own + edge.words[len(self.compiler.c):] if edge.rule != "ar" else edge.words
-        try:
-            done = self.compiler.in_sandbox(own, self.folder)
-        except NoAnswer as late:
-            done = Done(1, "", late.why)
-        if time.monotonic() > self.begun + LONGEST:
-            done = Done(1, "", f"error: nothing more was built after {LONGEST} seconds")
+        done = self.run([*own, *beside])
+        if not done.is_good and beside:
+            done = self.run(own)
         if not done.is_good:
             self.failed = self.failed or f"{edge.outputs[0]}: {reason_of(done.printed + done.said)}"
+
+    def run(self, words: list[str]) -> Done:
+        """Runs the command of a step, if there is time for it."""
+        if time.monotonic() > self.begun + LONGEST:
+            return Done(1, "", f"error: nothing more was built after {LONGEST} seconds")
+        try:
+            return self.compiler.in_sandbox(words, self.folder)
+        except NoAnswer as late:
+            return Done(1, "", late.why)
 
 
 def parts_round(words: list[str], own: list[str]) -> list[list[str]]:
@@ -187,10 +208,17 @@ def outcome(trial: Trial, may_run: bool) -> tuple[str, bool]:
 
 def failure_of_ninja(build: str) -> str:
     """Returns the target that Ninja can't make, and why; empty if it makes all."""
-    done = run([*find_ninja(), "-C", build], seconds=LONGEST, variables=dict(os.environ), is_asked_first=True)
+    path = os.path.join(build, "build.ninja")
+    text = read_text(path)
+    for it in dict.fromkeys([text.replace(COMPILES, " ".join([COMPILES, *QUICK]), 1), text]):
+        with open(path, "w", encoding="utf-8", newline="") as file:
+            file.write(it)
+        done = run([*find_ninja(), "-C", build], seconds=LONGEST, variables=dict(os.environ), is_asked_first=True)
+        if done.is_good:
+            return ""
     said = done.printed + done.said
     failed = next((it for it in said.split("\n") if it.startswith("FAILED: ")), "").removeprefix("FAILED: ").strip()
-    return "" if done.is_good else f"{failed}: {reason_of(said)}".removeprefix(": ")
+    return f"{failed}: {reason_of(said)}".removeprefix(": ")
 
 
 def lack_of_tests(build: str) -> str:

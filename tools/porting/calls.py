@@ -6,11 +6,12 @@ from collections.abc import Iterator
 
 from tools.porting import tree
 from tools.porting.edits import Change, indent_at, without_item
+from tools.porting.keywords import without_keywords
 from tools.porting.lexer import escaped
 from tools.porting.project import Project, Site
 from tools.porting.rule import (REAL_ALONE, assigned_name, before_statement, can_hoist, free_name, guarded,
                                 is_whole_statement, renamed, replaced, text_of)
-from tools.porting.values import ROOT, UNKNOWN, Item, Many, Table, Thing, flat, kind_of
+from tools.porting.values import ROOT, UNKNOWN, Item, Many, Table, Thing, flat, kind_of, texts_of
 
 OBJECTS_FOUND = ("dependency", "library", "internal", "program")
 RENAMED = {"add_global_arguments": "add_project_arguments", "add_global_link_arguments": "add_project_link_arguments",
@@ -97,18 +98,32 @@ def both_libraries(project: Project) -> Iterator[Change]:
             continue
         edits = [renamed(site, "shared_library")]
         static = free_name(project, f"{name}_static") if name else ""
-        call = site.file.source(site.call).replace("both_libraries", "static_library", 1)
-        for keyword in ("version", "soversion"):
-            word = site.call.keywords.get(keyword)
-            call = call.replace(site.file.text[word.start:word.end], "", 1) if word else call
-        lines = "\n".join(line for line in call.split("\n") if line.strip() not in ("", ",")).replace(", ,", ",").split("\n")
+        lines = without_keywords(site.file.source(site.call), "both_libraries", ("version", "soversion")).split("\n")
+        lines[0] = lines[0].replace("both_libraries", "static_library", 1)
         indent = indent_at(site.file.text, site.statement.start)
         first = f"{static} = " if name else ""
         edits.append(before_statement(site, [first + lines[0], *(it.removeprefix(indent) for it in lines[1:])]))
         for other in project.methods("get_static_lib", "get_shared_lib"):
             if other.file is site.file and isinstance(other.call.receiver, tree.Name) and other.call.receiver.text == name:
                 edits.append(replaced(other, other.call, static if other.call.name == "get_static_lib" else str(name)))
+        project.both |= {it.name for it in project.known.things[site.call] if it.name is not None}
         yield site.change("both_libraries becomes a shared and a static library", *edits)
+
+
+def both_by_default(project: Project) -> Iterator[Change]:
+    """Makes each `library` of a project whose default is both kinds one of both kinds."""
+    libraries = list(project.functions("library"))
+    if not all(can_hoist(it) and (assigned_name(it) or is_whole_statement(it)) for it in libraries):
+        return
+    for site in project.functions("project"):
+        word = site.call.keywords.get("default_options")
+        for node in tree.inside(word.value) if word else []:
+            if isinstance(node, tree.Text) and node.value.replace(" ", "") == "default_library=both":
+                change = site.change("project: default_library=both: each library becomes both_libraries",
+                                     replaced(site, node, "'default_library=shared'"))
+                change.edits += [edit for it in libraries for edit in it.change("", renamed(it, "both_libraries")).edits]
+                change.notes = ["a library is always made of both kinds: -Ddefault_library chooses none any more"]
+                yield change
 
 
 def run_target(project: Project) -> Iterator[Change]:
@@ -131,16 +146,27 @@ def run_target(project: Project) -> Iterator[Change]:
 def lists_in_calls(project: Project) -> Iterator[Change]:
     """A list of texts where a call takes texts one by one."""
     for site in project.functions("join_paths", "dependency", "find_program"):
-        arguments = [tree.plain(it) for it in site.call.arguments]
-        if len(arguments) == 1 and isinstance(arguments[0], tree.List) and arguments[0].items:
-            items = arguments[0].items
-            yield site.change(f"{site.call.name}: takes its texts one by one",
-                              replaced(site, arguments[0], site.file.text[items[0].start:items[-1].end]))
-        elif len(arguments) == 1 and site.call.name == "join_paths":
-            is_list = kind_of(project.known.value(arguments[0])) == "list" and isinstance(arguments[0], (tree.Name, tree.Index))
-            if is_list and all(is_joined_plainly(it.arguments[0]) for it in project.known.things[site.call]):
-                text = f"'/'.join({site.file.source(arguments[0])})"
-                yield site.change("join_paths: of a list is its texts with slashes between", replaced(site, site.call, text))
+        nodes = [tree.plain(it) for it in site.call.arguments]
+        shown = [one_by_one(project, site, node, number) for number, node in enumerate(nodes)]
+        if site.call.name == "join_paths" and len(nodes) == 1 and shown[0] and not isinstance(nodes[0], tree.List):
+            yield site.change("join_paths: of a list is its texts with slashes between", replaced(site, site.call, shown[0]))
+        elif any(shown):
+            edits = [replaced(site, node, text) for node, text in zip(nodes, shown) if text]
+            yield site.change(f"{site.call.name}: takes its texts one by one", *edits)
+
+
+def one_by_one(project: Project, site: Site, node: tree.Node, number: int) -> str | None:
+    """Returns a list among the arguments of a call as its texts; none for another argument, or if the list can't be followed."""
+    if isinstance(node, tree.List) and node.items:
+        return site.file.text[node.items[0].start:node.items[-1].end]
+    value, source = project.known.value(node), site.file.source(node)
+    if kind_of(value) != "list" or not isinstance(node, (tree.Name, tree.Index)):
+        return None
+    if site.call.name == "join_paths":
+        is_plain = all(is_joined_plainly(it.arguments[number]) for it in project.known.things[site.call])
+        return f"'/'.join({source})" if is_plain else None
+    texts = texts_of(value) or []
+    return ", ".join(f"{source}[{it}]" for it in range(len(texts))) if isinstance(value, Many) and len(value.items) == len(texts) else None
 
 
 def is_joined_plainly(value: object) -> bool:

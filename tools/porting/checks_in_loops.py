@@ -65,6 +65,6 @@ def loop_names(body: list[tree.Statement], node: tree.Node) -> list[str]:
     """Returns the variables of the loops that a node is in, the innermost first."""
     for statement in body:
         if statement.start <= node.start < statement.end:
-            inner = [name for it in tree.bodies_of(statement) for name in loop_names(it, node)]
+            inner = [name for it in statement.bodies() for name in loop_names(it, node)]
             return inner + (statement.names if isinstance(statement, tree.Foreach) else [])
     return []

@@ -2,21 +2,17 @@
 from __future__ import annotations
 
 import contextlib
-import difflib
 import os
 import re
 import sys
 
 from tools.command_line import Parser
 from tools.ending import Stop, one_line, show
-from tools.porting.build import first_failure
 from tools.porting.edits import Change
 from tools.porting.journal import Journal, locked
 from tools.porting.project import Project, Unreadable
-from tools.porting.real_meson import real_meson, refusal
 from tools.porting.rule import Rule
 from tools.porting.rule_table import BY_NAME, RULES
-from tools.porting.trial import first_fault, machine_file, program_of
 from tools.porting.unsupported import Unsupported, unsupported_in
 
 TYPE_CHECKING = False
@@ -77,6 +73,7 @@ def chosen(words: Given) -> list[Rule]:
 
 def carry_out(project: Project, rules: list[Rule]) -> None:
     """Applies each rule until it changes nothing, and all rules again if one may have made work for another."""
+    tried: dict[str, tuple[int, ...]] = {}  # the state of the project in which a rule changed nothing
     for _ in range(MOST_PASSES):
         before = len(project.done)
         for rule in rules:
@@ -85,7 +82,11 @@ def carry_out(project: Project, rules: list[Rule]) -> None:
                     project.said.append("the definitions take too many steps to follow: not all changes were tried; "
                                         "run this again to go on")
                     return
+                state = project.state
+                if tried.get(rule.name) == state or not rule.may_change(project):
+                    break
                 if not project.make(rule.name, found_by(rule, project)):
+                    tried[rule.name] = state
                     break
         if len(project.done) == before:
             return
@@ -106,6 +107,7 @@ def found_by(rule: Rule, project: Project) -> list[Change]:
 
 def show_patch(project: Project) -> None:
     """Prints the changes as a patch. A dry run writes nothing else to the standard output."""
+    import difflib
     for path, (before, after) in project.results().items():
         old, new = (re.findall(r"[^\n]*\n|[^\n]+", text) for text in (before or "", after))
         for line in difflib.unified_diff(old, new, f"a/{path}" if before is not None else "/dev/null", f"b/{path}"):
@@ -156,17 +158,18 @@ def try_out(project: Project, words: Given) -> int:
 
 def ask_program(project: Project, words: Given) -> int:
     """Tries the result with the program, and builds it. Returns the status."""
+    from tools.porting.trial import first_fault, program_of
     program = program_of(words.program)
     if program is None:
         report("the program was not asked: it isn't built (--program names another)")
         return 0
     unwritten = {path: text for path, (_, text) in project.results().items()} if words.dry_run else {}
     options = [f"-D{it}" for it in words.options]
-    fault = first_fault(program, project.root, unwritten, options, lambda text: report(f"note: {text}"))
+    fault, machine = first_fault(program, project.root, unwritten, options, lambda text: report(f"note: {text}"))
     report("meson setup takes the result" if fault is None else f"meson setup stops at: {fault}")
     if fault is not None or words.no_build:
         return 0 if fault is None else 1
-    machine = machine_file(program, project.root, options)
+    from tools.porting.build import first_failure
     text, is_good = first_failure(program, project.root, unwritten, options, machine, words.run)
     report(text)
     return 0 if is_good else 1
@@ -175,7 +178,10 @@ def ask_program(project: Project, words: Given) -> int:
 def ask_real(project: Project, words: Given) -> int:
     """Tries the result with the real Meson, if that took the sources before. Returns the status."""
     results = project.results()
-    meson = real_meson() if results and not words.no_real else None
+    if not results or words.no_real:
+        return 0
+    from tools.porting.real_meson import real_meson, refusal
+    meson = real_meson()
     if meson is None:
         return 0
     if not words.run:

@@ -1,16 +1,11 @@
 """Runs the commands that a project runs while configuring, once and only with --run, and writes their results down."""
 from __future__ import annotations
 
-import hashlib
 import os
 import re
-import shlex
-import shutil
-import subprocess
 from collections.abc import Iterator
 
 from tools import files
-from tools.asking import processes
 from tools.porting import tree
 from tools.porting.checks_in_loops import known_parts
 from tools.porting.edits import Change
@@ -22,6 +17,10 @@ from tools.porting.scripts import interpreter_of
 from tools.porting.values import ROOT, Item, Thing, choices_of, flat, kind_of
 from tools.variables import pkg_config
 
+TYPE_CHECKING = False
+if TYPE_CHECKING:
+    import subprocess
+
 # How long a command may run, in seconds.
 LONGEST = 60
 # A text of more bytes than this is not written into a definition file.
@@ -31,10 +30,6 @@ MOST_ROUNDS = 64
 MARK = "/value-of-the-project"  # with a number: a value that a project gives to a variable of a .pc file
 QUESTIONS = {"exists": os.path.exists, "is_file": os.path.isfile, "is_dir": os.path.isdir, "is_symlink": os.path.islink}
 NOT_ASKED = "needs to be run once: --run does that, and writes down what it prints"
-
-
-def spoken(project: Project, text: str) -> None:
-    project.said.append(text)
 
 
 class NotRun(Exception):
@@ -56,7 +51,13 @@ def words_of(project: Project, site: Site, values: list[object]) -> list[str] | 
 def by_interpreter(words: list[str]) -> list[str]:
     """Returns a command whose first word is a script without its exec bit, run by what its first line names, as the real Meson does it."""
     program = interpreter_of(words[0]) if os.path.isfile(words[0]) and not os.access(words[0], os.X_OK) else None
-    return [shutil.which(program) or program, *words] if program else words
+    return [which(program) or program, *words] if program else words
+
+
+def which(program: str) -> str | None:
+    """Returns the path of a program that PATH has."""
+    import shutil
+    return shutil.which(program)
 
 
 def word_of(project: Project, site: Site, item: Item, is_first: bool) -> str | None:
@@ -72,24 +73,28 @@ def word_of(project: Project, site: Site, item: Item, is_first: bool) -> str | N
     if isinstance(value, Thing) and value.kind == "program":
         name = value.name or ("python3" if value.function.startswith("find_") else None)
         beside = os.path.join(project.root, os.path.dirname(value.path), name) if name else ""
-        return os.path.abspath(beside) if name and os.path.isfile(beside) else shutil.which(name) if name else None
+        return os.path.abspath(beside) if name and os.path.isfile(beside) else which(name) if name else None
     return None
 
 
 def run(project: Project, words: list[str], folder: str) -> subprocess.CompletedProcess[str] | None:
     """Returns what a command comes to. The result is kept for the next call."""
+    import shlex
+    import subprocess
+
+    from tools.asking import processes
     key = tuple(words)
     if key not in project.runs:
-        spoken(project, f"ran: {shlex.join(words)}")
+        project.said.append(f"ran: {shlex.join(words)}")
         variables = dict(os.environ, MESON_SOURCE_ROOT=os.path.abspath(project.root), MESON_SUBDIR=os.path.relpath(folder, project.root))
         project.runs[key] = None
         try:
             done = processes.run(words, folder, seconds=LONGEST, variables=variables, errors="strict")
         except (processes.NoAnswer, UnicodeDecodeError) as error:
-            spoken(project, f"ran: {words[0]}: {error}")
+            project.said.append(f"ran: {words[0]}: {error}")
             return None
         if done.status is None:
-            spoken(project, f"ran: {done.said}")
+            project.said.append(f"ran: {done.said}")
         else:
             project.runs[key] = subprocess.CompletedProcess(words, done.status, in_lines(done.printed), in_lines(done.said))
     return project.runs[key]
@@ -225,7 +230,7 @@ def read_text(project: Project, site: Site, node: tree.Node) -> str | None:
     except OSError as error:
         project.doubt(site, f"the text of a file is needed here, which can't be read: {error}")
         return None
-    spoken(project, f"read: {os.path.relpath(path or '', project.root)}")
+    project.said.append(f"read: {os.path.relpath(path or '', project.root)}")
     return text
 
 
@@ -239,7 +244,7 @@ def asked_files(project: Project) -> Iterator[Change]:
             continue
         answer = answer_of(project, site, path) if path is not None else answer_of_several(project, site, several)
         if answer is not None:
-            spoken(project, f"asked: {site.call.name} of {', '.join(several) or os.path.relpath(path or '', project.root)}: {answer}")
+            project.said.append(f"asked: {site.call.name} of {', '.join(several) or os.path.relpath(path or '', project.root)}: {answer}")
             yield site.change(f"fs.{site.call.name} becomes its answer", replaced(site, site.call, answer))
 
 
@@ -260,6 +265,7 @@ def answer_of_several(project: Project, site: Site, texts: list[str]) -> str:
 def answer_of(project: Project, site: Site, path: str) -> str | None:
     if site.call.name in QUESTIONS:
         return str(QUESTIONS[site.call.name](path)).lower()
+    import hashlib
     try:
         if site.call.name == "size":
             return str(os.path.getsize(path))
@@ -388,12 +394,12 @@ def program_of_variable(project: Project, site: Site, package: str, name: str) -
     its name."""
     asked = [tree.plain(it.call.arguments[0]) for it in project.functions("find_program") if len(it.call.arguments) == 1]
     variable = assigned_name(site)
-    uses = [node for _, statement in uses_of(project, variable) for expression in tree.expressions_of(statement)
+    uses = [node for _, statement in uses_of(project, variable) for expression in statement.expressions()
             for node in tree.inside(expression) if isinstance(node, tree.Name) and node.text == variable] if variable else []
     if not any(it is site.call for it in asked) and not (uses and all(any(it is use for it in asked) for use in uses)):
         return None
     value = variable_value(project, site, package, name) or ""
-    found = shutil.which(os.path.basename(value)) if value.startswith("/") else None
+    found = which(os.path.basename(value)) if value.startswith("/") else None
     return os.path.basename(value) if found and os.path.realpath(found) == os.path.realpath(value) else None
 
 

@@ -78,7 +78,7 @@ def defines(project: Project) -> Iterator[Change]:
 
 def stripped(site: Site) -> Site:
     """Returns the call of `strip` upon a call, or that call where there is none."""
-    for expression in tree.expressions_of(site.statement):
+    for expression in site.statement.expressions():
         for node in tree.inside(expression):
             if isinstance(node, tree.Call) and node.receiver is site.call and node.name == "strip" and not node.items:
                 return Site(site.file, site.statement, node)

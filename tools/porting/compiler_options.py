@@ -5,17 +5,12 @@ The source is compiled and linked as `meson machine-file` does it, and nothing o
 from __future__ import annotations
 
 import os
-import tempfile
 from collections.abc import Iterator
 
-from tools.asking.checks import number
-from tools.asking.compiler import Compiler, Flags
-from tools.asking.dependencies import dependency
 from tools.ending import Stop
 from tools.files import DEFINITION, read_text
 from tools.porting import tree
 from tools.porting.checks_in_loops import ending_of
-from tools.porting.commands import spoken
 from tools.porting.edits import Change
 from tools.porting.lexer import escaped
 from tools.porting.options import option_name, with_option
@@ -24,6 +19,10 @@ from tools.porting.rule import REAL, identifier, of_compiler, replaced, text_of,
 from tools.porting.sources import wanted_name
 from tools.porting.unsupported import METHODS
 from tools.porting.values import Thing, flat
+
+TYPE_CHECKING = False
+if TYPE_CHECKING:
+    from tools.asking.compiler import Compiler, Flags
 
 # Of each method, what its option is.
 TYPES = {"compiles": "boolean", "links": "boolean", "get_define": "string", "compute_int": "integer"}
@@ -67,7 +66,7 @@ def as_option(project: Project, site: Site, value: bool | int | str) -> Change:
     option = option_name(project, wanted, "")
     shown = escaped(value) if isinstance(value, str) else str(value).lower()
     description = f"What {method} says here of {first}" if method == "get_define" else f"What {method} says here"
-    spoken(project, f"asked: {method}: {option}: {shown}")
+    project.said.append(f"asked: {method}: {option}: {shown}")
     change = site.change(f"{method} becomes the option {option}, which is {shown} here",
                          replaced(site, site.call, f"({REAL} ? {site.file.source(site.call)} : get_option({escaped(option)}))"))
     text = f"option({escaped(option)}, type: '{TYPES[method]}', value: {shown}, description: {escaped(description)})\n"
@@ -92,6 +91,10 @@ def question_of(project: Project, site: Site) -> str:
 
 def answer_of(project: Project, site: Site, text: str) -> bool | int | str:
     """Returns what the compiler says of a question."""
+    import tempfile
+
+    from tools.asking.checks import number
+    from tools.asking.compiler import Compiler, Flags
     with tempfile.TemporaryDirectory() as scratch:
         compiler = Compiler(scratch, project.root)
         prefix = prefix_of(project, site)
@@ -134,6 +137,8 @@ def prefix_of(project: Project, site: Site) -> str:
 
 def flags_of(project: Project, site: Site, compiler: Compiler) -> Flags:
     """Returns the words of a check: its arguments, its folders, and what its dependencies give."""
+    from tools.asking.compiler import Flags
+    from tools.asking.dependencies import dependency
     words = site.call.keywords
     args = texts_at(project, words["args"].value) if "args" in words else []
     if args is None or compiler.allowed.refused(args) is not None:

@@ -3,10 +3,8 @@ from __future__ import annotations
 
 import os
 import subprocess
-import tempfile
 from collections.abc import Iterator
 
-from tools.asking.compiler import Compiler
 from tools.ending import Stop
 from tools.porting import tree
 from tools.porting.commands import LARGEST, NOT_ASKED, run
@@ -80,6 +78,9 @@ def declaration(name: str, value: object) -> str:
 
 def outcome(project: Project, site: Site) -> subprocess.CompletedProcess[str]:
     """Returns how the program of a check ended here, UNDEFINED where there is none."""
+    import tempfile
+
+    from tools.asking.compiler import Compiler
     text, path = question_of(project, site), file_of(project, site)
     with tempfile.TemporaryDirectory(prefix="meson-port-") as folder:
         compiler = Compiler(folder, project.root)

@@ -12,7 +12,7 @@ from tools.porting import tree
 from tools.porting.operators import binary, indexed, truth_of
 from tools.porting.text_methods import method_of_value, version_compare
 from tools.porting.values import (ROOT, UNKNOWN, Either, Item, Many, Table, Thing, Unknown, bounded, choices_of, cost_of, either, flat,
-                                  is_same, kind_of, size_of, texts_of, without_root)
+                                  is_light, is_same, kind_of, size_of, texts_of, without_root)
 
 PREDEFINED = ("meson", "host_machine", "build_machine", "target_machine")
 # Beyond this many steps of one pass all is taken as reached, and nothing as known.
@@ -145,7 +145,7 @@ class Evaluation:
         self.doubt += 1
         for statement in tree.statements_in(body):
             self.reached.add(statement)
-            for expression in tree.expressions_of(statement):
+            for expression in statement.expressions():
                 self.reached.update(tree.inside(expression))
                 for node in tree.inside(expression):
                     if isinstance(node, tree.Call) and node.name == "subdir" and isinstance(self.literal(node.arguments), str):
@@ -274,40 +274,33 @@ class Evaluation:
 
     def evaluate(self, node: tree.Node) -> object:
         self.spend(1)
-        value = bounded(self.evaluated(node))
-        self.spend(cost_of(value))
-        known = self.values.get(node)
-        if known is None:
-            self.values[node] = value
-        elif not is_same(known, value):
+        evaluated = EVALUATED.get(type(node))
+        value = evaluated(self, node) if evaluated else UNKNOWN
+        if not is_light(value):
+            value = bounded(value)
+            self.spend(cost_of(value))
+        known = self.values.setdefault(node, value)
+        if not is_same(known, value):
             self.values[node] = either([known, value])
         return value
 
-    def evaluated(self, node: tree.Node) -> object:
-        match node:
-            case tree.Text():
-                return Unknown("text") if node.has_names else node.value
-            case tree.Number() | tree.Truth():
-                return node.value
-            case tree.Name():
-                return self.names.get(node.text, UNKNOWN)
-            case tree.Group():
-                return self.evaluate(node.inner)
-            case tree.List():
-                return Many([Item(self.evaluate(it)) for it in node.items])
-            case tree.Dictionary():
-                return self.dictionary(node)
-            case tree.Index():
-                return indexed(self.evaluate(node.receiver), self.evaluate(node.index))
-            case tree.Unary():
-                return self.unary(node)
-            case tree.Binary():
-                return self.binary(node)
-            case tree.Ternary():
-                return self.ternary(node)
-            case tree.Call():
-                return self.call(node)
-        return UNKNOWN
+    def literal_text(self, node: tree.Text) -> object:
+        return Unknown("text") if node.has_names else node.value
+
+    def literal_value(self, node: tree.Number | tree.Truth) -> object:
+        return node.value
+
+    def variable(self, node: tree.Name) -> object:
+        return self.names.get(node.text, UNKNOWN)
+
+    def inner(self, node: tree.Group) -> object:
+        return self.evaluate(node.inner)
+
+    def list_of(self, node: tree.List) -> object:
+        return Many([Item(self.evaluate(it), True) for it in node.items])
+
+    def indexed_value(self, node: tree.Index) -> object:
+        return indexed(self.evaluate(node.receiver), self.evaluate(node.index))
 
     def dictionary(self, node: tree.Dictionary) -> Table:
         pairs, is_whole = {}, True
@@ -359,7 +352,7 @@ class Evaluation:
         thing = Thing("", node, self.path, arguments, keywords, self.held_names())
         self.things.setdefault(node, []).append(thing)
         if node.receiver:
-            return either(self.method(it, thing) for it in choices_of(receiver))
+            return either([self.method(it, thing) for it in choices_of(receiver)])
         return self.function(thing)
 
     def function(self, thing: Thing) -> object:
@@ -449,6 +442,13 @@ class Evaluation:
             thing.kind = "program"
             return thing
         return UNKNOWN
+
+
+# What evaluates a node, by its type.
+EVALUATED: dict[type, Callable] = {
+    tree.Text: Evaluation.literal_text, tree.Number: Evaluation.literal_value, tree.Truth: Evaluation.literal_value, tree.Name: Evaluation.variable,
+    tree.Group: Evaluation.inner, tree.List: Evaluation.list_of, tree.Dictionary: Evaluation.dictionary, tree.Index: Evaluation.indexed_value,
+    tree.Unary: Evaluation.unary, tree.Binary: Evaluation.binary, tree.Ternary: Evaluation.ternary, tree.Call: Evaluation.call}
 
 
 def is_version_of_meson(call: tree.Call | None) -> bool:

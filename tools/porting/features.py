@@ -43,7 +43,7 @@ def chain_of(call: tree.Call) -> list[tree.Call]:
 def is_inner(site: Site) -> bool:
     """Returns whether another of these methods is called upon a call."""
     return any(isinstance(it, tree.Call) and it.name in METHODS and it.receiver is not None and tree.plain(it.receiver) is site.call
-               for expression in tree.expressions_of(site.statement) for it in tree.inside(expression))
+               for expression in site.statement.expressions() for it in tree.inside(expression))
 
 
 def is_plain(call: tree.Call) -> bool:
@@ -52,7 +52,7 @@ def is_plain(call: tree.Call) -> bool:
 
 def is_in_doubt(statement: tree.Statement, call: tree.Call) -> bool:
     """Returns whether a call may be skipped though its statement runs: after `and`, `or` or `?`."""
-    for expression in tree.expressions_of(statement):
+    for expression in statement.expressions():
         for node in tree.inside(expression):
             behind = [node.right] if isinstance(node, tree.Binary) and node.operator in ("and", "or") else []
             behind += [node.yes, node.no] if isinstance(node, tree.Ternary) else []

@@ -26,8 +26,8 @@ def generators(project: Project) -> Iterator[Change]:
             yield change
     for site in project.functions("generator"):
         name = assigned_name(site)
-        if name and not any(name in tree.names_in(it) for path in project.known.entered
-                            for statement in tree.statements_in(project.files[path].body) for it in tree.expressions_of(statement)):
+        if name and not any(name in tree.names_in(it) for file in project.entered
+                            for statement in file.statements for it in statement.expressions()):
             yield site.change("a generator of no use is dropped", in_place_of_statement(site.file, site.statement, []))
 
 

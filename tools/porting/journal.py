@@ -11,8 +11,6 @@ from __future__ import annotations
 
 import contextlib
 import fcntl
-import hashlib
-import json
 import os
 import re
 import stat
@@ -63,6 +61,7 @@ def sync_folder(path: str) -> None:
 
 
 def digest(data: bytes) -> str:
+    import hashlib
     return hashlib.sha256(data).hexdigest()
 
 
@@ -108,6 +107,7 @@ class Journal:
     def entries(self) -> list[Entry]:
         """Reads the journal; each of its places is below the root."""
         try:
+            import json
             rows = json.loads(read_text(self.path(JOURNAL), MOST_JOURNAL))
             found = [Entry(*it) for it in rows]
             is_good = isinstance(rows, list) and all(isinstance(text, str) for it in found for text in dataclasses.astuple(it)) and all(
@@ -233,6 +233,7 @@ class Journal:
     def commit(self, entries: list[Entry]) -> None:
         """Writes the journal: from here on the next run finishes this one, whatever interrupts it."""
         with open(self.path(UNFINISHED), "x", encoding="utf-8") as it:
+            import json
             json.dump([dataclasses.astuple(entry) for entry in entries], it)
             it.flush()
             os.fsync(it.fileno())

@@ -232,19 +232,19 @@ def in_two(site: Site, word: tree.Keyword) -> Change:
     """Returns one call for each side of a condition that is decided while configuring."""
     statement = site.file.source(site.statement)
     indent = indent_at(site.file.text, site.statement.start)
-    sides = [without_keywords(statement, names).split("\n") for names in (("install",), ("install", "install_dir"))]
+    sides = [without_keywords(statement, "configure_file", names).split("\n") for names in (("install",), ("install", "install_dir"))]
     both = [["  " + first, *("  " + it.removeprefix(indent) for it in rest)] for first, *rest in sides]
     lines = [f"if {site.file.source(word.value)}", *both[0], "else", *both[1], "endif"]
     return site.change("configure_file: `install:` becomes two calls", in_place_of_statement(site.file, site.statement, lines))
 
 
-def without_keywords(text: str, names: tuple[str, ...]) -> str:
-    """Returns the text of a statement that is a call, without some of its keywords."""
+def without_keywords(text: str, function: str, names: tuple[str, ...]) -> str:
+    """Returns the text of a statement that is a call of a function, without some of its keywords."""
     for name in names:
-        call = next(it for it in tree.inside(tree.expressions_of(parse(text)[0])[0])
-                    if isinstance(it, tree.Call) and it.name == "configure_file")
-        start, end = without_item(text, call, call.keywords[name])
-        text = text[:start] + text[end:]
+        call = next(it for it in tree.inside(parse(text)[0].expressions()[0]) if isinstance(it, tree.Call) and it.name == function)
+        if name in call.keywords:
+            start, end = without_item(text, call, call.keywords[name])
+            text = text[:start] + text[end:]
     return text
 
 
@@ -372,13 +372,37 @@ def env_words(site: Site, project: Project, node: tree.Node) -> list[str] | None
 
 
 def name_prefix(project: Project) -> Iterator[Change]:
-    """`name_prefix: 'lib'` and an empty list say what is done without them."""
+    """`name_prefix: 'lib'` and an empty list say what is done without them. So does `name_prefix: ''` of a name that has `lib` itself."""
     for site in project.functions(*LIBRARIES):
-        for name, same in (("name_prefix", "lib"), ("name_suffix", "so")):
+        for name, same in (("name_prefix", "lib"), ("name_suffix", "a" if site.call.name == "static_library" else "so")):
             word = site.call.keywords.get(name)
-            if word is not None and (project.known.value(word.value) == same and site.call.name != "static_library"
-                                     or isinstance(tree.plain(word.value), tree.List)):
+            if word is not None and (project.known.value(word.value) == same or isinstance(tree.plain(word.value), tree.List)):
                 yield drop_keyword(site, name)
+        word, first = site.call.keywords.get("name_prefix"), site.call.arguments[0] if site.call.arguments else None
+        if word is not None and text_of(project, word.value) == "" and isinstance(first, tree.Text) and is_named_lib(first):
+            start, end = without_item(site.file.text, site.call, word)
+            yield site.change(f"{site.call.name}: `name_prefix: ''` of {first.value} is dropped, as the name begins with lib",
+                              replaced(site, first, escaped(first.value.removeprefix("lib"))), (start, end, ""))
+
+
+def names_of_programs(project: Project) -> Iterator[Change]:
+    """`name_suffix:` of a program is the end of its name, and `name_prefix:` changes nothing."""
+    for site in project.functions("executable"):
+        word, first = site.call.keywords.get("name_suffix"), site.call.arguments[0] if site.call.arguments else None
+        suffix, name = text_of(project, word.value) if word else None, text_of(project, first)
+        if "name_prefix" in site.call.keywords:
+            yield drop_keyword(site, "name_prefix")
+        elif word is not None and isinstance(word.value, tree.List) and not word.value.items:
+            yield drop_keyword(site, "name_suffix")
+        elif word is not None and first is not None and suffix:
+            start, end = without_item(site.file.text, site.call, word)
+            shown = escaped(f"{name}.{suffix}") if isinstance(first, tree.Text) and name else f"{grouped(site, first)} + {escaped('.' + suffix)}"
+            yield site.change("executable: `name_suffix:` becomes the end of its name", replaced(site, first, shown), (start, end, ""))
+
+
+def is_named_lib(node: tree.Text) -> bool:
+    """Returns whether a library's name begins with `lib`, and has more."""
+    return not node.has_names and node.value.startswith("lib") and node.value != "lib"
 
 
 def install_lists(project: Project) -> Iterator[Change]:

@@ -4,8 +4,6 @@ from __future__ import annotations
 import bisect
 import re
 
-from tools import records as dataclasses
-
 TOKEN = re.compile(r"""
     (?P<skip> [ \t\r]+ | \#[^\n]* | \\[ \t\r]*(?:\#[^\n]*)?\n )
   | (?P<newline> \n )
@@ -33,12 +31,12 @@ class SyntaxFault(Exception):
         self.line, self.why = line, why
 
 
-@dataclasses.dataclass(frozen=True)
 class Token:
-    kind: str  # newline, text, name, keyword, number, mark, end
-    text: str
-    start: int
-    end: int
+    """Holds a token and its place. Its `kind` is newline, text, name, keyword, number, mark or end."""
+    __slots__ = ("kind", "text", "start", "end")
+
+    def __init__(self, kind: str, text: str, start: int, end: int) -> None:
+        self.kind, self.text, self.start, self.end = kind, text, start, end
 
 
 def line_at(text: str, at: int) -> int:
@@ -90,19 +88,18 @@ def tokens_of(text: str) -> list[Token]:
     """Returns all tokens but blanks and comments; newlines only where they end a statement."""
     tokens: list[Token] = []
     at = depth = 0
-    while at < len(text):
-        match = TOKEN.match(text, at)
-        if not match:
-            rest = text[at:at + 20].splitlines()[0]
-            raise SyntaxFault(line_at(text, at), f"no token begins here: {rest!r}")
-        kind, word = match.lastgroup or "", match.group()
+    while (match := TOKEN.match(text, at)) is not None:
+        kind, word, start, at = match.lastgroup or "", match.group(), at, match.end()
+        if len(tokens) > MOST_TOKENS:
+            raise SyntaxFault(line_at(text, start), f"a file of more than {MOST_TOKENS:,} tokens is not read here")
+        if kind == "skip":
+            continue
         if kind == "mark":
             depth = depth + 1 if word in "([{" else max(depth - 1, 0) if word in ")]}" else depth
-        if kind == "name" and word in KEYWORDS:
+        elif kind == "name" and word in KEYWORDS:
             kind = "keyword"
-        if len(tokens) > MOST_TOKENS:
-            raise SyntaxFault(line_at(text, at), f"a file of more than {MOST_TOKENS:,} tokens is not read here")
-        if kind != "skip" and (kind != "newline" or depth == 0):
-            tokens.append(Token(kind, word, at, match.end()))
-        at = match.end()
+        if kind != "newline" or depth == 0:
+            tokens.append(Token(kind, word, start, at))
+    if at < len(text):
+        raise SyntaxFault(line_at(text, at), f"no token begins here: {text[at:at + 20].splitlines()[0]!r}")
     return [*tokens, Token("newline", "\n", at, at), Token("end", "", at, at)]

@@ -34,6 +34,12 @@ class Needs:
         self.notes: list[str] = []
         self.seen: set[int] = set()
 
+    @staticmethod
+    def names_at(rounds: list[Thing]) -> dict[str, object]:
+        """Returns the variables at a call, of those in a loop the ones that are the same in each round."""
+        first, *others = rounds
+        return {name: held for name, held in first.names.items() if all(name in it.names and it.names[name] is held for it in others)}
+
     def expression_of(self, value: object) -> str | None:
         """Returns an expression that gives this very value at the place of the call."""
         for name, held in self.names.items():
@@ -160,9 +166,11 @@ class Needs:
             return [Need("requires", base)]
         is_installed = thing.keywords.get("install", False) is not False
         own = [Need("libs", f"-l{thing.name}")] if is_installed or thing.function == "shared_library" else []
-        if thing.function == "shared_library":
-            return own
-        return own + self.needs_below(thing)
+        return own if self.is_shared_alone(thing) else own + self.needs_below(thing)
+
+    def is_shared_alone(self, thing: Thing) -> bool:
+        """Returns whether a library is never static: the real Meson names nothing that it needs."""
+        return thing.function == "shared_library" and thing.name not in self.project.both
 
     def needs_below(self, thing: Thing) -> list[Need]:
         """Returns what the libraries and dependencies need that a library or a dependency is made with.

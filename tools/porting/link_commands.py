@@ -81,8 +81,7 @@ class Linking(Needs):
     """Holds what a module links after its objects: expressions of the arguments of its command, and packages."""
 
     def __init__(self, project: Project, site: Site) -> None:
-        things = project.known.things[site.call]
-        super().__init__(project, things[-1].names if len(things) == 1 else {})
+        super().__init__(project, self.names_at(project.known.things[site.call]))
         self.words: list[str] = []
         self.packages: list[str] = []  # names of those that are there
         self.perhaps: list[str] = []  # expressions of the names of others

@@ -9,7 +9,7 @@ from tools.porting.edits import Change, without_item
 from tools.porting.headers import source_items
 from tools.porting.lexer import escaped
 from tools.porting.project import Project, Site
-from tools.porting.rule import TARGETS, added_behind
+from tools.porting.rule import TARGETS, add_argument, added_behind
 from tools.porting.values import Thing, flat
 
 # Keywords of a library that say nothing of how its sources are compiled, and those that the target takes over.
@@ -56,12 +56,19 @@ def with_sources(project: Project, site: Site, word: tree.Keyword) -> Change:
             path = os.path.relpath(owner.folder or ".", site.folder or ".")
             taken["include_directories"].append(f"include_directories({escaped(path)})")
     shown = ", ".join(dict.fromkeys(sources))
-    edits = [added_behind(site, it, ", ".join(dict.fromkeys(parts))) for it, parts in taken.items() if parts]
+    edits = added_keywords(site, {it: ", ".join(dict.fromkeys(parts)) for it, parts in taken.items() if parts})
     if "sources" in site.call.keywords:
         edits += [(*without_item(site.file.text, site.call, word), ""), added_behind(site, "sources", shown)]
     else:
         edits.append((word.start, word.end, f"sources: [{shown}]"))
     return site.change(f"{site.call.name}: `link_whole:` becomes the sources of these libraries", *edits)
+
+
+def added_keywords(site: Site, items: dict[str, str]) -> list[tuple[int, int, str]]:
+    """Returns the edits that add items to the lists of keywords, of which some may be missing."""
+    missing = [f"{it}: [{text}]" for it, text in items.items() if it not in site.call.keywords]
+    edits = [added_behind(site, it, text) for it, text in items.items() if it in site.call.keywords]
+    return edits + ([add_argument(site, ", ".join(missing))] if missing else [])
 
 
 def sources_of(library: Thing, site: Site, names: dict[str, object]) -> list[str]:
@@ -83,9 +90,14 @@ def sources_of(library: Thing, site: Site, names: dict[str, object]) -> list[str
 
 def taken_over(owner: Site, site: Site, library: Thing, names: dict[str, object], keyword: str) -> str:
     """Returns what a library is made with, as it is named at another call."""
-    node = owner.call.keywords[keyword].value
+    shown = named_alike(owner, site, library, names, owner.call.keywords[keyword].value)
+    if shown is None:
+        raise NotFollowed(f"`{keyword}:` of that library can't be named here")
+    return shown
+
+
+def named_alike(owner: Site, site: Site, library: Thing, names: dict[str, object], node: tree.Node) -> str | None:
+    """Returns the text of an expression of a library's call, if it means the same at another call."""
     is_same = all(it in names and names[it] is library.names.get(it) for it in tree.names_in(node))
     has_paths = any(isinstance(it, tree.Text) for it in tree.inside(node))
-    if not is_same or (has_paths and owner.folder != site.folder):
-        raise NotFollowed(f"`{keyword}:` of that library can't be named here")
-    return owner.file.source(node)
+    return owner.file.source(node) if is_same and not (has_paths and owner.folder != site.folder) else None

@@ -65,7 +65,7 @@ def unused_imports(project: Project) -> Iterator[Change]:
 
 def is_never_sure(project: Project, name: str, statement: tree.Statement) -> bool:
     """Returns whether a statement that uses a module's name is reached by an option or the machine alone, if at all."""
-    calls = [it for expression in tree.expressions_of(statement) for it in tree.inside(expression)
+    calls = [it for expression in statement.expressions() for it in tree.inside(expression)
              if isinstance(it, tree.Call) and name in tree.names_in(it)]
     return statement not in project.known.reached or (bool(calls) and all(it in project.known.called_maybe for it in calls))
 
@@ -75,7 +75,7 @@ def is_usual(project: Project, name: str, statements: list[tree.Statement]) -> b
     hidden."""
     usual = project.usual()
     return any(it in usual.reached and it not in usual.called_maybe for statement in statements
-               for expression in tree.expressions_of(statement) for it in tree.inside(expression)
+               for expression in statement.expressions() for it in tree.inside(expression)
                if isinstance(it, tree.Call) and name in tree.names_in(it))
 
 

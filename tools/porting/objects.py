@@ -1,10 +1,13 @@
-"""Replaces the objects of another target by a new static library of the same sources, which is linked in their place."""
+"""Replaces the objects of another target by a new static library of the same sources, which is linked in their place.
+
+A target that has no other sources gets these sources."""
 from __future__ import annotations
 
 from collections.abc import Iterator
 
 from tools.porting import tree
 from tools.porting.edits import Change, indent_at, without_item
+from tools.porting.link_whole import NotFollowed, added_keywords, named_alike, sources_of, taken_over
 from tools.porting.project import Project, Site
 from tools.porting.rule import TARGETS, added_to_list, assigned_name, can_hoist, free_name
 from tools.porting.values import Item, Thing, flat
@@ -23,7 +26,8 @@ def extracted(project: Project) -> Iterator[Change]:
         if word is None or not isinstance(value, tree.Call) or value.name != "extract_all_objects":
             continue
         owner = owner_of(project, value)
-        change = with_library(project, site, word, owner) if owner else None
+        is_empty = len(site.call.arguments) == 1 and "sources" not in site.call.keywords
+        change = (with_sources if is_empty else with_library)(project, site, word, owner) if owner else None
         if change is not None:
             yield change
 
@@ -35,6 +39,27 @@ def owner_of(project: Project, call: tree.Call) -> Site | None:
     if made is None or len(things) != 1:
         return None
     return next((it for it in project.functions(*TARGETS) if it.call is made), None)
+
+
+def with_sources(project: Project, site: Site, word: tree.Keyword, owner: Site) -> Change | None:
+    """Returns a target that has no sources of its own, with those whose objects it took."""
+    names, target = project.known.things[site.call][-1].names, project.known.things[owner.call][-1]
+    try:
+        sources = own_sources(owner, site, target, names) or sources_of(target, site, names)
+        kept = {it: taken_over(owner, site, target, names, it) for it in KEPT if it != "sources" and it in owner.call.keywords}
+    except NotFollowed as why:
+        project.doubt(site, f"{site.call.name}: `objects:`: {why}: a static library that both targets link")
+        return None
+    return site.change(f"{site.call.name}: `objects:` becomes the sources of that target",
+                       (word.start, word.end, f"sources: [{', '.join(sources)}]"), *added_keywords(site, kept))
+
+
+def own_sources(owner: Site, site: Site, target: Thing, names: dict[str, object]) -> list[str]:
+    """Returns the sources of a target as its call names them, or none if these names mean something else at the other call."""
+    words = owner.call.keywords
+    nodes = owner.call.arguments[1:] + ([words["sources"].value] if "sources" in words else [])
+    shown = [named_alike(owner, site, target, names, it) for it in nodes]
+    return [it for it in shown if it is not None] if None not in shown else []
 
 
 def library_of(project: Project, owner: Site) -> Site | None:

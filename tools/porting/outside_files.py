@@ -65,7 +65,7 @@ def assignments(project: Project, name: str) -> Iterator[tuple[File, tree.Assign
 
 def is_of_commands(statement: tree.Statement, name: str) -> bool:
     """Returns whether a statement names a variable in commands of custom targets alone."""
-    for expression in tree.expressions_of(statement):
+    for expression in statement.expressions():
         in_commands = {part for node in tree.inside(expression) if isinstance(node, tree.Call) and node.name == "custom_target"
                        and "command" in node.keywords for part in tree.inside(node.keywords["command"].value)}
         if any(isinstance(it, tree.Name) and it.text == name and it not in in_commands for it in tree.inside(expression)):

@@ -12,7 +12,10 @@ if TYPE_CHECKING:
     from typing import TypeVar
 
     T = TypeVar("T")
-COMPARISONS = {"==", "!=", "<", "<=", ">", ">="}
+# How strongly each operator binds its operands. `not` is the first word of `not in`.
+COMPARING, STRONGEST = 3, 5
+STRENGTHS = {"or": 1, "and": 2, **dict.fromkeys(("==", "!=", "<", "<=", ">", ">=", "in", "not"), COMPARING),
+             "+": 4, "-": 4, **dict.fromkeys("*/%", STRONGEST)}
 # How deep brackets and blocks may be nested.
 DEEPEST = 64
 # How deep the nodes of an expression may be nested: `1 + 2 + 3` is three deep. What walks them takes some calls for each.
@@ -23,6 +26,7 @@ sys.setrecursionlimit(max(sys.getrecursionlimit(), 12 * DEEPEST_NODE))
 class Parser:
     def __init__(self, text: str) -> None:
         self.text, self.tokens, self.at, self.depth = text, tokens_of(text), 0, 0
+        self.words = [it.text if it.kind in ("mark", "keyword") else "" for it in self.tokens]  # of the language, in the place of its token
 
     @property
     def token(self) -> Token:
@@ -32,7 +36,7 @@ class Parser:
         return SyntaxFault(line_at(self.text, self.token.start), why)
 
     def is_word(self, *words: str) -> bool:
-        return self.token.kind in ("mark", "keyword") and self.token.text in words
+        return self.words[self.at] in words
 
     def take(self) -> Token:
         token = self.token
@@ -129,8 +133,9 @@ class Parser:
 
     def whole_expression(self) -> tree.Node:
         """Reads an expression that is in no other."""
+        begun = self.at
         node = self.expression()
-        if tree.depth_of(node) > DEEPEST_NODE:
+        if self.at - begun > DEEPEST_NODE and tree.depth_of(node) > DEEPEST_NODE:
             raise SyntaxFault(line_at(self.text, node.start), "expressions are nested too deeply")
         return node
 
@@ -138,59 +143,29 @@ class Parser:
         self.depth += 1
         if self.depth > 4 * DEEPEST:
             raise self.fault("expressions are nested too deeply")
-        condition = self.either()
+        condition = self.operation()
         if self.is_word("?"):
             self.take()
-            yes = self.either()
+            yes = self.operation()
             self.expect(":")
-            no = self.either()
+            no = self.operation()
             condition = tree.Ternary(condition.start, no.end, condition, yes, no)
         self.depth -= 1
         return condition
 
-    def either(self) -> tree.Node:
-        left = self.both()
-        while self.is_word("or"):
-            self.take()
-            right = self.both()
-            left = tree.Binary(left.start, right.end, "or", left, right)
-        return left
-
-    def both(self) -> tree.Node:
-        left = self.comparison()
-        while self.is_word("and"):
-            self.take()
-            right = self.comparison()
-            left = tree.Binary(left.start, right.end, "and", left, right)
-        return left
-
-    def comparison(self) -> tree.Node:
-        left = self.sum()
-        operator = ""
-        if self.is_word(*COMPARISONS, "in"):
+    def operation(self, weakest: int = 1) -> tree.Node:
+        """Reads operands and the operators between them that bind at least as strongly as `weakest`. A comparison is not compared."""
+        left, strongest = self.unary(), STRONGEST
+        while weakest <= (strength := STRENGTHS.get(self.words[self.at], 0)) <= strongest:
             operator = self.take().text
-        elif self.is_word("not") and self.tokens[self.at + 1].text == "in":
-            self.at += 2
-            operator = "not in"
-        if not operator:
-            return left
-        right = self.sum()
-        return tree.Binary(left.start, right.end, operator, left, right)
-
-    def sum(self) -> tree.Node:
-        left = self.product()
-        while self.is_word("+", "-"):
-            operator = self.take().text
-            right = self.product()
+            if operator == "not":
+                if self.token.text != "in":
+                    self.at -= 1
+                    break
+                operator = f"not {self.take().text}"
+            right = self.operation(strength + 1)
             left = tree.Binary(left.start, right.end, operator, left, right)
-        return left
-
-    def product(self) -> tree.Node:
-        left = self.unary()
-        while self.is_word("*", "/", "%"):
-            operator = self.take().text
-            right = self.unary()
-            left = tree.Binary(left.start, right.end, operator, left, right)
+            strongest = strength - (strength == COMPARING)
         return left
 
     def unary(self) -> tree.Node:

@@ -91,9 +91,9 @@ class Writer(Needs):
     def __init__(self, project: Project, site: Site) -> None:
         self.site, self.call = site, site.call
         self.words = site.call.keywords
-        things = project.known.things[site.call]
-        super().__init__(project, things[-1].names if len(things) == 1 else {})
+        super().__init__(project, self.names_at(project.known.things[site.call]))
         self.before: list[str] = []
+        self.is_both = False
         self.is_data = "dataonly" in self.words and self.value(self.words["dataonly"].value) is True
 
     def value(self, node: tree.Node) -> object:
@@ -199,7 +199,8 @@ class Writer(Needs):
             if is_target and self.generated_name(library) is None:
                 own += self.own_flags(library, own)
                 self.seen.add(id(library))
-                needs = [] if library.function == "shared_library" else self.needs_below(library)
+                needs = [] if self.is_shared_alone(library) else self.needs_below(library)
+                self.is_both = self.is_both or library.name in self.project.both
                 (public if library.function == "static_library" else private).extend(needs)
             else:
                 named += self.needs_of_item(library, True, True)
@@ -233,9 +234,11 @@ class Writer(Needs):
         # A package that the call names too is wanted once, with the versions of both.
         below = merged(self.as_parts("requires_private", [it for it in hidden if it.where == "requires"]), requires_private)
         requires_private = [it for it in requires_private if it.text is None or name_of(it.text) not in names_of(below)]
-        libs_below = self.as_parts("libs_private", [it for it in hidden if it.where == "libs"])
-        requires_private = below_shared(below) + requires_private
-        libs_private = self.private_libs() + below_shared(libs_below)
+        private_needs = self.private_needs()
+        libs_private = self.as_parts("libs_private", private_needs)
+        libs_static, libs_shared = self.libs_below([it for it in hidden if it.where == "libs"], private_needs)
+        requires_private = self.below_shared(below) + requires_private
+        libs_private += self.below_shared(libs_shared)
         cflags = [] if self.is_data else self.include_flags() + self.parts("extra_cflags")
         cflags += self.as_parts("cflags", [it for it in public if it.where == "cflags"])
         return {
@@ -244,18 +247,30 @@ class Writer(Needs):
             "name": self.word("name", escaped(main.name or "") if main else "meson.project_name()"),
             "description": self.word("description", f"meson.project_name() + {escaped(': ' + (main.name or ''))}" if main else "''"),
             "url": self.word("url", "''"), "version": self.word("version", "meson.project_version()"),
-            "requires": joined(", ", requires + below_static(below)),
+            "requires": joined(", ", requires + self.below_static(below)),
             "requires_private": joined(", ", requires_private), "conflicts": joined(" ", self.parts("conflicts")),
-            "libs": joined(" ", libs + below_static(libs_below)), "libs_private": joined(" ", libs_private),
+            "libs": joined(" ", libs + self.below_static(libs_static)), "libs_private": joined(" ", libs_private),
             "cflags": joined(" ", cflags)}
 
-    def private_libs(self) -> list[Part]:
-        if "libraries_private" not in self.words:
-            return []
-        needs: list[Need] = []
-        for item in flat(self.value(self.words["libraries_private"].value)):
-            needs += self.needs_of_item(item.value, item.is_sure)
-        return self.as_parts("libs_private", [it for it in needs if it.where == "libs"])
+    def below_static(self, parts: list[Part]) -> list[Part]:
+        """Returns what a library needs below it, where it is static: that belongs to the public lines then."""
+        return [Part(None, f"({STATIC} ? {list_of(parts)} : [])", True)] if parts and not self.is_both else []
+
+    def below_shared(self, parts: list[Part]) -> list[Part]:
+        """Returns what a library needs below it, where it is shared, as a library of both kinds always is."""
+        return parts if self.is_both else [Part(None, f"({STATIC} ? [] : {list_of(parts)})", True)] if parts else []
+
+    def libs_below(self, needs: list[Need], private: list[Need]) -> tuple[list[Part], list[Part]]:
+        """Returns the libraries below a static library, and those below a shared one, which the private ones of the call don't name."""
+        named = {(it.text, it.condition) for it in private}
+        others = [it for it in needs if named.isdisjoint([(it.text, ""), (it.text, it.condition)])]
+        found = self.as_parts("libs_private", others)
+        return (found if len(others) == len(needs) else self.as_parts("libs", needs)), found
+
+    def private_needs(self) -> list[Need]:
+        """Returns what `libraries_private:` needs when it is linked."""
+        items = flat(self.value(self.words["libraries_private"].value)) if "libraries_private" in self.words else []
+        return [need for item in items for need in self.needs_of_item(item.value, item.is_sure) if need.where == "libs"]
 
     def include_flags(self) -> list[Part]:
         if "subdirs" not in self.words:
@@ -298,15 +313,6 @@ class Writer(Needs):
         if isinstance(table, Table) and table.is_whole and all(isinstance(it, str) for it in table.pairs.values()):
             return [Part(f"{key}={value}") for key, value in table.pairs.items()]
         raise NotSure("its variables are not known")
-
-
-def below_static(parts: list[Part]) -> list[Part]:
-    """Returns what a library needs below it, where it is static: that belongs to the public lines then."""
-    return [Part(None, f"({STATIC} ? {list_of(parts)} : [])", True)] if parts else []
-
-
-def below_shared(parts: list[Part]) -> list[Part]:
-    return [Part(None, f"({STATIC} ? [] : {list_of(parts)})", True)] if parts else []
 
 
 def list_of(parts: list[Part]) -> str:

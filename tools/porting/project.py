@@ -3,7 +3,6 @@ from __future__ import annotations
 
 import functools
 import os
-import subprocess
 from collections.abc import Iterable, Iterator
 
 from tools import records as dataclasses
@@ -13,6 +12,10 @@ from tools.porting.edits import Change, Edit, Taken, changed, do_clash
 from tools.porting.journal import place_of
 from tools.porting.lexer import Lines, SyntaxFault
 from tools.porting.parser import parse
+
+TYPE_CHECKING = False
+if TYPE_CHECKING:
+    import subprocess
 
 # What all passes over the files may cost: steps of evaluation, and characters that are read as statements.
 BUDGET, STEP = 12_000_000, 6  # a step costs as much as six characters
@@ -34,17 +37,26 @@ class File:
     body: list[tree.Statement]
 
     @functools.cached_property
+    def statements(self) -> list[tree.Statement]:
+        """Returns all statements, those of bodies too."""
+        return tree.statements_in(self.body)
+
+    @functools.cached_property
     def calls(self) -> list[tuple[tree.Statement, tree.Call]]:
-        """Yields all calls, each with the statement that it is in."""
-        return [(statement, node) for statement in tree.statements_in(self.body) for expression in tree.expressions_of(statement)
+        """Returns all calls, each with the statement that it is in."""
+        return [(statement, node) for statement in self.statements for expression in statement.expressions()
                 for node in tree.inside(expression) if isinstance(node, tree.Call)]
+
+    @functools.cached_property
+    def names(self) -> set[str]:
+        """Returns the names of all calls and of their keywords."""
+        return {node.name for _, node in self.calls}.union(*(node.keywords for _, node in self.calls))
 
     @functools.cached_property
     def variables(self) -> set[str]:
         """Returns the names of variables that are used or assigned in it."""
-        statements = list(tree.statements_in(self.body))
-        used = {name for statement in statements for it in tree.expressions_of(statement) for name in tree.names_in(it)}
-        return used | {it.name for it in statements if isinstance(it, tree.Assignment)}
+        used = {name for statement in self.statements for it in statement.expressions() for name in tree.names_in(it)}
+        return used | {it.name for it in self.statements if isinstance(it, tree.Assignment)}
 
     @functools.cached_property
     def lines(self) -> Lines:
@@ -102,6 +114,11 @@ class Project:
         self.outside: dict[str, str] = {}  # definition files that are not read, and why
         self.marked: set[str] = set()  # files that begin with MARK, which is no part of their text here
         self.pc_files: dict[str, str] = {}  # by the name of a library: its .pc file, without its ending
+        self.both: set[str] = set()  # the names of libraries that were written as a shared and a static one
+        self.looks = self.doubted = 0  # how often the files were looked at, and a doubt was another one
+        self.known_usual: evaluate.Evaluation | None = None
+        self.entered: list[File] = []  # the definition files that are reached, in the order in which they are
+        self.names: set[str] = set()  # of all calls and keywords of these files and of the option file
         self.known = self.look()
 
     def exists(self, path: str) -> bool:
@@ -145,15 +162,25 @@ class Project:
             raise Unreadable(f"{os.path.join(self.root, 'meson.build')}: there is no such file")
         most = min(evaluate.MOST_STEPS, max(BUDGET - self.spent, 0) // STEP)
         self.known = evaluate.Evaluation(self.root, lambda path: self.body_of(path), self.options(), most)
-        self.spent += STEP * self.known.steps + sum(len(self.files[it].text) for it in self.known.entered if it in self.files)
+        self.entered = [self.files[it] for it in self.known.entered]
+        self.spent += STEP * self.known.steps + sum(len(it.text) for it in self.entered)
+        options = self.option_file()
+        self.names = set().union(*(it.names for it in self.entered), options.names if options else ())
+        self.looks, self.known_usual = self.looks + 1, None
         return self.known
 
     def usual(self) -> evaluate.Evaluation:
         """Returns what happens where each option has its default."""
-        most = min(evaluate.MOST_STEPS, max(BUDGET - self.spent, 0) // STEP)
-        usual = evaluate.Evaluation(self.root, lambda path: self.body_of(path), self.options(), most, is_usual=True)
-        self.spent += STEP * usual.steps
-        return usual
+        if self.known_usual is None:
+            most = min(evaluate.MOST_STEPS, max(BUDGET - self.spent, 0) // STEP)
+            self.known_usual = evaluate.Evaluation(self.root, lambda path: self.body_of(path), self.options(), most, is_usual=True)
+            self.spent += STEP * self.known_usual.steps
+        return self.known_usual
+
+    @property
+    def state(self) -> tuple[int, ...]:
+        """Returns numbers that are the same as before if a rule would find the same as before."""
+        return self.looks, self.doubted, len(self.refused), len(self.pc_files)
 
     @property
     def has_spent_all(self) -> bool:
@@ -171,8 +198,9 @@ class Project:
 
     def sites(self, *names: str, method: bool | None = None) -> Iterator[Site]:
         """Yields the calls of these functions or methods that may be carried out; of all where no name is given."""
-        for path in self.known.entered:
-            file = self.files[path]
+        for file in self.entered:
+            if names and file.names.isdisjoint(names):
+                continue
             for statement, node in file.calls:
                 if ((not names or node.name in names) and node in self.known.reached and method in (None, node.receiver is not None)):
                     yield Site(file, statement, node)
@@ -185,10 +213,10 @@ class Project:
 
     def statements(self) -> Iterator[tuple[File, tree.Statement]]:
         """Yields the statements that may be carried out."""
-        for path in self.known.entered:
-            for statement in tree.statements_in(self.files[path].body):
+        for file in self.entered:
+            for statement in file.statements:
                 if statement in self.known.reached:
-                    yield self.files[path], statement
+                    yield file, statement
 
     def make(self, rule: str, changes: Iterable[Change]) -> bool:
         """Makes the changes that don't get in each other's way; whether there were any."""
@@ -238,6 +266,7 @@ class Project:
         return made
 
     def doubt(self, site: Site, why: str) -> None:
+        self.doubted += self.doubts.get(site.call) != why
         self.doubts[site.call] = why
 
     def note(self, site: Site, rule: str, text: str) -> None:

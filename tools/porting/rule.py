@@ -1,8 +1,9 @@
 """Defines a rule, and the means to write one."""
 from __future__ import annotations
 
+import importlib
 import os
-from collections.abc import Callable, Iterable, Iterator
+from collections.abc import Iterable, Iterator
 
 from tools import records as dataclasses
 from tools.porting import tree
@@ -20,12 +21,25 @@ LIBRARIES = ("static_library", "shared_library", "library", "both_libraries")
 @dataclasses.dataclass(frozen=True)
 class Rule:
     """Holds a rule. The rule `is_sure` if what is built and installed stays as it was, and so do the tests. Other rules need an option:
-    their name or, if they keep what is built and installed, `--all`."""
+    their name or, if they keep what is built and installed, `--all`.
+
+    `place` names the module and the function that find its changes. They find none unless calls or keywords have one of the names in
+    `words`; `a+b` needs both names. Without words the rule is always tried."""
     name: str
     does: str
-    change: Callable[[Project], Iterable[Change]]
+    place: str
+    words: str = ""
     is_sure: bool = True
     keeps: bool = True
+
+    def may_change(self, project: Project) -> bool:
+        """Returns whether the project has the names that the rule is about."""
+        return not self.words or any(project.names.issuperset(it.split("+")) for it in self.words.split())
+
+    def change(self, project: Project) -> Iterable[Change]:
+        """Returns the changes of the rule. Its module is loaded now, since most projects need few of them."""
+        module, _, function = self.place.partition(".")
+        return getattr(importlib.import_module(f"tools.porting.{module}"), function)(project)
 
 
 def drop_keyword(site: Site, name: str, what: str = "") -> Change:
@@ -121,17 +135,16 @@ def texts_at(project: Project, node: tree.Node | None) -> list[str] | None:
 
 def uses_of(project: Project, name: str) -> Iterator[tuple[File, tree.Statement]]:
     """Yields the statements that use a variable's value, reached or not."""
-    for path in project.known.entered:
-        for statement in tree.statements_in(project.files[path].body):
-            if any(name in tree.names_in(it) for it in tree.expressions_of(statement)):
-                yield project.files[path], statement
+    for file in project.entered:
+        for statement in file.statements if name in file.variables else ():
+            if any(name in tree.names_in(it) for it in statement.expressions()):
+                yield file, statement
 
 
 def free_name(project: Project, wanted: str) -> str:
     """Returns a variable's name that no file has."""
-    files = [project.files[path] for path in project.known.entered]
     number, name = 1, wanted
-    while any(name in it.variables for it in files):
+    while any(name in it.variables for it in project.entered):
         number += 1
         name = f"{wanted}_{number}"
     return name
@@ -168,15 +181,15 @@ def of_compiler(project: Project, *names: str) -> Iterator[Site]:
 
 def languages_of_real(project: Project) -> set[str]:
     """Returns the languages that the real Meson alone adds to the project."""
-    calls = [it for path in project.known.entered for statement in tree.statements_in(project.files[path].body)
-             for expression in tree.expressions_of(statement) for it in tree.inside(expression)
+    calls = [it for file in project.entered for statement in file.statements
+             for expression in statement.expressions() for it in tree.inside(expression)
              if isinstance(it, tree.Call) and it.name == "add_languages" and it not in project.known.reached]
     return {it.value for call in calls for it in call.arguments if isinstance(it, tree.Text)}
 
 
 def comparison_of(site: Site) -> tree.Binary | None:
     """Returns the comparison whose left side is a call."""
-    for expression in tree.expressions_of(site.statement):
+    for expression in site.statement.expressions():
         for node in tree.inside(expression):
             if isinstance(node, tree.Binary) and node.left is site.call:
                 return node

@@ -28,8 +28,8 @@ class Names:
     """Makes names of checks that differ from one another and from what a project's checks name."""
 
     def __init__(self, project: Project) -> None:
-        self.taken = {it.value for path in project.known.entered for statement in tree.statements_in(project.files[path].body)
-                      for expression in tree.expressions_of(statement) for it in tree.inside(expression) if isinstance(it, tree.Text)}
+        self.taken = {it.value for file in project.entered for statement in file.statements
+                      for expression in statement.expressions() for it in tree.inside(expression) if isinstance(it, tree.Text)}
 
     def free(self, wanted: str) -> str:
         number, name = 1, wanted
@@ -79,6 +79,9 @@ def sources(project: Project) -> Iterator[Change]:
             continue
         if is_link and not is_linked_whole(site, code):
             project.doubt(site, "links: its source has no `main`, and its arguments no '-shared'")
+            continue
+        if not is_link and (change := without_compiling(site)) is not None:
+            yield change
             continue
         plain = names.free(wanted_name(project, site))
         name = Named(plain, f"{escaped(plain + '_')} + {ending}" if ending else escaped(plain))
@@ -135,6 +138,18 @@ def source_of(project: Project, site: Site) -> Source | None:
         return None
     place = f"(meson.current_source_dir() / {escaped(path_from(site.folder, file.path))})"
     return Source(f"'#include \"' + {place} + '\"'", [text])
+
+
+def without_compiling(site: Site) -> Change | None:
+    """Drops the argument `-c` of a check that only compiles, as it does without."""
+    word = site.call.keywords.get("args")
+    value = tree.plain(word.value) if word else None
+    nodes = value.items if isinstance(value, tree.List) else [value]
+    kept = [it for it in nodes if not (isinstance(it, tree.Text) and it.value == "-c")]
+    if word is None or value is None or len(kept) == len(nodes):
+        return None
+    shown = f"args: [{', '.join(map(site.file.source, kept))}]"
+    return site.change(f"{site.call.name}: the argument -c is dropped", (word.start, word.end, shown))
 
 
 def warnings(site: Site) -> list[tuple[int, int, str]]:

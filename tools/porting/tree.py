@@ -1,6 +1,7 @@
 """Defines the tree of a definition file. Each node knows where it begins and ends in the text."""
 from __future__ import annotations
 
+import functools
 from collections.abc import Iterator
 
 from tools import records as dataclasses
@@ -10,6 +11,10 @@ from tools import records as dataclasses
 class Node:
     start: int
     end: int
+
+    def parts(self) -> list[Node]:
+        """Returns the nodes right below it, in an expression."""
+        return []
 
 
 @dataclasses.dataclass(eq=False)
@@ -38,10 +43,16 @@ class Truth(Node):
 class List(Node):
     items: list[Node]
 
+    def parts(self) -> list[Node]:
+        return self.items
+
 
 @dataclasses.dataclass(eq=False)
 class Dictionary(Node):
     pairs: list[tuple[Node, Node]]
+
+    def parts(self) -> list[Node]:
+        return [part for pair in self.pairs for part in pair]
 
 
 @dataclasses.dataclass(eq=False)
@@ -49,6 +60,9 @@ class Keyword(Node):
     """Holds `name: value` among arguments."""
     name: str
     value: Node
+
+    def parts(self) -> list[Node]:
+        return [self.value]
 
 
 @dataclasses.dataclass(eq=False)
@@ -60,13 +74,16 @@ class Call(Node):
     opened: int
     name_start: int
 
-    @property
+    @functools.cached_property
     def arguments(self) -> list[Node]:
         return [it for it in self.items if not isinstance(it, Keyword)]
 
-    @property
+    @functools.cached_property
     def keywords(self) -> dict[str, Keyword]:
         return {it.name: it for it in self.items if isinstance(it, Keyword)}
+
+    def parts(self) -> list[Node]:
+        return [self.receiver, *self.items] if self.receiver else self.items
 
 
 @dataclasses.dataclass(eq=False)
@@ -74,11 +91,17 @@ class Index(Node):
     receiver: Node
     index: Node
 
+    def parts(self) -> list[Node]:
+        return [self.receiver, self.index]
+
 
 @dataclasses.dataclass(eq=False)
 class Unary(Node):
     operator: str
     operand: Node
+
+    def parts(self) -> list[Node]:
+        return [self.operand]
 
 
 @dataclasses.dataclass(eq=False)
@@ -87,6 +110,9 @@ class Binary(Node):
     left: Node
     right: Node
 
+    def parts(self) -> list[Node]:
+        return [self.left, self.right]
+
 
 @dataclasses.dataclass(eq=False)
 class Ternary(Node):
@@ -94,15 +120,26 @@ class Ternary(Node):
     yes: Node
     no: Node
 
+    def parts(self) -> list[Node]:
+        return [self.condition, self.yes, self.no]
+
 
 @dataclasses.dataclass(eq=False)
 class Group(Node):
     inner: Node
 
+    def parts(self) -> list[Node]:
+        return [self.inner]
+
 
 @dataclasses.dataclass(eq=False)
 class Statement(Node):
-    pass
+    def expressions(self) -> list[Node]:
+        """Returns the expressions that it has itself, not those of its body."""
+        return []
+
+    def bodies(self) -> list[list[Statement]]:
+        return []
 
 
 @dataclasses.dataclass(eq=False)
@@ -111,10 +148,16 @@ class Assignment(Statement):
     operator: str
     value: Node
 
+    def expressions(self) -> list[Node]:
+        return [self.value]
+
 
 @dataclasses.dataclass(eq=False)
 class Expression(Statement):
     value: Node
+
+    def expressions(self) -> list[Node]:
+        return [self.value]
 
 
 @dataclasses.dataclass(eq=False)
@@ -133,12 +176,24 @@ class Branch(Node):
 class If(Statement):
     branches: list[Branch]
 
+    def expressions(self) -> list[Node]:
+        return [it.condition for it in self.branches if it.condition]
+
+    def bodies(self) -> list[list[Statement]]:
+        return [it.body for it in self.branches]
+
 
 @dataclasses.dataclass(eq=False)
 class Foreach(Statement):
     names: list[str]
     items: Node
     body: list[Statement]
+
+    def expressions(self) -> list[Node]:
+        return [self.items]
+
+    def bodies(self) -> list[list[Statement]]:
+        return [self.body]
 
 
 def plain(node: Node) -> Node:
@@ -148,40 +203,19 @@ def plain(node: Node) -> Node:
     return node
 
 
-def parts_of(node: Node) -> list[Node]:
-    """Returns the nodes right below a node of an expression."""
-    match node:
-        case List():
-            return node.items
-        case Dictionary():
-            return [part for pair in node.pairs for part in pair]
-        case Keyword():
-            return [node.value]
-        case Call():
-            return [*([node.receiver] if node.receiver else []), *node.items]
-        case Index():
-            return [node.receiver, node.index]
-        case Unary():
-            return [node.operand]
-        case Binary():
-            return [node.left, node.right]
-        case Ternary():
-            return [node.condition, node.yes, node.no]
-        case Group():
-            return [node.inner]
-    return []
-
-
 def inside(node: Node) -> Iterator[Node]:
     """Yields a node and all nodes in it, receivers first."""
-    waiting = [(node, False)]
+    return reversed(parts_first(node))
+
+
+def parts_first(node: Node) -> list[Node]:
+    """Returns a node and all nodes in it, each before its parts, and the last part first."""
+    found, waiting = [], [node]
     while waiting:
-        it, has_parts_behind = waiting.pop()
-        if has_parts_behind:
-            yield it
-        else:
-            waiting.append((it, True))
-            waiting += [(part, False) for part in reversed(parts_of(it))]
+        it = waiting.pop()
+        found.append(it)
+        waiting += it.parts()
+    return found
 
 
 def depth_of(node: Node) -> int:
@@ -190,7 +224,7 @@ def depth_of(node: Node) -> int:
     while waiting:
         it, depth = waiting.pop()
         deepest = max(deepest, depth)
-        waiting += [(part, depth + 1) for part in parts_of(it)]
+        waiting += [(part, depth + 1) for part in it.parts()]
     return deepest
 
 
@@ -208,30 +242,11 @@ def names_set_by(statement: Statement) -> list[str]:
     return []
 
 
-def expressions_of(statement: Statement) -> list[Node]:
-    """Returns the expressions that a statement has itself, not those of its body."""
-    match statement:
-        case Assignment() | Expression():
-            return [statement.value]
-        case If():
-            return [it.condition for it in statement.branches if it.condition]
-        case Foreach():
-            return [statement.items]
-    return []
-
-
-def bodies_of(statement: Statement) -> list[list[Statement]]:
-    match statement:
-        case If():
-            return [it.body for it in statement.branches]
-        case Foreach():
-            return [statement.body]
-    return []
-
-
-def statements_in(body: list[Statement]) -> Iterator[Statement]:
-    """Yields all statements of a body and of the bodies in it."""
+def statements_in(body: list[Statement]) -> list[Statement]:
+    """Returns all statements of a body and of the bodies in it."""
+    found: list[Statement] = []
     for statement in body:
-        yield statement
-        for inner in bodies_of(statement):
-            yield from statements_in(inner)
+        found.append(statement)
+        for inner in statement.bodies():
+            found += statements_in(inner)
+    return found

@@ -8,7 +8,6 @@ from collections.abc import Callable
 
 from tools.asking.processes import MOST_TOLD, NoAnswer, run
 from tools.ending import one_line
-from tools.explaining.command import explained
 from tools.explaining.run import LONGEST, Asked, in_place
 from tools.linked_copy import linked_copy
 
@@ -34,25 +33,28 @@ def machine_file(program: str, root: str, words: list[str]) -> bytes:
     return run(command, seconds=LONGEST, variables=dict(os.environ), most=MOST_TOLD, is_asked_first=True).printed.encode()
 
 
-def first_fault(program: str, root: str, changed: dict[str, str], words: list[str], show: Callable[[str], None]) -> str | None:
-    """Returns what the program says first of the sources, in which these files are others, or None if it takes them."""
+def first_fault(program: str, root: str, changed: dict[str, str], words: list[str], show: Callable[[str], None]) -> tuple[str | None, bytes]:
+    """Returns what the program says first of the sources, in which these files are others, or None if it takes them. Also returns the
+    machine file that it got."""
     with tempfile.TemporaryDirectory(prefix="meson-port-") as scratch:
         folder = os.path.join(scratch, "sources") if changed else root
         if changed:
             linked_copy(root, folder, changed)
+        machine = b""
         try:
-            return of_sources(program, folder, words, show)
+            machine = machine_file(program, folder, words)
+            if not machine:
+                show("no machine file could be made, so no dependency and no check is found")
+            return of_sources(program, folder, words, machine), machine
         except (OSError, NoAnswer) as error:
-            return one_line(f"the program {program} could not be run: {error}")
+            return one_line(f"the program {program} could not be run: {error}"), machine
 
 
-def of_sources(program: str, root: str, words: list[str], show: Callable[[str], None]) -> str | None:
-    machine = machine_file(program, root, words)
-    if not machine:
-        show("no machine file could be made, so no dependency and no check is found")
+def of_sources(program: str, root: str, words: list[str], machine: bytes) -> str | None:
     asked = Asked(program, root, [*words, *(["--native-file", "native.ini"] if machine else []), BUILD], machine or None)
     outcome = in_place(asked)
     if outcome.fault is not None:
+        from tools.explaining.command import explained
         return "\n".join(explained(asked, outcome.fault))
     if outcome.status == 0:
         return None

@@ -87,6 +87,7 @@ KEYWORDS = {
 }
 for _name in ("executable", "static_library", "shared_library"):
     KEYWORDS[_name] = KEYWORDS["library"]
+KEYWORDS["static_library"] = {**KEYWORDS["library"], "name_prefix": "a name that begins with lib", "name_suffix": "the usual ending"}
 # Formats of configure_file that are taken.
 FORMATS = ("meson",)
 
@@ -103,21 +104,23 @@ class Unsupported:
 def unsupported_in(project: Project) -> list[Unsupported]:
     """Returns all places that this program refuses where it comes to them."""
     found: list[Unsupported] = []
+    left = modules_left(project)
     for site in project.sites():
         doubt = project.doubts.get(site.call)
-        for text in refused(project, site) or ([doubt] if doubt else []):
+        for text in refused(project, site, left) or ([doubt] if doubt else []):
             is_sure = site.call not in project.known.called_maybe
             found.append(Unsupported(site.file.path, site.file.line(site.call.start), doubt or text, is_sure))
     return list(dict.fromkeys(found))
 
 
-def refused(project: Project, site: Site) -> list[str]:
+def refused(project: Project, site: Site, left: set[str]) -> list[str]:
+    """Returns why this program refuses a call; `left` are the variables of modules that the real Meson alone imports."""
     call, texts = site.call, []
     if call.receiver is None and call.name in FUNCTIONS:
         texts.append(f"{shown_name(project, site)}: {FUNCTIONS[call.name]}")
     if call.receiver is None and call.name == "files" and any(isinstance(it, str) and it.startswith("/") for it in paths_of(project, call)):
         texts.append("files: a path outside of the project: an option, whose value is the path, in a command")
-    if isinstance(call.receiver, tree.Name) and call.receiver.text in modules_left(project):
+    if isinstance(call.receiver, tree.Name) and call.receiver.text in left:
         texts.append(f"{call.receiver.text}.{call.name}: the module is left to the real Meson")
     if call.receiver is not None:
         for choice in choices_of(project.known.value(call.receiver)):
@@ -154,7 +157,8 @@ def refused_of_project(project: Project, site: Site) -> list[str]:
         if isinstance(node, tree.Call) and node is not site.call and is_asked_too_early(node):
             texts.append(project.doubts.get(node, f"project: {node.name} can't be called in its arguments"))
         if isinstance(node, tree.Text) and node.value.replace(" ", "") == "default_library=both":
-            texts.append("project: default_library=both: shared_library and static_library of one name")
+            texts.append("project: default_library=both: shared_library and static_library of one name, which "
+                         "`--also both-by-default` writes")
     return texts
 
 
@@ -166,7 +170,7 @@ def is_asked_too_early(call: tree.Call) -> bool:
 
 def modules_left(project: Project) -> set[str]:
     """Returns the variables of modules that are imported by the real Meson alone."""
-    return {it.name for path in project.known.entered for it in tree.statements_in(project.files[path].body)
+    return {it.name for file in project.entered for it in file.statements
             if isinstance(it, tree.Assignment) and isinstance(it.value, tree.Call) and it.value.name == "import"
             and it not in project.known.reached}
 

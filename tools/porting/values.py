@@ -14,6 +14,8 @@ from tools.porting import tree
 MOST_CHOICES = 24
 # Greater texts, lists and numbers than these are values that aren't known: they grow with each round of a loop, and cost the more.
 MOST_CHARACTERS, MOST_ITEMS, MOST_LEVELS, MOST_NUMBER = 1 << 24, 1 << 16, 64, 1 << 127
+# A text of fewer characters costs no step.
+LIGHT = 1 << 10
 
 
 @dataclasses.dataclass(frozen=True)
@@ -27,11 +29,12 @@ class Either:
     choices: tuple
 
 
-@dataclasses.dataclass(eq=False)
 class Item:
-    """Holds an item of a list, which `is_sure` or may be there."""
-    value: object
-    is_sure: bool = True
+    """Holds an item of a list, which `is_sure` or may be there. It doesn't change."""
+    __slots__ = ("value", "is_sure")
+
+    def __init__(self, value: object, is_sure: bool = True) -> None:
+        self.value, self.is_sure = value, is_sure
 
 
 @dataclasses.dataclass(eq=False)
@@ -47,8 +50,12 @@ class Many:
     @functools.cached_property
     def size(self) -> tuple[int, int]:
         """Returns how many items it has at every depth, and how deep these are nested."""
-        inner = [size_of(it.value) for it in self.items if isinstance(it.value, (Many, Either))]
-        return len(self.items) + sum(it[0] for it in inner), 1 + max((it[1] for it in inner), default=0)
+        count, levels = len(self.items), 0
+        for item in self.items:
+            if type(item.value) in HOLDERS:
+                below = size_of(item.value)
+                count, levels = count + below[0], max(levels, below[1])
+        return count, 1 + levels
 
 
 @dataclasses.dataclass(eq=False)
@@ -80,6 +87,9 @@ class Thing:
 
 
 UNKNOWN = Unknown()
+# The types of values whose size counts, of those that cost nothing, and of those that are equal if they are written alike.
+HOLDERS, COSTLESS, PLAIN = {Many, Either}, {Thing, Unknown, bool}, {str, int, bool}
+KINDS = {str: "text", bool: "truth", int: "integer", Many: "list", Table: "dictionary"}
 # Replaces the project's folder in a known text: that folder is another one on each machine.
 ROOT = "\0root"
 
@@ -88,8 +98,13 @@ def size_of(value: object) -> tuple[int, int]:
     """Returns how many items a value has at every depth of lists, in all that it may be, and how deep they are nested."""
     if isinstance(value, Many):
         return value.size
-    sizes = [size_of(it) for it in value.choices] if isinstance(value, Either) else []
-    return sum(it[0] for it in sizes), max((it[1] for it in sizes), default=0)
+    sizes = [size_of(it) for it in value.choices if type(it) in HOLDERS] if isinstance(value, Either) else []
+    return (sum(it[0] for it in sizes), max(it[1] for it in sizes)) if sizes else (0, 0)
+
+
+def is_light(value: object) -> bool:
+    """Returns whether a value is surely within its bounds, and costs nothing."""
+    return type(value) in COSTLESS or isinstance(value, str) and len(value) < LIGHT
 
 
 def bounded(value: object) -> object:
@@ -107,7 +122,7 @@ def bounded(value: object) -> object:
 def cost_of(value: object) -> int:
     """Returns what it costs to make a value or to look at it, in steps."""
     if isinstance(value, str):
-        return len(value) >> 10
+        return len(value) // LIGHT
     return len(value.pairs) >> 3 if isinstance(value, Table) else size_of(value)[0] >> 4
 
 
@@ -131,7 +146,7 @@ def kind_of(value: object) -> str:
         return kinds.pop() if len(kinds) == 1 else ""
     if isinstance(value, Thing):
         return value.kind
-    return {str: "text", bool: "truth", int: "integer", Many: "list", Table: "dictionary"}.get(type(value), "")
+    return KINDS.get(type(value), "")
 
 
 def choices_of(value: object) -> tuple:
@@ -140,16 +155,23 @@ def choices_of(value: object) -> tuple:
 
 def is_same(a: object, b: object) -> bool:
     """Returns whether two values count as one; targets of one name, that are made in two branches, do."""
+    if a is b:
+        return True
     if isinstance(a, Thing) and isinstance(b, Thing) and a.kind == b.kind == "target" and a.name is not None:
         return a.name == b.name and a.function == b.function and a.path == b.path
-    return a is b or (type(a) is type(b) and isinstance(a, (str, int, bool, Unknown)) and a == b)
+    return type(a) is type(b) and isinstance(a, (str, int, bool, Unknown)) and a == b
 
 
 def key_of(value: object) -> object:
     """Returns what two values have in common that count as one, as `is_same` says."""
+    kind = type(value)
+    if kind in PLAIN:
+        return kind, value
+    if isinstance(value, Unknown):
+        return kind, value.kind
     if isinstance(value, Thing) and value.kind == "target" and value.name is not None:
         return "target", value.name, value.function, value.path
-    return (type(value), value) if isinstance(value, (str, int, Unknown)) else id(value)
+    return id(value)
 
 
 def distinct(values: Iterable[object]) -> list[object]:
@@ -162,14 +184,19 @@ def distinct(values: Iterable[object]) -> list[object]:
 
 def either(values: Iterable[object]) -> object:
     """Returns what is known of one of several values."""
-    found = distinct(choice for value in values for choice in choices_of(value))
+    values = list(values)
+    if len(values) == 1 and type(values[0]) is not Either:
+        return values[0]
+    found = distinct([choice for value in values for choice in choices_of(value)])
     if len(found) == 1:
         return found[0]
-    if all(isinstance(it, Many) for it in found) and found:
+    if found and all([isinstance(it, Many) for it in found]):
         result = found[0]
         for it in found[1:]:
             result = joined_lists(result, it)
         return result
+    if found and len(found) <= MOST_CHOICES and not any([isinstance(it, Unknown) for it in found]):
+        return Either(tuple(found))
     kinds = {kind_of(it) for it in found}
     kind = kinds.pop() if len(kinds) == 1 else ""
     return Unknown(kind) if len(found) > MOST_CHOICES or not found or Unknown(kind) in found else Either(tuple(found))
@@ -177,13 +204,14 @@ def either(values: Iterable[object]) -> object:
 
 def joined_lists(a: Many, b: Many) -> Many:
     """Returns a list that is one of two: what both begin with stays, the rest may be there."""
-    same = 0
-    while same < min(len(a.items), len(b.items)) and is_same(a.items[same].value, b.items[same].value):
-        same += 1
-    first = [Item(x.value, x.is_sure and y.is_sure) for x, y in zip(a.items[:same], b.items[:same])]
-    rest = [Item(it.value, False) for it in [*a.items[same:], *b.items[same:]]]
-    kept = [Item(it, False) for it in distinct(it.value for it in rest)]
-    return Many([*first, *kept], a.is_whole and b.is_whole)
+    items: list[Item] = []
+    for x, y in zip(a.items, b.items):
+        if not is_same(x.value, y.value):
+            break
+        items.append(x if y.is_sure or not x.is_sure else Item(x.value, False))
+    same = len(items)
+    items += [Item(it, False) for it in distinct([it.value for it in [*a.items[same:], *b.items[same:]]])]
+    return Many(items, a.is_whole and b.is_whole)
 
 
 def flat(value: object, is_sure: bool = True) -> list[Item]:
