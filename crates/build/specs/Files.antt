@@ -1,4 +1,5 @@
 -- Defines the files that a target makes.
+use Prim.Native.Char.{code}
 use Rattle.std.specs.Prelude.{ℕ, Bool, true, false, ◌==◌, List, [], ◌∷◌, ◌++◌, map, bytes_eq, codes, Option, Some, None, option_map}
 use Rattle.std.specs.Prelude.{if◌then◌else◌}
 use Rattle.build.specs.edge.Texts.{Path, Text}
@@ -27,7 +28,7 @@ is_library _ = true
 -- Returns the first number of a version: `1` of `1.2.3`.
 abbrev pub first_number : Text → Text
 first_number [] = []
-first_number (b ∷ bs) = if b == 46 then [] else b ∷ first_number bs
+first_number (b ∷ bs) = if b == code "." then [] else b ∷ first_number bs
 
 -- Returns `soversion`, or the first number of `version`.
 abbrev pub so_number : Option Text → Option Text → Option Text

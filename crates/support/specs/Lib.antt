@@ -1,4 +1,6 @@
 pub mod Limits
+pub mod OptionSteps
+pub mod ResultSteps
 pub mod Among
 pub mod Texts
 pub mod Faults

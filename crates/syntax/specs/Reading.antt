@@ -1,5 +1,5 @@
 -- Defines how tokens are read by the grammar, as functions: a reader returns a value and the tokens after it, or where reading stops.
-use Rattle.std.specs.Prelude.{◌≡◌, ℕ, zero, suc, ◌+◌, List, [], ◌∷◌, length, Result, Ok, Err, Bool, true, false, not, if◌then◌else◌, ◌&&◌}
+use Rattle.std.specs.Prelude.{◌≡◌, ℕ, zero, suc, ◌+◌, List, [], ◌∷◌, length, Result, Ok, Err, Bool, false, not, if◌then◌else◌, ◌&&◌}
 use Rattle.std.specs.Prelude.{Option, Some, None}
 use Rattle.syntax.specs.lexer.Lexeme.{Lexeme}
 use Rattle.syntax.specs.lexer.Kinds.{is}
@@ -102,8 +102,7 @@ listed_at k r step s ts = items_by (begins k) r step (length ts + 1) s ts
 
 -- Returns whether another element follows the comma, before the list is closed, and the tokens from there on.
 abbrev pub behind_comma : TokenKind → Bool → Lexeme → List Lexeme → Bool × List Lexeme
-behind_comma close true t ts = (not (begins close ts), ts)
-behind_comma close false t ts = (false, t ∷ ts)
+behind_comma close is_comma t ts = if is_comma then (not (begins close ts), ts) else (false, t ∷ ts)
 
 -- Returns whether a comma and another element follow, before a token of this kind closes the list, and the tokens from there on.
 unfoldable pub more_at : TokenKind → List Lexeme → Bool × List Lexeme

@@ -1,6 +1,6 @@
 -- Defines how statements are read by their grammar, as functions: a reader returns a value and the tokens after it, or where reading stops.
 use Rattle.std.specs.Prelude.{◌≡◌, ℕ, zero, suc, Bool, true, false, not, ◌||◌, List, [], ◌∷◌, ◌++◌, length, Result, Ok, Err, Option}
-use Rattle.std.specs.Prelude.{unwrap_or}
+use Rattle.std.specs.Prelude.{unwrap_or, if◌then◌else◌}
 use Rattle.syntax.specs.lexer.Lexeme.{Lexeme}
 use Rattle.syntax.specs.lexer.Kinds.{is}
 use Rattle.syntax.specs.declared.lexer.token.TokenKind.{TokenKind}
@@ -20,13 +20,11 @@ use Rattle.syntax.specs.ReadingExpressions.{expr_at}
 
 -- Returns the sign of `+=` or `=`, and the statement.
 abbrev pub sign_of : Bool → TokenKind
-sign_of true = Kinds.PlusAssign
-sign_of false = Kinds.Assign
+sign_of appends = if appends then Kinds.PlusAssign else Kinds.Assign
 
 -- Returns the statement that sets a name, or adds to its value.
 abbrev pub set_tree : Bool → List ℕ → ℕ → ExpressionTree → StatementTree
-set_tree true = AppendTree
-set_tree false = AssignTree
+set_tree appends = if appends then AppendTree else AssignTree
 
 -- Reads a statement that sets a name, with the token of this kind after the name.
 unfoldable pub set_at : TokenKind → (List ℕ → ℕ → ExpressionTree → StatementTree) → Reader ExpressionTree → Reader StatementTree
@@ -45,13 +43,11 @@ plain_at r ts = do
 
 -- Returns the word of `break` or `continue`, and the statement.
 abbrev pub leave_word : Bool → TokenKind
-leave_word true = Kinds.Break
-leave_word false = Kinds.Continue
+leave_word breaks = if breaks then Kinds.Break else Kinds.Continue
 
 -- Returns `break` or `continue`.
 abbrev pub leave_tree : Bool → ℕ → StatementTree
-leave_tree true = BreakTree
-leave_tree false = ContinueTree
+leave_tree breaks = if breaks then BreakTree else ContinueTree
 
 -- Reads the word of `break` or `continue`, which is allowed only inside a loop.
 unfoldable pub leave_at : TokenKind → (ℕ → StatementTree) → Bool → Reader StatementTree

@@ -67,7 +67,7 @@ pub refusal-TooLong : refusal TooLong ≡ Some LongLine
 unfolding refusal
 refusal-TooLong = refl
 
-steps-Plain : (entries : Entries) (path : List ℕ) (number : ℕ) (line : List ℕ) → steps_of entries path number line Plain ≡ replaced_line entries path number 0 0 line
+steps-Plain : (entries : Entries) (path : List ℕ) (number : ℕ) (line : List ℕ) → steps_of entries path number line Plain ≡ replaced_line entries path number line
 unfolding steps_of
 steps-Plain entries path number line = refl
 
@@ -120,7 +120,7 @@ define_fault number line name r = fault_not number line (fault_read line (Define
 
 -- a line of text
 pub plain_writes : {old new : OutputState} {e : Ending} (entries : Entries) (path : List ℕ) (number : ℕ) (line : List ℕ) → reading_of_line line ≡ Plain
-    → Writes old (replaced_line entries path number 0 0 line) e new → Writes old (line_steps entries path number line) e new
+    → Writes old (replaced_line entries path number line) e new → Writes old (line_steps entries path number line) e new
 plain_writes entries path number line r s = rw (steps_read entries path number line Plain r ∙ steps-Plain entries path number line) s
 
 pub plain_fault : (number : ℕ) (line : List ℕ) → reading_of_line line ≡ Plain → first_fault number (line_fault line) None ≡ None

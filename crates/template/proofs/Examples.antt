@@ -5,8 +5,8 @@ use Rattle.ports.specs.Outputs.{Step, puts, logs}
 use Rattle.template.specs.Config.{Entries, Flag, Number, Bytes, printed_content, value_of}
 use Rattle.template.specs.Header.{entry_lines, header_steps}
 use Rattle.template.specs.Line.{BadDefine, body_length, defined_in, definition, definition_or_comment, words_with_first, in_place, is_placeholder_name, line_fault}
-use Rattle.template.specs.Line.{line_steps, name_length, no_value, reading_of_line, reading_of, refusal, replaced_line, steps_of, value_or_warning}
-use Rattle.template.specs.Line.{warning, words_after}
+use Rattle.template.specs.Line.{line_steps, no_value, reading_of_line, reading_of, refusal, replaced_line, steps_of, value_or_warning}
+use Rattle.template.specs.Line.{warning, words_after, begins_name, ending_backslashes, line_pieces, piece_steps, pieces_of, text_pieces}
 use Rattle.template.specs.Template.{fault_from, first_fault, lines_of, onto, steps_from, template_fault, template_steps}
 
 -- what is set
@@ -25,18 +25,18 @@ defined = refl
 -- Values between `@`, as they are printed. What is no name stays, and its last `@` may begin one.
 values : map written (codes "x@T@y @N@@ON@ @OFF@\n" ∷ codes "me@a b@N@ @@" ∷ [])
     ≡ puts (codes "xa by 3true false\n") ∷ puts (codes "me@a b3 @@") ∷ []
-unfolding steps_from lines_of onto line_steps steps_of line_fault refusal reading_of_line reading_of words_after body_length words_with_first replaced_line name_length in_place value_or_warning value_of printed_content digits puts logs
+unfolding steps_from lines_of onto line_steps steps_of line_fault refusal reading_of_line reading_of words_after body_length words_with_first replaced_line line_pieces pieces_of text_pieces ending_backslashes begins_name is_placeholder_name piece_steps in_place value_or_warning value_of printed_content digits puts logs
 values = refl
 
 -- one that is not set gives nothing, and a line of the log at its place
 without_value : written (codes "a\n<@U@>\n") ≡ puts (codes "a\n<") ++ (logs (codes "WARNING: c.in:2: no value for U\n") ++ puts (codes ">\n"))
-unfolding steps_from lines_of onto line_steps steps_of line_fault refusal reading_of_line reading_of words_after body_length words_with_first replaced_line name_length in_place value_or_warning warning no_value value_of digits puts logs
+unfolding steps_from lines_of onto line_steps steps_of line_fault refusal reading_of_line reading_of words_after body_length words_with_first replaced_line line_pieces pieces_of text_pieces ending_backslashes begins_name is_placeholder_name piece_steps in_place value_or_warning warning no_value value_of digits puts logs
 without_value = refl
 
 -- of two backslashes before `@` one stays, and one alone goes and the `@` begins no name; elsewhere they stay
 backslashes : map written (codes "\\@N@" ∷ codes "\\\\@N@" ∷ codes "\\\\\\@N@" ∷ codes "\\n\\\\ @N@\\" ∷ [])
     ≡ puts (codes "@N@") ∷ puts (codes "\\3") ∷ puts (codes "\\@N@") ∷ puts (codes "\\n\\\\ 3\\") ∷ []
-unfolding steps_from lines_of onto line_steps steps_of line_fault refusal reading_of_line reading_of words_after body_length words_with_first replaced_line name_length in_place value_or_warning value_of printed_content digits puts logs
+unfolding steps_from lines_of onto line_steps steps_of line_fault refusal reading_of_line reading_of words_after body_length words_with_first replaced_line line_pieces pieces_of text_pieces ending_backslashes begins_name is_placeholder_name piece_steps in_place value_or_warning value_of printed_content digits puts logs
 backslashes = refl
 
 -- A line is refused that has no name, two, or what is none, or whose word goes on. Another first word begins no such line.
@@ -47,7 +47,7 @@ refused = refl
 
 -- what stands before it was written, and it and the lines behind it are not
 written_before : written (codes "@N@\n#mesondefine\n@N@\n") ≡ puts (codes "3\n")
-unfolding steps_from lines_of onto line_steps steps_of line_fault refusal reading_of_line reading_of words_after body_length words_with_first defined_in replaced_line name_length in_place value_or_warning value_of printed_content digits puts logs
+unfolding steps_from lines_of onto line_steps steps_of line_fault refusal reading_of_line reading_of words_after body_length words_with_first defined_in is_placeholder_name replaced_line line_pieces pieces_of text_pieces ending_backslashes begins_name piece_steps in_place value_or_warning value_of printed_content digits puts logs
 written_before = refl
 
 -- without a template: the head, and each key's line

@@ -1,13 +1,15 @@
 -- What a template or a header writes opens and closes no output.
-use Rattle.std.proofs.Common.{◌≡◌, ℕ, zero, suc, Bool, true, false, ◌==◌, List, [], ◌∷◌, ◌++◌, Option, Some, None, is_some, refl, ap, ◌∙◌}
-use Rattle.std.specs.Prelude.{◌+◌, ◌/◌, ◌%◌, ◌&&◌, codes, drop, take, nat_lt, replicate, decimal, if◌then◌else◌}
+use Rattle.std.proofs.Common.{◌≡◌, ℕ, Bool, true, false, List, [], ◌∷◌, ◌++◌, Option, Some, None, is_some, refl, ap, ◌∙◌}
+use Prim.Native.Char.{code}
+use Rattle.std.specs.Prelude.{◌+◌, ◌/◌, codes, drop, replicate, flat_map, decimal, if◌then◌else◌}
 use Rattle.ports.specs.Outputs.{Step, name_after, puts, logs}
 use Rattle.ports.proofs.OpenNames.{name_after-puts, name_after-logs}
 use Rattle.ports.proofs.Sending.{name_after-append}
 use Rattle.template.specs.Config.{Content, Flag, Number, Bytes, Entries, printed_content, value_of}
 use Rattle.template.specs.Header.{entry_lines, header_steps}
 use Rattle.template.specs.Line.{Reading, Plain, Defines, Malformed, TooLong, body_length, definition, definition_or_comment, in_place}
-use Rattle.template.specs.Line.{line_fault, line_steps, name_length, no_value, reading_of_line, replaced_line, steps_of, value_or_warning, warning}
+use Rattle.template.specs.Line.{line_fault, line_steps, no_value, reading_of_line, replaced_line, steps_of, value_or_warning, warning}
+use Rattle.template.specs.Line.{Piece, Text, Backslashes, Sign, Name, line_pieces, piece_steps}
 use Rattle.template.specs.Template.{lines_of, steps_from, template_steps}
 
 -- whichever output is open before these steps is open after them
@@ -51,18 +53,20 @@ in_place-stays : (entries : Entries) (path : List ℕ) (number : ℕ) (name : Li
 unfolding in_place
 in_place-stays entries path number name = value-stays (value_of entries name) (warning-stays path number name)
 
-replaced-stays : (entries : Entries) (path : List ℕ) (number skip slashes : ℕ) (bytes : List ℕ) → Stays (replaced_line entries path number skip slashes bytes)
+piece-stays : (entries : Entries) (path : List ℕ) (number : ℕ) (piece : Piece) → Stays (piece_steps entries path number piece)
+unfolding piece_steps
+piece-stays entries path number (Text bytes) = written bytes
+piece-stays entries path number (Backslashes count) = written (replicate (count / 2) (code "\\"))
+piece-stays entries path number Sign = written (codes "@")
+piece-stays entries path number (Name name) = in_place-stays entries path number name
+
+pieces-stay : (entries : Entries) (path : List ℕ) (number : ℕ) (pieces : List Piece) → Stays (flat_map (piece_steps entries path number) pieces)
+pieces-stay entries path number [] = nothing
+pieces-stay entries path number (piece ∷ pieces) = joined (piece-stays entries path number piece) (pieces-stay entries path number pieces)
+
+replaced-stays : (entries : Entries) (path : List ℕ) (number : ℕ) (line : List ℕ) → Stays (replaced_line entries path number line)
 unfolding replaced_line
-replaced-stays entries path number skip slashes [] = written (replicate slashes 92)
-replaced-stays entries path number (suc skip) slashes (b ∷ bytes) = replaced-stays entries path number skip slashes bytes
-replaced-stays entries path number zero slashes (b ∷ bytes) =
-    either (b == 92) (replaced-stays entries path number 0 (slashes + 1) bytes)
-    (either (b == 64)
-    (joined (written (replicate (slashes / 2) 92))
-    (either (slashes % 2 == 0 && nat_lt 0 (name_length bytes))
-    (joined (in_place-stays entries path number (take (name_length bytes) bytes)) (replaced-stays entries path number (name_length bytes + 1) 0 bytes))
-    (joined (written (64 ∷ [])) (replaced-stays entries path number 0 0 bytes))))
-    (joined (written (replicate slashes 92 ++ b ∷ [])) (replaced-stays entries path number 0 0 bytes)))
+replaced-stays entries path number line = pieces-stay entries path number (line_pieces line)
 
 definition-stays : (name : List ℕ) (content : Content) → Stays (definition name content)
 unfolding definition
@@ -78,7 +82,7 @@ definition_or_comment-stays name (Some content) = definition-stays name content
 
 read-stays : (entries : Entries) (path : List ℕ) (number : ℕ) (bytes : List ℕ) (r : Reading) → Stays (steps_of entries path number bytes r)
 unfolding steps_of
-read-stays entries path number bytes Plain = replaced-stays entries path number 0 0 bytes
+read-stays entries path number bytes Plain = replaced-stays entries path number bytes
 read-stays entries path number bytes (Defines name) = joined (definition_or_comment-stays name (value_of entries name)) (written (drop (body_length bytes) bytes))
 read-stays entries path number bytes Malformed = nothing
 read-stays entries path number bytes TooLong = nothing

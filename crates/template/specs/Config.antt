@@ -1,4 +1,5 @@
 -- Defines configuration data as plain data.
+use Prim.Native.Char.{code}
 use Rattle.std.specs.Prelude.{ℕ, ℤ, Bool, true, false, List, [], ◌∷◌, ◌++◌, map, ◌==◌, Option, codes, if◌then◌else◌}
 use Rattle.std.specs.Fmt.{signed_decimal}
 use Rattle.std.specs.Str.{bytes_eq}
@@ -46,11 +47,11 @@ entries_with_others entries (other ∷ others) = entries_with_others (with_value
 -- Returns a text with a backslash before each quote.
 unfoldable pub escaped_quotes : List ℕ → List ℕ
 escaped_quotes [] = []
-escaped_quotes (b ∷ text) = if b == 34 then 92 ∷ 34 ∷ escaped_quotes text else b ∷ escaped_quotes text
+escaped_quotes (b ∷ text) = (if b == code "\"" then codes "\\\"" else b ∷ []) ++ escaped_quotes text
 
 -- Returns a text in quotes, the quotes inside escaped.
 unfoldable pub double_quoted_text : List ℕ → List ℕ
-double_quoted_text text = 34 ∷ escaped_quotes text ++ 34 ∷ []
+double_quoted_text text = codes "\"" ++ escaped_quotes text ++ codes "\""
 
 -- Returns a value in printed form.
 unfoldable pub printed_content : Content → List ℕ

@@ -1,7 +1,10 @@
 -- Defines what one line of a template writes.
-use Rattle.std.specs.Prelude.{ℕ, zero, suc, ◌+◌, ◌-◌, ◌/◌, ◌%◌, Bool, true, false, ◌||◌, ◌&&◌, ◌==◌, nat_eq, nat_lt, nat_le, List, [], ◌∷◌}
-use Rattle.std.specs.Prelude.{◌++◌, length, take, drop, replicate, slice_index, Option, Some, None, codes, decimal, if◌then◌else◌}
-use Rattle.std.specs.List.{starts_with, prefix_len, list_all}
+use Prim.Native.Char.{code}
+use Rattle.std.specs.Prelude.{ℕ, ◌+◌, ◌-◌, ◌/◌, ◌%◌, Bool, true, false, ◌||◌, ◌&&◌, ◌==◌, nat_eq, nat_lt, nat_le, List, [], ◌∷◌}
+use Rattle.std.specs.Prelude.{◌++◌, length, take, drop, replicate, reverse, flat_map, slice_index, Option, Some, None, codes, decimal}
+use Rattle.std.specs.Prelude.{if◌then◌else◌}
+use Rattle.std.specs.List.{starts_with, prefix_len, list_all, slice_split}
+use Rattle.std.specs.Char.{is_ascii_alphanumeric}
 use Rattle.std.specs.Str.{bytes_eq}
 use Rattle.support.specs.Limits.{line_bytes}
 use Rattle.ports.specs.Outputs.{Step, puts, logs}
@@ -9,17 +12,49 @@ use Rattle.template.specs.Config.{Content, Flag, Number, Bytes, Entries, value_o
 
 -- Returns whether the byte is valid in a name: a letter, a digit, '-' or '_'.
 abbrev pub is_name_byte : ℕ → Bool
-is_name_byte b = (nat_le 97 b && nat_le b 122) || (nat_le 65 b && nat_le b 90) || (nat_le 48 b && nat_le b 57) || b == 45 || b == 95
+is_name_byte b = is_ascii_alphanumeric b || b == code "-" || b == code "_"
 
 -- Returns whether the name has at least one byte, and only valid ones.
 unfoldable pub is_placeholder_name : List ℕ → Bool
 is_placeholder_name name = nat_lt 0 (length name) && list_all is_name_byte name
 
--- ---- names in a line of text
+-- ---- a line of text
 
--- Returns the length of the name that begins here and ends before an '@', or 0 if there is none.
-unfoldable pub name_length : List ℕ → ℕ
-name_length bytes = let n = prefix_len is_name_byte bytes in if slice_index bytes n == 64 then n else 0
+-- A piece of a line.
+pub data Piece : Type 0 where
+  -- Bytes that are written unchanged.
+  Text : (bytes : List ℕ) → Piece
+  -- This many backslashes directly before an `@`.
+  Backslashes : (count : ℕ) → Piece
+  -- An `@` that begins no name.
+  Sign : Piece
+  -- A name between two `@`.
+  Name : (name : List ℕ) → Piece
+
+-- Returns the number of backslashes at the end of a text.
+unfoldable pub ending_backslashes : List ℕ → ℕ
+ending_backslashes text = prefix_len (λ b. b == code "\\") (reverse text)
+
+-- Returns the pieces of a text before an `@`: the bytes, and the backslashes at their end.
+unfoldable pub text_pieces : List ℕ → List Piece
+text_pieces text = let n = ending_backslashes text in Text (take (length text - n) text) ∷ Backslashes n ∷ []
+
+-- Returns whether an `@` after the text begins this name: it is a valid name, and no backslash is left that escapes the `@`.
+unfoldable pub begins_name : List ℕ → List ℕ → Bool
+begins_name text name = ending_backslashes text % 2 == 0 && is_placeholder_name name
+
+-- Returns the pieces of the line that has these texts between its `@`.
+unfoldable pub pieces_of : List (List ℕ) → List Piece
+pieces_of [] = []
+pieces_of (text ∷ []) = Text text ∷ []
+pieces_of (text ∷ last ∷ []) = text_pieces text ++ Sign ∷ pieces_of (last ∷ [])
+pieces_of (text ∷ name ∷ next ∷ texts) =
+    text_pieces text
+    ++ (if begins_name text name then Name name ∷ pieces_of (next ∷ texts) else Sign ∷ pieces_of (name ∷ next ∷ texts))
+
+-- Returns the pieces of a line.
+unfoldable pub line_pieces : List ℕ → List Piece
+line_pieces line = pieces_of (slice_split (λ b. b == code "@") line)
 
 -- Returns the end of the log's line for a name without a value.
 unfoldable pub no_value : List ℕ → List Step
@@ -39,25 +74,22 @@ value_or_warning None warning = warning
 unfoldable pub in_place : Entries → List ℕ → ℕ → List ℕ → List Step
 in_place entries path number name = value_or_warning (value_of entries name) (warning path number name)
 
--- Returns a line with its names replaced. The first `skip` bytes are those of a name that has been replaced, and this many backslashes
--- precede the others. Directly before an '@', two backslashes are one. If one is left over, it is dropped, and the '@' begins no name.
--- Elsewhere each backslash is itself.
-unfoldable pub replaced_line : Entries → List ℕ → ℕ → ℕ → ℕ → List ℕ → List Step
-replaced_line entries path number skip slashes [] = puts (replicate slashes 92)
-replaced_line entries path number (suc skip) slashes (b ∷ bytes) = replaced_line entries path number skip slashes bytes
-replaced_line entries path number zero slashes (b ∷ bytes) =
-    if b == 92 then replaced_line entries path number 0 (slashes + 1) bytes else
-    (if b == 64 then puts (replicate (slashes / 2) 92) ++
-    (if slashes % 2 == 0 && nat_lt 0 (name_length bytes)
-    then in_place entries path number (take (name_length bytes) bytes) ++ replaced_line entries path number (name_length bytes + 1) 0 bytes
-    else puts (64 ∷ []) ++ replaced_line entries path number 0 0 bytes)
-    else puts (replicate slashes 92 ++ b ∷ []) ++ replaced_line entries path number 0 0 bytes)
+-- Returns the steps of a piece. Two backslashes before an `@` are one. If one is left over, it is dropped.
+unfoldable pub piece_steps : Entries → List ℕ → ℕ → Piece → List Step
+piece_steps entries path number (Text bytes) = puts bytes
+piece_steps entries path number (Backslashes count) = puts (replicate (count / 2) (code "\\"))
+piece_steps entries path number Sign = puts (codes "@")
+piece_steps entries path number (Name name) = in_place entries path number name
+
+-- Returns the steps of a line whose names are replaced.
+unfoldable pub replaced_line : Entries → List ℕ → ℕ → List ℕ → List Step
+replaced_line entries path number line = flat_map (piece_steps entries path number) (line_pieces line)
 
 -- ---- a line by its words
 
 -- Returns whether the byte is a space, a tab or a carriage return.
 abbrev pub is_blank : ℕ → Bool
-is_blank b = b == 32 || b == 9 || b == 13
+is_blank b = b == code " " || b == code "\t" || b == code "\r"
 
 -- Puts a word that ends here before the words after it, if it has any bytes.
 unfoldable pub words_with_first : List ℕ → List (List ℕ) → List (List ℕ)
@@ -77,8 +109,8 @@ words bytes = words_after [] bytes
 unfoldable pub body_length : List ℕ → ℕ
 body_length bytes =
     let n = length bytes in
-    if nat_lt 0 n && (slice_index bytes (n - 1) == 10) then
-    (if nat_lt 1 n && (slice_index bytes (n - 2) == 13) then n - 2 else n - 1) else n
+    if nat_lt 0 n && (slice_index bytes (n - 1) == code "\n") then
+    (if nat_lt 1 n && (slice_index bytes (n - 2) == code "\r") then n - 2 else n - 1) else n
 
 -- The reading of a line says whether the line defines a name.
 pub data Reading : Type 0 where
@@ -138,7 +170,7 @@ line_fault bytes = refusal (reading_of_line bytes)
 
 -- Returns the steps that a line with this reading writes, and none if the line is refused.
 unfoldable pub steps_of : Entries → List ℕ → ℕ → List ℕ → Reading → List Step
-steps_of entries path number bytes Plain = replaced_line entries path number 0 0 bytes
+steps_of entries path number bytes Plain = replaced_line entries path number bytes
 steps_of entries path number bytes (Defines name) =
     definition_or_comment name (value_of entries name) ++ puts (drop (body_length bytes) bytes)
 steps_of entries path number bytes Malformed = []

@@ -1,4 +1,5 @@
 -- Defines what a whole template writes.
+use Prim.Native.Char.{code}
 use Rattle.std.specs.Prelude.{◌≡◌, ℕ, ◌+◌, false, ◌==◌, List, [], ◌∷◌, ◌++◌, Option, Some, None, Result, Ok, Err, is_some, ◌⊎◌}
 use Rattle.std.specs.Prelude.{if◌then◌else◌}
 use Rattle.ports.specs.Endings.{Ending, Whole, Failed}
@@ -16,7 +17,7 @@ onto b (line ∷ lines) = (b ∷ line) ∷ lines
 -- Returns a template cut after each newline.
 unfoldable pub lines_of : List ℕ → List (List ℕ)
 lines_of [] = []
-lines_of (b ∷ bytes) = if b == 10 then (b ∷ []) ∷ lines_of bytes else onto b (lines_of bytes)
+lines_of (b ∷ bytes) = if b == code "\n" then (b ∷ []) ∷ lines_of bytes else onto b (lines_of bytes)
 
 -- Returns the steps that lines write, up to the first fault. `number` is that of the first line.
 unfoldable pub steps_from : Entries → List ℕ → ℕ → List (List ℕ) → List Step

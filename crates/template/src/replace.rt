@@ -8,8 +8,8 @@ ghost use Rattle.template.specs.ConfigData.{content_of};
 ghost use Rattle.template.specs.Template.{Agrees, ending_of, first_fault};
 ghost use Rattle.template.specs.Line.{Defines, Malformed, body_length, defined_in, definition, definition_or_comment, is_blank};
 ghost use Rattle.template.specs.Line.{is_placeholder_name};
-ghost use Rattle.template.specs.Line.{line_fault, line_steps, in_place, name_length, no_value, replaced_line, warning, words, is_name_byte};
-ghost use Rattle.template.specs.Scan.{is_word_byte, IsFirstWord, IsPlain, IsSign, slashes_at};
+ghost use Rattle.template.specs.Line.{ending_backslashes, line_fault, line_steps, in_place, no_value, replaced_line, warning, words, is_name_byte};
+ghost use Rattle.template.specs.Scan.{is_word_byte, IsFirstWord, IsPlain, IsSign, name_length};
 
 use crate::{ConfigData, ConfigValue, PassStop};
 use itoa::Buffer;
@@ -37,7 +37,7 @@ fn name_prefix(bytes: &[u8]) -> usize
 }
 
 /// Returns the length of the name that begins here and ends before an `@`, or 0 if there is none.
-#[tactic(auto, unfolding(crate::specs::Line::name_length))]
+#[tactic(auto, unfolding(crate::specs::Scan::name_length))]
 fn name_length(bytes: &[u8]) -> usize
     ensures { result ≡ name_length bytes.now }
 {
@@ -51,7 +51,7 @@ fn name_length(bytes: &[u8]) -> usize
 
 /// Returns the number of backslashes at the end.
 fn count_slashes(bytes: &[u8]) -> usize
-    ensures { result ≡ slashes_at 0 bytes.now }
+    ensures { result ≡ ending_backslashes bytes.now }
 {
     let mut slashes = 0;
     for b in bytes {
@@ -100,7 +100,7 @@ fn put_replaced<O: Outputs>(
     out: &mut O,
 ) -> Result<(), DeviceFault>
     requires { IsOpen (O.seen out.old) }
-    ensures { Writes (O.seen out.old) (replaced_line config.now.entries path.now number 0 0 line.now) (ending_of_result result)
+    ensures { Writes (O.seen out.old) (replaced_line config.now.entries path.now number line.now) (ending_of_result result)
         (O.seen out.new) }
 {
     let mut from = 0;

@@ -1,4 +1,5 @@
 -- Defines the runs of a version, and the order of versions: `version_compare` of the page "Reference manual".
+use Prim.Native.Char.{code}
 use Rattle.std.specs.Prelude.{ℕ, ◌+◌, ◌-◌, ◌*◌, ◌^◌, List, [], ◌∷◌, length, Option, Some, None, if◌then◌else◌}
 use Rattle.std.specs.Ordering.{nat_cmp}
 use Rattle.std.specs.declared.cmp.Ordering.{Ordering}
@@ -42,7 +43,7 @@ runs version = present (parts version)
 -- Returns the integer that decimal digits spell, of any length.
 abbrev pub integer_of_digits : List ℕ → ℕ
 integer_of_digits [] = 0
-integer_of_digits (d ∷ ds) = (d - 48) * 10 ^ length ds + integer_of_digits ds
+integer_of_digits (d ∷ ds) = (d - code "0") * 10 ^ length ds + integer_of_digits ds
 
 -- Compares two runs: numbers by value, words by bytes; a number is greater than a word.
 abbrev pub run_order : Run → Run → Ordering

@@ -1,4 +1,5 @@
 -- Defines which texts `build.ninja` can hold. The others can't be escaped.
+use Prim.Native.Char.{code}
 use Rattle.std.specs.Prelude.{ℕ, Bool, true, false, ◌==◌, nat_le, ◌||◌, ◌&&◌, not, List, [], ◌∷◌, Option, Some, None}
 use Rattle.std.specs.List.{list_all}
 use Rattle.build.specs.edge.Texts.{Path, Text}
@@ -6,7 +7,7 @@ use Rattle.build.specs.edge.Data.{EdgeData}
 
 -- Returns whether the byte is no control character, `#` or `|`.
 abbrev pub path_byte_held : ℕ → Bool
-path_byte_held b = nat_le 32 b && not ((b == 127) || ((b == 35) || (b == 124)))
+path_byte_held b = nat_le (code " ") b && not ((b == code "\x7f") || ((b == code "#") || (b == code "|")))
 
 -- Returns whether `build.ninja` can hold each byte of the path. This holds of an empty path too.
 abbrev pub path_held : Path → Bool
@@ -14,7 +15,7 @@ path_held path = list_all path_byte_held path
 
 -- Returns whether the byte is no zero, newline or carriage return.
 abbrev pub value_byte_held : ℕ → Bool
-value_byte_held b = not ((b == 0) || ((b == 10) || (b == 13)))
+value_byte_held b = not ((b == code "\0") || ((b == code "\n") || (b == code "\r")))
 
 -- Returns whether `build.ninja` can hold each byte of the text in the value of a variable. This holds of an empty text too.
 abbrev pub value_held : Text → Bool

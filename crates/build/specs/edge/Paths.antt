@@ -1,4 +1,5 @@
 -- Defines the paths of sources and objects, seen from the build directory.
+use Prim.Native.Char.{code}
 use Rattle.std.specs.Prelude.{ℕ, zero, suc, ◌-◌, ◌==◌, Bool, [], ◌++◌, map, codes, take, bytes_eq, if◌then◌else◌}
 use Rattle.build.specs.edge.Texts.{Path, Text}
 
@@ -21,7 +22,7 @@ is_upward path = bytes_eq (take 3 path) (codes "../")
 
 -- Returns a path as the name of a file, with `_` for each `/`.
 abbrev pub flat_name : Path → Text
-flat_name path = map (λ b. if b == 47 then 95 else b) path
+flat_name path = map (λ b. if b == code "/" then code "_" else b) path
 
 -- Returns the object of a source, for the target whose file is `out`.
 abbrev pub object_path : Path → Path → Path

@@ -1,4 +1,5 @@
 -- Defines what a call that adds to a project returns, and the project after it.
+use Prim.Native.Char.{code}
 use Rattle.std.specs.Prelude.{ℕ, zero, suc, ◌+◌, Bool, true, false, nat_le, not, ◌&&◌, ◌||◌, ◌==◌, List, [], ◌∷◌, ◌++◌, length, take}
 use Rattle.std.specs.Prelude.{slice_get, bytes_eq, codes, Option, Some, None, Result, Ok, Err, if◌then◌else◌}
 use Rattle.std.specs.List.{list_any, list_all, sum_by}
@@ -27,7 +28,7 @@ use Rattle.support.specs.declared.faults.refusal.Refusal.TheVariants.{Arguments,
 -- Returns whether the first byte of the text is `-`.
 abbrev pub begins_with_dash : Text → Bool
 begins_with_dash [] = false
-begins_with_dash (b ∷ bs) = b == 45
+begins_with_dash (b ∷ bs) = b == code "-"
 
 -- Returns whether a folder of the tree does not lead out of the tree.
 abbrev pub is_folder : Path → Bool
@@ -242,8 +243,7 @@ with_absent w path = record w { absent = put_new w.absent path }
 
 -- Notes a path that was looked at, as present or absent.
 abbrev pub with_file : WorldData → Path → Bool → WorldData
-with_file w path true = with_present w path
-with_file w path false = with_absent w path
+with_file w path is_present = if is_present then with_present w path else with_absent w path
 
 -- Returns the project with the result of one more call of `dependency`, which is last.
 abbrev pub with_dependency : WorldData → AnswerData → WorldData

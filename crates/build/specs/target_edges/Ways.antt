@@ -1,4 +1,5 @@
 -- Defines the relative path from one folder of the build directory to another.
+use Prim.Native.Char.{code}
 use Rattle.std.specs.Prelude.{ℕ, zero, suc, length, ◌==◌, List, [], ◌∷◌, ◌++◌, flat_map, bytes_eq, codes, if◌then◌else◌}
 use Rattle.std.specs.List.{slice_split}
 use Rattle.build.specs.edge.Texts.{Path, Text}
@@ -6,7 +7,7 @@ use Rattle.build.specs.edge.Texts.{Path, Text}
 -- Returns the parts of a folder's path. The root has none.
 abbrev pub parts_of : Path → List Text
 parts_of [] = []
-parts_of (b ∷ bs) = slice_split (λ c. c == 47) (b ∷ bs)
+parts_of (b ∷ bs) = slice_split (λ c. c == code "/") (b ∷ bs)
 
 -- Returns `/..`, n times.
 abbrev pub steps_up : ℕ → Path

@@ -1,4 +1,5 @@
 -- Defines which paths may name the build directory.
+use Prim.Native.Char.{code}
 use Rattle.std.specs.Prelude.{ℕ, Bool, not, ◌==◌, ◌&&◌, ◌||◌, nat_le, List, length, filter, codes}
 use Rattle.std.specs.List.{join_with_byte, list_any}
 use Rattle.std.specs.Str.{bytes_eq}
@@ -27,7 +28,7 @@ names_build_folder path = not (is_absolute path) && are_below (leading_parts pat
 
 -- Returns a path with only the parts that lead somewhere.
 abbrev pub tidy_path : List ℕ → List ℕ
-tidy_path path = join_with_byte 47 (leading_parts path)
+tidy_path path = join_with_byte (code "/") (leading_parts path)
 
 -- Holds if a path has 1 to 64 parts, none of which is empty, `.` or `..`.
 abbrev pub is_tidy_folder : List ℕ → Bool

@@ -1,4 +1,5 @@
 -- Defines the paths that texts of definition files name.
+use Prim.Native.Char.{code}
 use Rattle.std.specs.Prelude.{ℕ, Bool, not, ◌&&◌, List, [], ◌∷◌, ◌++◌, ◌==◌, ◌||◌}
 use Rattle.std.specs.Prelude.{nat_eq, Option, Some, None, if◌then◌else◌, codes, length, drop, reverse}
 use Rattle.std.specs.List.{list_any, starts_with, slice_split, join_with_byte}
@@ -12,7 +13,7 @@ path_in (b ∷ bs) name = (b ∷ bs) ++ (codes "/" ++ name)
 
 -- Returns the parts of a path between its slashes.
 abbrev pub parts_of : List ℕ → List (List ℕ)
-parts_of text = slice_split (λ b. b == 47) text
+parts_of text = slice_split (λ b. b == code "/") text
 
 -- Returns a folder without its last part. A folder is given by its parts from the last to the first; `..` removes the last part.
 abbrev pub without_last : List (List ℕ) → Option (List (List ℕ))
@@ -39,12 +40,12 @@ follow_parts folder (part ∷ parts) = and_then (follow_part folder part) (λ ne
 abbrev pub path_of_parts : Option (List (List ℕ)) → Option (List ℕ)
 path_of_parts None = None
 path_of_parts (Some []) = None
-path_of_parts (Some (part ∷ folder)) = Some (join_with_byte 47 (reverse (part ∷ folder)))
+path_of_parts (Some (part ∷ folder)) = Some (join_with_byte (code "/") (reverse (part ∷ folder)))
 
 -- Returns the path of a folder, which is empty for the root.
 abbrev pub folder_named : Option (List (List ℕ)) → Option (List ℕ)
 folder_named None = None
-folder_named (Some folder) = Some (join_with_byte 47 (reverse folder))
+folder_named (Some folder) = Some (join_with_byte (code "/") (reverse folder))
 
 -- Returns the text after a prefix, and none if the text does not begin with it.
 abbrev pub rest_after : List ℕ → List ℕ → Option (List ℕ)

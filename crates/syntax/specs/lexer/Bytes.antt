@@ -1,123 +1,124 @@
 -- Defines the bytes that tokens are made of.
-use Rattle.std.specs.Prelude.{ℕ, Bool, true, false, List, [], ◌∷◌, ◌==◌, ◌||◌, ◌&&◌, not, nat_lt, if◌then◌else◌, count_by}
+use Prim.Native.Char.{code}
+use Rattle.std.specs.Prelude.{ℕ, Bool, true, false, List, [], ◌∷◌, ◌==◌, ◌||◌, ◌&&◌, not, nat_lt, if◌then◌else◌, count_by, codes}
 use Rattle.std.specs.Char.{is_ascii_alphabetic, is_ascii_digit}
 use Rattle.std.specs.List.{list_all}
 
 -- Returns the byte of a tab.
 abbrev pub tab : ℕ
-tab = 9
+tab = code "\t"
 
 -- Returns the byte of a newline.
 abbrev pub newline : ℕ
-newline = 10
+newline = code "\n"
 
 -- Returns the byte of a carriage return.
 abbrev pub carriage_return : ℕ
-carriage_return = 13
+carriage_return = code "\r"
 
 -- Returns the byte of a space.
 abbrev pub space : ℕ
-space = 32
+space = code " "
 
 -- Returns the byte of `!`.
 abbrev pub exclamation : ℕ
-exclamation = 33
+exclamation = code "!"
 
 -- Returns the byte of `#`, which begins a comment.
 abbrev pub hash : ℕ
-hash = 35
+hash = code "#"
 
 -- Returns the byte of `%`.
 abbrev pub percent : ℕ
-percent = 37
+percent = code "%"
 
 -- Returns the byte of the single quote, which begins and ends a string.
 abbrev pub quote : ℕ
-quote = 39
+quote = code "'"
 
 -- Returns the byte of `(`.
 abbrev pub open_parenthesis : ℕ
-open_parenthesis = 40
+open_parenthesis = code "("
 
 -- Returns the byte of `)`.
 abbrev pub close_parenthesis : ℕ
-close_parenthesis = 41
+close_parenthesis = code ")"
 
 -- Returns the byte of `*`.
 abbrev pub star : ℕ
-star = 42
+star = code "*"
 
 -- Returns the byte of `+`.
 abbrev pub plus : ℕ
-plus = 43
+plus = code "+"
 
 -- Returns the byte of `,`.
 abbrev pub comma : ℕ
-comma = 44
+comma = code ","
 
 -- Returns the byte of `-`.
 abbrev pub minus : ℕ
-minus = 45
+minus = code "-"
 
 -- Returns the byte of `.`.
 abbrev pub dot : ℕ
-dot = 46
+dot = code "."
 
 -- Returns the byte of `/`.
 abbrev pub slash : ℕ
-slash = 47
+slash = code "/"
 
 -- Returns the byte of the digit `0`.
 abbrev pub digit_zero : ℕ
-digit_zero = 48
+digit_zero = code "0"
 
 -- Returns the byte of `:`.
 abbrev pub colon : ℕ
-colon = 58
+colon = code ":"
 
 -- Returns the byte of `<`.
 abbrev pub less : ℕ
-less = 60
+less = code "<"
 
 -- Returns the byte of `=`.
 abbrev pub equals : ℕ
-equals = 61
+equals = code "="
 
 -- Returns the byte of `>`.
 abbrev pub greater : ℕ
-greater = 62
+greater = code ">"
 
 -- Returns the byte of `?`.
 abbrev pub question : ℕ
-question = 63
+question = code "?"
 
 -- Returns the byte of `[`.
 abbrev pub open_bracket : ℕ
-open_bracket = 91
+open_bracket = code "["
 
 -- Returns the byte of the backslash.
 abbrev pub backslash : ℕ
-backslash = 92
+backslash = code "\\"
 
 -- Returns the byte of `]`.
 abbrev pub close_bracket : ℕ
-close_bracket = 93
+close_bracket = code "]"
 
 -- Returns the byte of `_`.
 abbrev pub underscore : ℕ
-underscore = 95
+underscore = code "_"
 
 -- Returns the byte of the letter `f`, which begins an f-string.
 abbrev pub lower_f : ℕ
-lower_f = 102
+lower_f = code "f"
 
 -- Returns the byte of `{`.
 abbrev pub open_brace : ℕ
-open_brace = 123
+open_brace = code "{"
 
 -- Returns the byte of `}`.
 abbrev pub close_brace : ℕ
-close_brace = 125
+close_brace = code "}"
 
 -- Returns whether the byte is a letter or an underscore.
 abbrev pub is_letter : ℕ → Bool
@@ -155,7 +156,7 @@ newlines = count_by (λ b. b == newline)
 
 -- Returns the quotes with which a raw string begins and ends.
 abbrev pub three_quotes : List ℕ
-three_quotes = quote ∷ quote ∷ quote ∷ []
+three_quotes = codes "'''"
 
 -- Returns whether a raw string begins or ends.
 abbrev pub opens_raw : List ℕ → Bool

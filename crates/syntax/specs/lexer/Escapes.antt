@@ -1,4 +1,5 @@
 -- Defines the escapes of a string that is not raw.
+use Prim.Native.Char.{code}
 use Rattle.std.specs.Prelude.{◌≡◌, ℕ, zero, suc, ◌+◌, ◌*◌, ◌<◌, ◌≤◌, Bool, true, false, ◌==◌, ◌||◌, not, nat_lt, if◌then◌else◌, List, []}
 use Rattle.std.specs.Prelude.{◌∷◌, ◌++◌, length, fold, Option, Some, None}
 use Rattle.std.specs.Char.{digit_value, is_digit}
@@ -9,44 +10,44 @@ use Rattle.syntax.specs.lexer.Numbers.{lower_b, lower_x, is_octal_digit}
 
 -- Returns the byte of `U`, which begins the escape of a character by eight hexadecimal digits.
 abbrev pub upper_u : ℕ
-upper_u = 85
+upper_u = code "U"
 
 -- Returns the byte of `a`, which names the alert character (7) in an escape.
 abbrev pub lower_a : ℕ
-lower_a = 97
+lower_a = code "a"
 
 -- Returns the byte of `n`, which names the newline (10) in an escape.
 abbrev pub lower_n : ℕ
-lower_n = 110
+lower_n = code "n"
 
 -- Returns the byte of `r`, which names the carriage return (13) in an escape.
 abbrev pub lower_r : ℕ
-lower_r = 114
+lower_r = code "r"
 
 -- Returns the byte of `t`, which names the tab (9) in an escape.
 abbrev pub lower_t : ℕ
-lower_t = 116
+lower_t = code "t"
 
 -- Returns the byte of `u`, which begins the escape of a character by four hexadecimal digits.
 abbrev pub lower_u : ℕ
-lower_u = 117
+lower_u = code "u"
 
 -- Returns the byte of `v`, which names the vertical tab (11) in an escape.
 abbrev pub lower_v : ℕ
-lower_v = 118
+lower_v = code "v"
 
 -- Returns the character that a backslash and this one byte name.
 abbrev pub control : ℕ → Option ℕ
 control b =
     if b == backslash then Some backslash
     else (if b == quote then Some quote
-    else (if b == lower_a then Some 7
-    else (if b == lower_b then Some 8
-    else (if b == lower_t then Some 9
-    else (if b == lower_n then Some 10
-    else (if b == lower_v then Some 11
-    else (if b == lower_f then Some 12
-    else (if b == lower_r then Some 13
+    else (if b == lower_a then Some (code "\x07")
+    else (if b == lower_b then Some (code "\x08")
+    else (if b == lower_t then Some (code "\t")
+    else (if b == lower_n then Some (code "\n")
+    else (if b == lower_v then Some (code "\x0b")
+    else (if b == lower_f then Some (code "\x0c")
+    else (if b == lower_r then Some (code "\r")
     else None))))))))
 
 -- Returns how many hexadecimal digits must follow this byte.
@@ -68,7 +69,7 @@ octal (suc n) value size (b ∷ bs) = if is_octal_digit b then octal n (8 * valu
 -- Returns the number that an escape names, and the bytes n that the escape has after the backslash. Returns none if it names no number.
 abbrev pub escape_of_size : ℕ → Option ℕ → Option (ℕ × ℕ)
 escape_of_size n None = None
-escape_of_size n (Some code) = Some (code, n)
+escape_of_size n (Some number) = Some (number, n)
 
 -- Returns the escape that byte b begins, with n hexadecimal digits at the front of `bs` if n is given. Returns `None` if there is no such
 -- escape.
@@ -84,12 +85,12 @@ escape_at (b ∷ bs) = if is_octal_digit b then Some (octal 3 0 0 (b ∷ bs)) el
 
 -- Returns whether a character has this number: at most 10FFFF, and no surrogate.
 abbrev pub is_character : ℕ → Bool
-is_character code = nat_lt code 0xD800 || is_in_range 0xE000 0x10FFFF code
+is_character number = nat_lt number 0xD800 || is_in_range 0xE000 0x10FFFF number
 
 -- Returns whether an escape names a number that no character has. It is false if there is no escape.
 abbrev pub names_none : Option (ℕ × ℕ) → Bool
 names_none None = false
-names_none (Some (code, n)) = not (is_character code)
+names_none (Some (number, n)) = not (is_character number)
 
 -- Returns whether these bytes, after a backslash, form an escape that names no character.
 abbrev pub is_bad_escape : List ℕ → Bool
@@ -110,7 +111,7 @@ begins_octal (b ∷ rest) = is_octal_digit b
 -- digits as it needs, or one to three octal digits. It has fewer than three only if no other octal digit follows.
 pub data IsEscape : ℕ → List ℕ → List ℕ → Type 0 where
   -- A byte that names a control character, a backslash or a quote needs no digits.
-  alone : (b code : ℕ) (rest : List ℕ) → control b ≡ Some code → IsEscape code (b ∷ []) rest
+  alone : (b number : ℕ) (rest : List ℕ) → control b ≡ Some number → IsEscape number (b ∷ []) rest
   -- The letter `x`, `u` or `U` precedes 2, 4 or 8 hexadecimal digits.
   sixteen : (b : ℕ) (digits rest : List ℕ) → digit_count b ≡ Some (length digits) → list_all (λ d. is_digit d 16) digits ≡ true
       → IsEscape (number_of 16 digits) (b ∷ digits) rest
@@ -120,4 +121,4 @@ pub data IsEscape : ℕ → List ℕ → List ℕ → Type 0 where
 
 -- Holds if each escape that begins here, after a backslash, names a character.
 abbrev pub NamesCharacters : List ℕ → Type 0
-NamesCharacters bs = (code : ℕ) (written rest : List ℕ) → bs ≡ written ++ rest → IsEscape code written rest → is_character code ≡ true
+NamesCharacters bs = (number : ℕ) (written rest : List ℕ) → bs ≡ written ++ rest → IsEscape number written rest → is_character number ≡ true

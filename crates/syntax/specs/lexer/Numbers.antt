@@ -1,4 +1,5 @@
 -- Defines how numbers are written.
+use Prim.Native.Char.{code}
 use Rattle.std.specs.Prelude.{ℕ, Bool, true, false, List, [], ◌∷◌, ◌==◌, ◌||◌, if◌then◌else◌}
 use Rattle.std.specs.Char.{is_ascii_digit, is_ascii_hexdigit}
 use Rattle.std.specs.Int.{is_in_range}
@@ -7,35 +8,35 @@ use Rattle.syntax.specs.lexer.Bytes.{digit_zero}
 
 -- Returns the byte of `b`: `0b` begins a binary number.
 abbrev pub lower_b : ℕ
-lower_b = 98
+lower_b = code "b"
 
 -- Returns the byte of `o`: `0o` begins an octal number.
 abbrev pub lower_o : ℕ
-lower_o = 111
+lower_o = code "o"
 
 -- Returns the byte of `x`: `0x` begins a hexadecimal number.
 abbrev pub lower_x : ℕ
-lower_x = 120
+lower_x = code "x"
 
 -- Returns the byte of `B`: `0B` begins a binary number.
 abbrev pub upper_b : ℕ
-upper_b = 66
+upper_b = code "B"
 
 -- Returns the byte of `O`: `0O` begins an octal number.
 abbrev pub upper_o : ℕ
-upper_o = 79
+upper_o = code "O"
 
 -- Returns the byte of `X`: `0X` begins a hexadecimal number.
 abbrev pub upper_x : ℕ
-upper_x = 88
+upper_x = code "X"
 
 -- Returns whether the byte is a digit from 0 to 7.
 abbrev pub is_octal_digit : ℕ → Bool
-is_octal_digit d = is_in_range 48 55 d
+is_octal_digit d = is_in_range (code "0") (code "7") d
 
 -- Returns whether the byte is the digit 0 or 1.
 abbrev pub is_binary_digit : ℕ → Bool
-is_binary_digit d = is_in_range 48 49 d
+is_binary_digit d = is_in_range (code "0") (code "1") d
 
 -- Returns whether this is a digit of the base that the letter names.
 abbrev pub is_digit_of : ℕ → ℕ → Bool

@@ -1,11 +1,15 @@
 -- Defines the values of number tokens.
+use Prim.Native.Char.{code}
 use Rattle.std.specs.Prelude.{ℕ, ◌+◌, ◌-◌, ◌*◌, ◌||◌, List, [], ◌∷◌, ◌==◌, nat_lt, if◌then◌else◌}
 use Rattle.syntax.specs.lexer.Bytes.{digit_zero}
 use Rattle.syntax.specs.lexer.Numbers.{lower_o, lower_x, upper_o, upper_x}
 
 -- Returns the value of a digit: 0 to 9, then the letters from 10 on.
 abbrev pub digit : ℕ → ℕ
-digit d = if nat_lt d 65 then d - 48 else (if nat_lt d 97 then d - 55 else d - 87)
+digit d =
+    if nat_lt d (code "A") then d - code "0"
+    else (if nat_lt d (code "a") then d - (code "A" - 10)
+    else d - (code "a" - 10))
 
 -- Returns the number that these digits spell in a base, after digits that spell n.
 unfoldable pub number_in_base : ℕ → ℕ → List ℕ → ℕ

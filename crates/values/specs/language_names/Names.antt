@@ -1,4 +1,5 @@
 -- Defines the names that the language gives a meaning to.
+use Prim.Native.Char.{code}
 use Rattle.std.specs.Prelude.{ℕ, List, [], ◌∷◌, Bool, false, not, ◌||◌, ◌&&◌, ◌==◌, codes, if◌then◌else◌}
 use Rattle.std.specs.Char.{is_ascii_alphabetic, is_ascii_alphanumeric}
 use Rattle.std.specs.List.{list_all}
@@ -27,12 +28,12 @@ keywords = codes "true" ∷ codes "false" ∷ codes "if" ∷ codes "elif" ∷ co
 
 -- Holds if a byte may be in a name.
 abbrev pub is_name_byte : ℕ → Bool
-is_name_byte b = is_ascii_alphanumeric b || b == 95
+is_name_byte b = is_ascii_alphanumeric b || b == code "_"
 
 -- Holds if a text begins like a name.
 abbrev pub begins_name : List ℕ → Bool
 begins_name [] = false
-begins_name (b ∷ bs) = is_ascii_alphabetic b || b == 95
+begins_name (b ∷ bs) = is_ascii_alphabetic b || b == code "_"
 
 -- Holds if a text is a name: letters, digits and underscores, not beginning with a digit, and no keyword.
 abbrev pub is_variable_name : List ℕ → Bool

@@ -1,13 +1,12 @@
 -- Defines the pieces in which a value is printed.
-use Rattle.std.specs.Prelude.{ℕ, Bool, true, false, List, [], ◌∷◌, ◌++◌, codes}
+use Rattle.std.specs.Prelude.{ℕ, Bool, true, false, List, [], ◌∷◌, ◌++◌, codes, if◌then◌else◌}
 use Rattle.std.specs.Fmt.{signed_decimal}
 use Rattle.values.specs.Data.{Data, boolean, integer, text, list, dictionary, object, Items, no_items, item, Entries, no_entries, entry}
 use Rattle.values.specs.printing.Printed.{boolean_text}
 
 -- Returns the text before an item: nothing before the first one, a comma and a space before any other.
 abbrev pub separator : Bool → List ℕ
-separator true = []
-separator false = codes ", "
+separator is_first = if is_first then [] else codes ", "
 
 -- Returns the pieces of a value inside a list or a dictionary. For items and entries the closing bracket is included.
 abbrev mutual

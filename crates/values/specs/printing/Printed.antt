@@ -34,8 +34,7 @@ is_plain _ = false
 
 -- Returns `true` or `false` as a text.
 abbrev pub boolean_text : Bool → List ℕ
-boolean_text true = codes "true"
-boolean_text false = codes "false"
+boolean_text is_so = if is_so then codes "true" else codes "false"
 
 -- Returns a text in single quotes. Nothing in it is escaped.
 abbrev pub quoted_text : List ℕ → List ℕ

@@ -1,4 +1,5 @@
 -- Defines the ways to cut a text, in terms of the code's own types.
+use Prim.Native.Char.{code}
 use Rattle.std.specs.Prelude.{ℕ, ◌<◌, List, [], ◌∷◌, length, Option, Some, None, nat_eq, codes, ◌==◌, if◌then◌else◌}
 use Rattle.std.specs.List.{starts_with}
 use denote.Ref.{Bor}
@@ -20,7 +21,7 @@ pieces_of_rest cut_up (Some rest) = cut_up rest.now
 -- Returns the lines after the line ending with which a text begins.
 abbrev pub lines_behind : List ℕ → List (List ℕ)
 lines_behind [] = []
-lines_behind (b ∷ bs) = lines_after (b == 13) bs
+lines_behind (b ∷ bs) = lines_after (b == code "\r") bs
 
 -- Returns the length in bytes of the line ending with which a text begins.
 abbrev pub end_length : List ℕ → ℕ

@@ -1,4 +1,5 @@
 -- Defines the pieces into which a text is cut.
+use Prim.Native.Char.{code}
 use Rattle.std.specs.Prelude.{ℕ, zero, suc, ◌-◌, Bool, true, false, List, [], ◌∷◌, length, filter, nat_eq, nat_le, ◌==◌, ◌||◌, Result}
 use Rattle.std.specs.Prelude.{Ok, Err, if◌then◌else◌}
 use Rattle.std.specs.List.{starts_with, slice_split, onto_first}
@@ -33,13 +34,13 @@ words text = filter is_filled (slice_split is_blank text)
 abbrev pub lines_after : Bool → List ℕ → List (List ℕ)
 lines_after returned [] = []
 lines_after returned (b ∷ bs) =
-    if b == 10 then (if returned then lines_after false bs else [] ∷ lines_after false bs)
-    else if b == 13 then [] ∷ lines_after true bs
+    if b == code "\n" then (if returned then lines_after false bs else [] ∷ lines_after false bs)
+    else if b == code "\r" then [] ∷ lines_after true bs
     else onto_first b (lines_after false bs)
 
 -- Holds if a byte is a newline or a carriage return.
 abbrev pub is_line_end : ℕ → Bool
-is_line_end b = b == 10 || b == 13
+is_line_end b = b == code "\n" || b == code "\r"
 
 -- Returns the lines of a text.
 abbrev pub lines : List ℕ → List (List ℕ)

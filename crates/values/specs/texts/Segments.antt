@@ -1,4 +1,5 @@
 -- Defines texts with placeholders: `@0@` in `format`, and `@name@` in an f-string.
+use Prim.Native.Char.{code}
 use Rattle.std.specs.Prelude.{ℕ, zero, suc, ◌+◌, ◌^◌, ◌&&◌, ◌||◌, Bool, List, [], ◌∷◌, ◌++◌, length, take, Option, Some, None}
 use Rattle.std.specs.Prelude.{slice_index, nat_lt, codes, ◌==◌, if◌then◌else◌}
 use Rattle.std.specs.Char.{is_ascii_digit, is_ascii_alphabetic, is_ascii_alphanumeric}
@@ -16,11 +17,11 @@ pub data Segment : Type 0 where
 
 -- Holds if a name can begin with this byte: a letter or an underscore.
 abbrev pub is_name_start : ℕ → Bool
-is_name_start b = is_ascii_alphabetic b || b == 95
+is_name_start b = is_ascii_alphabetic b || b == code "_"
 
 -- Holds if a byte may be in a name: a letter, a digit or an underscore.
 abbrev pub is_name_byte : ℕ → Bool
-is_name_byte b = is_ascii_alphanumeric b || b == 95
+is_name_byte b = is_ascii_alphanumeric b || b == code "_"
 
 -- Returns how many bytes at the start of a text can name a placeholder.
 abbrev pub name_length : Places → List ℕ → ℕ
@@ -31,7 +32,7 @@ name_length places.Names (b ∷ bs) = if is_name_start b then prefix_len is_name
 -- Returns the length of the name if a text begins with a placeholder, and 0 otherwise.
 abbrev pub place_length : Places → List ℕ → ℕ
 place_length kind [] = 0
-place_length kind (b ∷ bs) = if b == 64 && slice_index bs (name_length kind bs) == 64 then name_length kind bs else 0
+place_length kind (b ∷ bs) = if b == code "@" && slice_index bs (name_length kind bs) == code "@" then name_length kind bs else 0
 
 -- Returns segments with one more byte of text before them.
 abbrev pub onto_text : ℕ → List Segment → List Segment

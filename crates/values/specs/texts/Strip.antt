@@ -1,4 +1,5 @@
 -- Defines `strip`: a text without some characters at its ends.
+use Prim.Native.Char.{code}
 use Rattle.std.specs.Prelude.{ℕ, Bool, ◌||◌, ◌&&◌, List, [], ◌∷◌, reverse, nat_le, nat_eq, ◌==◌, if◌then◌else◌}
 use Rattle.std.specs.List.{list_any}
 use Rattle.std.specs.HashSet.{contains}
@@ -8,7 +9,7 @@ use Rattle.values.specs.declared.texts.ends.Set.TheVariants as set
 
 -- Holds if a character is ASCII white space: tab, newline, vertical tab, form feed, carriage return or space.
 abbrev pub is_blank : ℕ → Bool
-is_blank c = (nat_le 9 c && nat_le c 13) || c == 32
+is_blank c = (nat_le (code "\t") c && nat_le c (code "\r")) || c == code " "
 
 -- Holds if a character occurs in a text.
 abbrev pub is_among : List ℕ → ℕ → Bool

@@ -1,6 +1,6 @@
 use Rattle.std.proofs.Common.{sym, ap, ◌∙◌, arith}
 use Rattle.std.proofs.lemmas.List.{drop_all}
-use Rattle.template.specs.Scan.{slashes_at}
+use Rattle.template.proofs.Pieces.{slashes_at, slashes_at-is}
 use Rattle.template.proofs.Scan.{slashes_at-drop}
 use Rattle.template.proofs.replace.count_slashes.Goals as goal
 
@@ -12,4 +12,4 @@ loop-b-preserved c =
 
 pub returns : goal.returns
 unfolding slashes_at
-returns c = ap (slashes_at c.loop-b.slashes) (sym (drop_all c.loop-b.b-index c.args.bytes.now (omega arith))) ∙ c.loop-b.invariant.same
+returns c = ap (slashes_at c.loop-b.slashes) (sym (drop_all c.loop-b.b-index c.args.bytes.now (omega arith))) ∙ c.loop-b.invariant.same ∙ slashes_at-is c.args.bytes.now

@@ -1,5 +1,5 @@
 use Rattle.std.proofs.Common.{◌≡◌, ◌≤◌, drop}
-use Rattle.template.specs.Scan.{slashes_at}
+use Rattle.template.proofs.Pieces.{slashes_at}
 use Rattle.template.proofs.replace.count_slashes.Given as goal
 
 abbrev pub invariant-loop-b : goal.invariant-loop-b

@@ -1,6 +1,7 @@
 use Rattle.std.proofs.Common.{arith, take}
 use Rattle.std.proofs.lemmas.List.{length-take}
-use Rattle.template.proofs.Scan.{plain_of, sign_even, sign_odd, slashes_at-le}
+use Rattle.template.proofs.Pieces.{ending-le}
+use Rattle.template.proofs.Scan.{plain_of, sign_even, sign_odd}
 use Rattle.template.proofs.replace.find_sign.Goals as goal
 
 pub returns-in_default : goal.returns-in_default
@@ -9,7 +10,7 @@ returns-in_default c = plain_of c.args.rest.now c.in_default.ensures
 pub overflow_sub-text-2 : goal.overflow_sub-text-2
 overflow_sub-text-2 c =
     let n = c.count_slashes-slashes.ensures in
-    let le = slashes_at-le 0 (take c.in-Some.at c.args.rest.now) in
+    let le = ending-le (take c.in-Some.at c.args.rest.now) in
     omega (arith, n, le, length-take c.in-Some.at c.args.rest.now)
 
 pub returns-then-slashes-eq0 : goal.returns-then-slashes-eq0

@@ -8,40 +8,40 @@ use Rattle.template.proofs.replace.put_replaced.Goals as goal
 pub returns-in_err-put_all : goal.returns-in_err-put_all
 returns-in_err-put_all g c =
     let s = c.in-Some.sign in
-    writes_exit _ c.from_residual.ensures.0 (sign_text_stop {run = replaced_line c.args.config.now.entries c.args.path.now c.args.number 0 0 c.args.line.now} c.args.config.now.entries c.args.path.now c.args.number c.args.line.now c.loop-sign.from s.text s.at s.name c.loop-sign.invariant.going c.in-Some.ensures c.in_err-put_all.ensures)
+    writes_exit _ c.from_residual.ensures.0 (sign_text_stop {run = replaced_line c.args.config.now.entries c.args.path.now c.args.number c.args.line.now} c.args.config.now.entries c.args.path.now c.args.number c.args.line.now c.loop-sign.from s.text s.at s.name c.loop-sign.invariant.going c.in-Some.ensures c.in_err-put_all.ensures)
 
 pub returns-in_err-put_in_place : goal.returns-in_err-put_in_place
 returns-in_err-put_in_place g c =
     let s = c.in-Some.sign in
-    let h = sign_text {run = replaced_line c.args.config.now.entries c.args.path.now c.args.number 0 0 c.args.line.now} c.args.config.now.entries c.args.path.now c.args.number c.args.line.now c.loop-sign.from s.text s.at s.name c.loop-sign.invariant.going c.in-Some.ensures c.in_ok-put_all.ensures in
-    writes_exit _ c.from_residual-in_err-put_in_place.ensures.0 (name_stop {run = replaced_line c.args.config.now.entries c.args.path.now c.args.number 0 0 c.args.line.now} c.args.config.now.entries c.args.path.now c.args.number c.args.line.now _ s.name h c.if-sign-gt0.true c.in_err-put_in_place.ensures)
+    let h = sign_text {run = replaced_line c.args.config.now.entries c.args.path.now c.args.number c.args.line.now} c.args.config.now.entries c.args.path.now c.args.number c.args.line.now c.loop-sign.from s.text s.at s.name c.loop-sign.invariant.going c.in-Some.ensures c.in_ok-put_all.ensures in
+    writes_exit _ c.from_residual-in_err-put_in_place.ensures.0 (name_stop {run = replaced_line c.args.config.now.entries c.args.path.now c.args.number c.args.line.now} c.args.config.now.entries c.args.path.now c.args.number c.args.line.now _ s.name h c.if-sign-gt0.true c.in_err-put_in_place.ensures)
 
 pub loop-sign-preserved-then-sign-gt0 : goal.loop-sign-preserved-then-sign-gt0
 loop-sign-preserved-then-sign-gt0 g c =
     let s = c.in-Some.sign in
-    let h = sign_text {run = replaced_line c.args.config.now.entries c.args.path.now c.args.number 0 0 c.args.line.now} c.args.config.now.entries c.args.path.now c.args.number c.args.line.now c.loop-sign.from s.text s.at s.name c.loop-sign.invariant.going c.in-Some.ensures c.in_ok-put_all.ensures in
+    let h = sign_text {run = replaced_line c.args.config.now.entries c.args.path.now c.args.number c.args.line.now} c.args.config.now.entries c.args.path.now c.args.number c.args.line.now c.loop-sign.from s.text s.at s.name c.loop-sign.invariant.going c.in-Some.ensures c.in_ok-put_all.ensures in
     record {
       in_range = sign_name c.args.line.now c.loop-sign.from s.text s.at s.name c.loop-sign.invariant.in_range c.in-Some.ensures c.if-sign-gt0.true;
-      going = name_on {run = replaced_line c.args.config.now.entries c.args.path.now c.args.number 0 0 c.args.line.now} c.args.config.now.entries c.args.path.now c.args.number c.args.line.now _ s.name h c.if-sign-gt0.true c.in_ok-put_in_place.ensures;
+      going = name_on {run = replaced_line c.args.config.now.entries c.args.path.now c.args.number c.args.line.now} c.args.config.now.entries c.args.path.now c.args.number c.args.line.now _ s.name h c.if-sign-gt0.true c.in_ok-put_in_place.ensures;
     }
 
 pub loop-sign-preserved : goal.loop-sign-preserved
 loop-sign-preserved g c =
     let s = c.in-Some.sign in
-    let h = sign_text {run = replaced_line c.args.config.now.entries c.args.path.now c.args.number 0 0 c.args.line.now} c.args.config.now.entries c.args.path.now c.args.number c.args.line.now c.loop-sign.from s.text s.at s.name c.loop-sign.invariant.going c.in-Some.ensures c.in_ok-put_all.ensures in
+    let h = sign_text {run = replaced_line c.args.config.now.entries c.args.path.now c.args.number c.args.line.now} c.args.config.now.entries c.args.path.now c.args.number c.args.line.now c.loop-sign.from s.text s.at s.name c.loop-sign.invariant.going c.in-Some.ensures c.in_ok-put_all.ensures in
     record {
       in_range = sign_at c.args.line.now c.loop-sign.from s.text s.at s.name c.loop-sign.invariant.in_range c.in-Some.ensures;
-      going = going_on (alone_going {run = replaced_line c.args.config.now.entries c.args.path.now c.args.number 0 0 c.args.line.now} c.args.config.now.entries c.args.path.now c.args.number s.name _ h c.if-sign-gt0.false) c.in_ok-put_all-2.ensures;
+      going = going_on (alone_going {run = replaced_line c.args.config.now.entries c.args.path.now c.args.number c.args.line.now} c.args.config.now.entries c.args.path.now c.args.number s.name _ h c.if-sign-gt0.false) c.in_ok-put_all-2.ensures;
     }
 
 pub returns-in_err-put_all-2 : goal.returns-in_err-put_all-2
 returns-in_err-put_all-2 g c =
     let s = c.in-Some.sign in
-    let h = sign_text {run = replaced_line c.args.config.now.entries c.args.path.now c.args.number 0 0 c.args.line.now} c.args.config.now.entries c.args.path.now c.args.number c.args.line.now c.loop-sign.from s.text s.at s.name c.loop-sign.invariant.going c.in-Some.ensures c.in_ok-put_all.ensures in
-    writes_exit _ c.from_residual-in_err-put_all-2.ensures.0 (going_stop _ (alone_going {run = replaced_line c.args.config.now.entries c.args.path.now c.args.number 0 0 c.args.line.now} c.args.config.now.entries c.args.path.now c.args.number s.name _ h c.if-sign-gt0.false) c.in_err-put_all-2.ensures)
+    let h = sign_text {run = replaced_line c.args.config.now.entries c.args.path.now c.args.number c.args.line.now} c.args.config.now.entries c.args.path.now c.args.number c.args.line.now c.loop-sign.from s.text s.at s.name c.loop-sign.invariant.going c.in-Some.ensures c.in_ok-put_all.ensures in
+    writes_exit _ c.from_residual-in_err-put_all-2.ensures.0 (going_stop _ (alone_going {run = replaced_line c.args.config.now.entries c.args.path.now c.args.number c.args.line.now} c.args.config.now.entries c.args.path.now c.args.number s.name _ h c.if-sign-gt0.false) c.in_err-put_all-2.ensures)
 
 pub returns : goal.returns
-returns g c = plain_last {run = replaced_line c.args.config.now.entries c.args.path.now c.args.number 0 0 c.args.line.now} c.args.config.now.entries c.args.path.now c.args.number c.args.line.now c.loop-sign.from c.loop-sign.invariant.going c.in_default.ensures c.put_all-2.ensures
+returns g c = plain_last {run = replaced_line c.args.config.now.entries c.args.path.now c.args.number c.args.line.now} c.args.config.now.entries c.args.path.now c.args.number c.args.line.now c.loop-sign.from c.loop-sign.invariant.going c.in_default.ensures c.put_all-2.ensures
 
 pub put_in_place-requires-clause-named : goal.put_in_place-requires-clause-named
 put_in_place-requires-clause-named g c = let s = c.in-Some.sign in sign_named c.args.line.now c.loop-sign.from s.text s.at s.name c.in-Some.ensures

@@ -6,7 +6,7 @@ use Rattle.template.proofs.replace.put_replaced.Given as goal
 abbrev pub invariant-loop-sign : goal.invariant-loop-sign
 invariant-loop-sign g l = record {
   in_range : l.from ≤ length l.line;
-  going : Going (g.O.Outputs.seen l.fn.out) (g.O.Outputs.seen l.out) (replaced_line l.config.entries l.path l.number 0 0 l.line) (replaced_line l.config.entries l.path l.number 0 0 (drop l.from l.line));
+  going : Going (g.O.Outputs.seen l.fn.out) (g.O.Outputs.seen l.out) (replaced_line l.config.entries l.path l.number l.line) (replaced_line l.config.entries l.path l.number (drop l.from l.line));
 }
 
 abbrev pub decreases-loop-sign : goal.decreases-loop-sign
