@@ -3,7 +3,7 @@ ghost use Rattle.std.specs.Prelude.{◌≡◌, option_map};
 ghost use Rattle.option_values.specs.View.{value_in};
 ghost use Rattle.build.specs.View.{target_view};
 ghost use Rattle.world.specs.Prelude.{Does, MayFail, arguments_data, data_of};
-ghost use Rattle.target_calls.specs.Targets.{add_installed, declare, library, library_kind, required_fit};
+ghost use Rattle.target_calls.specs.Targets.{declare, library, library_kind, required_fit};
 
 use crate::build_target::declare_target;
 use crate::fit_breaches::fit_breach;
@@ -33,21 +33,7 @@ pub fn require_fit<T: Tree, O: Outputs>(
     }
 }
 
-// Declares a target, records where its file is installed, and returns its number.
-fn add_installed<T: Tree, O: Outputs>(
-    caller: &mut Caller<'_, T, O>,
-    arguments: &Arguments,
-    target: Target,
-) -> Result<usize, Stop>
-    ensures { Does T.seen O.seen (λ n. n) (add_installed (arguments_data arguments.now) (target_view target)) caller.old result caller.new }
-{
-    let install = install_of(caller.alloc, caller.store, arguments, &target)?;
-    let number = caller.add_target(target)?;
-    note(caller, install)?;
-    Ok(number)
-}
-
-/// Runs `executable`, `static_library` or `shared_library`, by the kind. Refuses with E9, E14, E21, E11, E22 in this order.
+/// Runs `executable`, `static_library` or `shared_library`, by the kind, and records where the file is installed. Refuses with E9, E14, E21, E11, E22 in this order.
 pub fn declare<T: Tree, O: Outputs>(
     caller: &mut Caller<'_, T, O>,
     kind: TargetKind,
@@ -60,7 +46,9 @@ pub fn declare<T: Tree, O: Outputs>(
     let named = caller.pass(said)?;
     require_fit(caller, &named.target)?;
     require_all(caller, named.files)?;
-    let number = add_installed(caller, arguments, named.target)?;
+    let install = install_of(caller.alloc, caller.store, arguments, &named.target)?;
+    let number = caller.add_target(named.target)?;
+    note(caller, install)?;
     let value = Value::of_object(caller.alloc, Object::BuildTarget(number))?;
     Ok(Some(value))
 }
