@@ -14,4 +14,5 @@ pub mod RowView
 pub mod Rows
 pub mod Rules
 pub mod Said
+pub mod Stops
 pub mod Words

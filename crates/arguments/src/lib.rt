@@ -13,6 +13,7 @@ mod refused;
 mod row;
 mod rows;
 mod rule;
+mod stop;
 mod words;
 
 pub use arguments::{Arguments, Named, add_argument, no_arguments};
@@ -24,4 +25,5 @@ pub use refused::ArgumentError;
 pub use row::{ArgumentKind, Keyword, Piece, Row};
 pub use rows::{any_values, some_texts, values};
 pub use rule::Rule;
+pub use stop::CallStop;
 pub use words::values_words;

@@ -19,6 +19,7 @@ pub mod Numbers
 pub mod Ruling
 pub mod Running
 pub mod Setting
+pub mod Settling
 pub mod Tells
 mod Trails
 pub mod Values

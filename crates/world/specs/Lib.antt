@@ -26,6 +26,7 @@ pub mod Ruled
 pub mod Run
 pub mod Settings
 pub mod SettingsView
+pub mod Settling
 pub mod Start
 pub mod Store
 pub mod Trace

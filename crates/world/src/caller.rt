@@ -12,6 +12,7 @@ mod call_place;
 mod configuration;
 mod declarations;
 mod rule_checks;
+mod settling;
 
 use crate::operation::of_operation;
 use crate::stop::Stop;
