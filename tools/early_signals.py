@@ -6,8 +6,12 @@ handles the signals.
 from __future__ import annotations
 
 import os
-import signal
 import sys
+
+try:
+    import _signal as signal  # `signal` makes classes of its numbers, which takes half as long as a command
+except ImportError:
+    import signal
 
 TYPE_CHECKING = False
 if TYPE_CHECKING:

@@ -4,26 +4,27 @@ The compiler reads the text of a project that nobody has to trust, and no result
 one, and the last arguments name the output in it. The arguments of a project are those of an allowlist (allowed.py), and the compiler runs
 in a sandbox (sandbox.py).
 """
+from __future__ import annotations
+
+import _thread
 import functools
 import os
 import re
-import shlex
-import shutil
-import tempfile
-import threading
 import time
 
 from tools import records as dataclasses
 from tools.asking.allowed import DANGER, Allowed
 from tools.asking.cache import Cache, label_of
-from tools.asking.evidence import Evidence, add_headers, add_linked, at_work, cut_headers, folders_in, gathered, stamp_of
-from tools.asking.processes import Done, NoAnswer, end_all, run
-from tools.asking.programs import after_launchers
+from tools.asking.early import DEFINED, VERSION, after_launchers, compiler_words, early_or_run
+from tools.asking.evidence import add_headers, add_linked, at_work, cut_headers, folders_in, gathered
+from tools.asking.processes import Done, NoAnswer, run
+from tools.asking.programs import own_folders, path_folders
 from tools.asking.sandbox import SECONDS, Sandbox, sandbox_of
+from tools.asking.stamps import Evidence, stamp_of
 from tools.ending import Stop
 from tools.files import read_bytes
-from tools.parallel import side_by_side
-from tools.variables import pkg_config, words_of
+from tools.scratch import ScratchFolder
+from tools.variables import found_program, pkg_config, words_of
 
 # The programs that a compiler runs, and what is looked at of all that it defines.
 TOOLS = ("cc1", "as", "collect2", "ld")
@@ -47,8 +48,8 @@ OF_CLANG_THAT_COMPILES = ["-Werror=unknown-warning-option", "-Werror=unused-comm
 @functools.cache
 def identity(words: tuple[str, ...]) -> tuple[object, ...]:
     """Returns which program these arguments run."""
-    path = os.path.realpath(shutil.which(words[0]) or words[0])
-    return (words, path, stamp_of(path), run([*words, "--version"]).printed)
+    path = os.path.realpath(found_program(words[0]) or words[0])
+    return (words, path, stamp_of(path), early_or_run([*words, *VERSION]).printed)
 
 
 def bytes_made(path: str) -> bytes:
@@ -72,21 +73,21 @@ class Compiler:
     def __init__(self, scratch: str, sources: str, cache: Cache | None = None) -> None:
         self.scratch, self.allowed, self.cache = scratch, Allowed((sources,)), cache or Cache(None)
         self.folders: dict[Flags, list[str] | None] = {}  # that are searched for headers
-        self.searches = threading.Lock()
+        self.searches = _thread.allocate_lock()
         self.end = time.monotonic() + ALL_SECONDS  # after which no command is run
-        self.c, self.ar = words_of("CC") or ["cc"], words_of("AR") or ["ar"]
+        self.c, self.ar = compiler_words(), words_of("AR") or ["ar"]
         self.own = after_launchers(self.c)  # as it is called for a check
         self.standard: list[str] = []
         self.has_words_of_project = False  # among the flags in use
         self.tried_out: dict[str, Sandbox] = {}  # the sandbox in which flags work
         self.c_args, self.c_link_args = words_of("CPPFLAGS") + words_of("CFLAGS"), words_of("CFLAGS") + words_of("LDFLAGS")
         for word in (self.c[0], self.own[0]):
-            if not shutil.which(word):
+            if not found_program(word):
                 raise Stop(f"no C compiler: {word!r} isn't on PATH (CC names another)")
-        with tempfile.TemporaryDirectory(dir=scratch) as folder:
+        with ScratchFolder(scratch) as folder:
             self.sandbox = sandbox_of(self.own, pkg_config(), folder)
-        self.itself = [*identity(tuple(self.own))]
-        defined, tools = self.found_out()
+            self.itself = [*identity(tuple(self.own))]
+            defined, tools, self.own_headers = self.found_out(folder)
         self.itself += [[it, stamp_of(it)] for it in tools]
         self.id = "clang" if "__clang__" in defined else "gcc" if "__GNUC__" in defined else "unknown"
         self.version = (re.search(r"\d+(\.\d+)+", defined.get("__VERSION__", "")) or ["unknown"])[0]
@@ -99,22 +100,19 @@ class Compiler:
         endian = "big" if defined.get("__BYTE_ORDER__") == "__ORDER_BIG_ENDIAN__" else "little"
         self.host = {"system": system.sysname.lower(), "cpu_family": family, "cpu": cpu, "endian": endian}
 
-    def found_out(self) -> tuple[dict[str, str], list[str]]:
-        """Returns what the compiler defines before all sources, and the programs that it runs."""
+    def found_out(self, folder: str) -> tuple[dict[str, str], list[str], list[str] | None]:
+        """Returns what the compiler defines before all sources, the programs that it runs, and the folders that it searches for headers."""
         label = label_of(["compiler", self.itself])
         kept, is_good = self.cache.get(label)
         if is_good and isinstance(kept, list):
-            return kept[0], kept[1]
-        defined = dict(re.findall(r"^#define (\w+) (.*)$", run([*self.own, "-dM", "-E", "-x", "c", "/dev/null"]).printed, re.M))
-        tools = side_by_side(self.tool, list(TOOLS), None, end_all) if self.cache.path else []
-        evidence = Evidence()
-        evidence.paths = set(filter(None, tools))
-        self.cache.put(evidence, {label: [{it: defined[it] for it in OF_INTEREST if it in defined}, sorted(evidence.paths)]})
-        return defined, sorted(evidence.paths)
-
-    def tool(self, name: str) -> str:
-        printed = run([*self.own, f"-print-prog-name={name}"]).printed.strip()
-        return shutil.which(printed) or "" if printed else ""
+            return kept[0], kept[1], kept[2]
+        done = early_or_run([*self.own, *DEFINED])
+        defined, headers = dict(re.findall(r"^#define (\w+) (.*)$", done.printed, re.M)), folders_in(done.said)
+        searched = [*own_folders(tuple(self.own), folder), *path_folders()]
+        evidence = Evidence(set(filter(None, (found_program(it, searched) for it in TOOLS))) if self.cache.path else None)
+        tools = sorted(evidence.paths)
+        self.cache.put(evidence, {label: [{it: defined[it] for it in OF_INTEREST if it in defined}, tools, headers]})
+        return defined, tools, headers
 
     def words(self) -> list[object]:
         """Returns what an answer depends on in addition to its question: the compiler, and the arguments in use."""
@@ -172,6 +170,7 @@ class Compiler:
     def fault_of(self, mode: str) -> str:
         """Returns why it can't take an empty program in this way; empty if it can."""
         done = self.attempt(mode, MAIN, Flags(tuple(self.standard)), hears=True)
+        import shlex
         given = shlex.join([*self.c, *self.standard, *self.c_args, *(self.c_link_args if mode == "link" else [])])
         return "" if done.is_good else f"the C compiler can't {mode} an empty program: `{given}`: {done.why}"
 
@@ -185,14 +184,14 @@ class Compiler:
 
     def ask(self, words: list[str]) -> Done:
         """Runs a command in the sandbox, in an empty folder."""
-        with tempfile.TemporaryDirectory(dir=self.scratch) as folder:
+        with ScratchFolder(self.scratch) as folder:
             return self.in_sandbox(words, folder)
 
     def attempt(self, mode: str, source: str, flags: Flags = Flags(), hears: bool = False, ending: str = ".c",
                 reads: bool = False) -> Done:
         """Returns how the compiler takes a source, in a file of this ending, with the arguments of a check in the order of the real
         Meson. Reads the output if the caller requests it."""
-        with tempfile.TemporaryDirectory(dir=self.scratch) as folder:
+        with ScratchFolder(self.scratch) as folder:
             # The words of a check can't name the source, whose text is the project's too.
             file = os.path.join(folder, os.urandom(8).hex() + ending)
             with open(file, "w", encoding="utf-8", errors="surrogatepass") as it:
@@ -223,7 +222,7 @@ class Compiler:
         """Returns the folders that are searched for headers, with the words of a check."""
         with self.searches:
             if flags not in self.folders:
-                with tempfile.TemporaryDirectory(dir=self.scratch) as folder:
+                with ScratchFolder(self.scratch) as folder:
                     words = [*flags.compile_args, *self.c_args, *flags.args, "-x", "c", os.devnull, "-o", os.path.join(folder, "made")]
                     self.folders[flags] = folders_in(self.in_sandbox([*self.own, "-E", "-v", *words], folder).said)
             return self.folders[flags]

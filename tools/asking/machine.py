@@ -1,6 +1,7 @@
 """Answers questions for this machine, and makes the messages about these answers."""
+from __future__ import annotations
+
 import os
-import shutil
 from collections.abc import Iterator
 
 from tools import records as dataclasses
@@ -16,7 +17,7 @@ from tools.asking.processes import NoAnswer, end_all
 from tools.asking.questions import Question
 from tools.asking.text import Sections, can_hold, is_written, spelled
 from tools.parallel import side_by_side
-from tools.variables import pkg_config
+from tools.variables import found_program, pkg_config
 
 OWN = ""  # what a program is that is a file of the project, which the run finds by itself
 AS_UNSAID = ("false", "-1", spelled(OWN))  # answers without which a machine file means the same
@@ -133,14 +134,14 @@ class Machine:
 
     def package(self, name: str) -> dict[str, object] | None:
         found = dependency(self.compiler, name)
-        if found is None and not shutil.which(pkg_config()[0]):
+        if found is None and not found_program(pkg_config()[0]):
             raise NoAnswer("there is no pkg-config (PKG_CONFIG names another)")
         return found
 
     def program(self, question: Question, name: str) -> object:
         if os.path.isfile(os.path.join(self.sources, os.path.dirname(question.file), name)):
             return OWN
-        path = shutil.which(name) if "/" not in name else None
+        path = found_program(name) if "/" not in name else None
         if path and not is_written(path):
             raise NoAnswer(f"no machine file can hold the path {path!r}")
         return self.itself["binaries"].get(name, path)

@@ -8,7 +8,7 @@ from __future__ import annotations
 import os
 
 from tools.asking.cache import Cache, label_of
-from tools.asking.evidence import Evidence, stamp_of
+from tools.asking.stamps import Evidence, stamp_of
 from tools.asking.questions import Project, first_statement
 from tools.files import DEFINITION, OPTION_FILES, read_text
 

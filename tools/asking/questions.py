@@ -1,15 +1,17 @@
 """Reads the questions that a run of the program has for the machine, as `meson questions` prints them."""
-import json
+from __future__ import annotations
+
 import os
-import tempfile
 
 from tools import records as dataclasses
 from tools.asking.checks import OF_WORDS
 from tools.asking.processes import MOST_TOLD, run
 from tools.ending import Stop
 from tools.files import DEFINITION, read_text
+from tools.light_json import loads
 from tools.linked_copy import linked_copy
 from tools.porting.lexer import SyntaxFault, tokens_of
+from tools.scratch import ScratchFolder
 
 ROOT_FILE = "meson.build"
 BUILD = "build-of-the-questions"
@@ -61,7 +63,7 @@ class Question:
 
 
 def question_of(line: str) -> Question:
-    told = json.loads(line)
+    told = loads(line)
     return Question(*(told[it] for it in ("section", "key", "file", "line", "beside")))
 
 
@@ -94,7 +96,7 @@ class Project:
 
     def in_use(self, machine_file: str) -> tuple[str, list[str], list[str]]:
         """Returns c_std, c_args and c_link_args as the project has them in the end, by a run of its first statement alone."""
-        with tempfile.TemporaryDirectory(dir=self.scratch) as folder:
+        with ScratchFolder(self.scratch) as folder:
             linked_copy(self.sources, folder, {ROOT_FILE: first_statement(self.sources) + IN_USE})
             told = self.ask(machine_file, folder)
         if told.fault:

@@ -1,0 +1,121 @@
+"""Answers the questions of a project's run, or of a user, and prints what `meson machine-file` prints."""
+from __future__ import annotations
+
+from tools.asking.cache import Cache
+from tools.asking.checks import METHODS, OF_TWO, arguments_of
+from tools.asking.compiler import Compiler
+from tools.asking.machine import Machine
+from tools.asking.project_cache import LastMachineFile, options_in_use
+from tools.asking.questions import Project, Question, Told
+from tools.asking.text import Sections, text_of
+from tools.ending import Stop, one_line, say, write
+
+TYPE_CHECKING = False
+if TYPE_CHECKING:
+    from typing import Any
+
+SCRIPT, FAILED, BAD_WORDS = "meson machine-file", 1, 2
+ROUNDS = 1000  # the most runs of the program
+MISSING = "ERROR: E17 "
+FIRST = "# What this machine answers; written by `meson machine-file`.\n"
+
+
+def report(text: str) -> None:
+    say(SCRIPT, text)
+
+
+def question_of(word: str, prefix: str) -> Question:
+    """Returns the question that a user asks."""
+    kind, _, name = word.partition(" ")
+    sections = {"dependency": (word, None), "program": ("binaries", name), **dict.fromkeys(METHODS, ("checks", word))}
+    arguments = arguments_of(word)[1]
+    if kind not in sections or not all(arguments) or len(arguments) < 1 + (kind in OF_TWO):
+        raise Stop(f"--ask: {word!r} is neither a check, as 'has_function strlcat', nor 'dependency NAME' or 'program NAME'", BAD_WORDS)
+    return Question(*sections[kind], "--ask", 1, {"prefix": [prefix]})
+
+
+def try_out(compiler: Compiler, is_sandbox_required: bool) -> None:
+    """Stops where the compiler doesn't work, and says or refuses what the sandbox can't bound."""
+    compiler.try_out()
+    if compiler.sandbox.lack and is_sandbox_required:
+        raise Stop(f"--require-sandbox: {compiler.sandbox.lack}")
+    if compiler.sandbox.lack:
+        report(compiler.sandbox.lack)
+
+
+def ask_one(machine: Machine, question: Question) -> int:
+    """Prints what a machine file says to a question."""
+    known = machine.learn([question]).get(question.section, {})
+    values = {key: it for key, it in known.items() if question.key in (None, key)}
+    write(text_of({question.section: values}).lstrip().encode())
+    report_rest(machine, [question])
+    lack = machine.lack(question) if not values else ""
+    if lack:
+        report(lack)
+    return 0 if values else FAILED
+
+
+def ask_all(machine: Machine, project: Project) -> tuple[Sections, Told]:
+    """Runs the program and answers its questions until no new one comes. Returns what is known then, and the last run. It begins with
+    the last answers, if they are kept. Each run asks at least one more question whose answer is the machine's, so the end is the same
+    from any beginning."""
+    last = LastMachineFile(machine.compiler.cache, project, machine.compiler.words())
+    known = last.sections or machine.learn([])
+    for _ in range(ROUNDS):
+        told = project.ask(text_of(known))
+        learned = machine.learn(told.questions)
+        if learned == known:
+            last.keep(learned)
+            return learned, told
+        known = learned
+    raise Stop(f"after {ROUNDS} runs there are still new questions")
+
+
+def report_rest(machine: Machine, questions: list[Question]) -> list[str]:
+    """Says what isn't answered and what has two answers; the comments of the machine file."""
+    remarks = dict(machine.remarks(questions))
+    for told in filter(None, remarks.values()):
+        report(told)
+    return [f"# {one_line(it)}\n" for it in remarks]
+
+
+def report_fault(machine: Machine, told: Told) -> None:
+    """Says the fault of a run, and of what is missing there who has it."""
+    report(told.fault)
+    at_fault = {it.name: it for it in told.questions if told.fault.startswith(f"{it.place}: {MISSING}")}
+    for lack in filter(None, map(machine.lack, at_fault.values())):
+        report(lack)
+
+
+def compare(machine: Machine, known: Sections, told: Told, path: str) -> int:
+    """Prints what a file says that this machine answers otherwise."""
+    from tools.asking.compare import NOT_FOUND, differences, gone
+    absent = {it.removeprefix(NOT_FOUND.removeprefix("# ")) for it, _ in machine.remarks(told.questions)}
+    lines = [*differences(path, known), *gone(path, absent)]
+    write("".join(f"{one_line(it)}\n" for it in lines or [f"{path}: nothing would change"]).encode())
+    if told.fault:
+        report_fault(machine, told)
+    return FAILED if lines or told.fault else 0
+
+
+def answer(given: Any, program: str, scratch: str, cache: Cache) -> int:
+    """Carries out the command with these options. Returns its status."""
+    question = question_of(given.ask, given.prefix) if given.ask is not None else None
+    machine = Machine(Compiler(scratch, given.source, cache), given.source, not given.alone)
+    if question is not None:
+        try_out(machine.compiler, given.require_sandbox)
+        return ask_one(machine, question)
+    if given.check is not None:
+        from tools.asking.compare import read_sections
+        read_sections(given.check)  # a file that is not there is reported at once
+    project = Project(program, given.source, ["-D" + it for it in given.words], scratch)
+    machine.compiler.use(*options_in_use(cache, project, text_of(machine.learn([]))), project.words)
+    try_out(machine.compiler, given.require_sandbox)
+    known, told = ask_all(machine, project)
+    cache.save()
+    if given.check is not None:
+        return compare(machine, known, told, given.check)
+    write("".join([FIRST, *report_rest(machine, told.questions), text_of(known)]).encode())
+    if told.fault:
+        report_fault(machine, told)
+    return FAILED if told.fault else 0

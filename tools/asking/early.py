@@ -1,0 +1,58 @@
+"""Begins the commands that say which compiler this is, so that they run while the modules are loaded that need to know it."""
+from __future__ import annotations
+
+import os
+
+from tools.asking.processes import Done, NoAnswer, Running, begin, finish, run
+from tools.variables import words_of
+
+# Commands that run the compiler that is named after them.
+LAUNCHERS = ("ccache", "sccache", "distcc", "icecc")
+BEGUN: dict[tuple[str, ...], Running] = {}  # by the words of the commands
+VERSION, FOLDERS = ["--version"], ["-print-search-dirs"]
+# Prints what the compiler defines before all sources, and says which folders it searches for headers.
+DEFINED = ["-v", "-dM", "-E", "-x", "c", os.devnull]
+
+
+def compiler_words() -> list[str]:
+    return words_of("CC") or ["cc"]
+
+
+def after_launchers(words: list[str]) -> list[str]:
+    """Returns the words of the compiler without those that cache or distribute its work."""
+    while len(words) > 1 and os.path.basename(words[0]) in LAUNCHERS and not words[1].startswith("-"):
+        words = words[1:]
+    return words
+
+
+def begin_compiler(scratch: str) -> None:
+    """Begins the commands that say which compiler this is. One of them runs in an empty folder."""
+    own = after_launchers(compiler_words())
+    begin_early([*own, *DEFINED])
+    begin_early([*own, *VERSION])
+    begin_early([*own, *FOLDERS], scratch)
+
+
+def begin_early(words: list[str], folder: str | None = None) -> None:
+    """Begins a command, whose end `early_or_run` waits for. One that can't begin is begun again there, and fails there."""
+    if tuple(words) in BEGUN:
+        return
+    try:
+        BEGUN[tuple(words)] = begin(words, folder)
+    except (OSError, ValueError):
+        pass
+
+
+def early_or_run(words: list[str], folder: str | None = None) -> Done:
+    """Returns how a command ended: one that was begun early, or a new one."""
+    running = BEGUN.pop(tuple(words), None)
+    return run(words, folder) if running is None else finish(running)
+
+
+def end_early() -> None:
+    """Waits for the commands that nobody has asked for."""
+    while BEGUN:
+        try:
+            finish(BEGUN.popitem()[1])
+        except NoAnswer:
+            pass
