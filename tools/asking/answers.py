@@ -55,16 +55,25 @@ def ask_one(machine: Machine, question: Question) -> int:
     return 0 if values else FAILED
 
 
+def foreseen(machine: Machine, project: Project, told: Told) -> list[Question]:
+    """Returns the questions that a run will have when its new ones are answered, as far as guesses show it; if it has no new ones, its own.
+    A run of the program takes less time than a check."""
+    while (guessed := machine.guess(told.questions)) is not None:
+        told = project.ask(text_of(guessed))
+    return told.questions
+
+
 def ask_all(machine: Machine, project: Project) -> tuple[Sections, Told]:
     """Runs the program and answers its questions until no new one comes. Returns what is known then, and the last run. It begins with
     the last answers, if they are kept. Each run asks at least one more question whose answer is the machine's, so the end is the same
-    from any beginning."""
+    from any beginning. What was guessed is in no answer: a last run has those of the machine alone."""
     last = LastMachineFile(machine.compiler.cache, project, machine.compiler.words())
     known = last.sections or machine.learn([])
     for _ in range(ROUNDS):
         told = project.ask(text_of(known))
-        learned = machine.learn(told.questions)
-        if learned == known:
+        questions = foreseen(machine, project, told)
+        learned = machine.learn(questions)
+        if learned == known and questions is told.questions:
             last.keep(learned)
             return learned, told
         known = learned

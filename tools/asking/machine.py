@@ -10,7 +10,7 @@ from tools.asking.bundles import Check, ask_together, bundles_of
 from tools.asking.cache import label_of
 from tools.asking.checks import METHODS, NUMBERS, OF_WORDS, answer, arguments_of
 from tools.asking.compiler import Compiler, Flags, identity
-from tools.asking.dependencies import dependency
+from tools.asking.dependencies import BY_COMPILING, dependency
 from tools.asking.evidence import gathered
 from tools.asking.packages import who_has
 from tools.asking.processes import NoAnswer, end_all
@@ -21,6 +21,7 @@ from tools.variables import found_program, pkg_config
 
 OWN = ""  # what a program is that is a file of the project, which the run finds by itself
 AS_UNSAID = ("false", "-1", spelled(OWN))  # answers without which a machine file means the same
+USUAL_SIZES = {"char": 1, "short": 2, "int": 4, "float": 4}
 DECLARED = ""  # the name of a dependency that the project declares
 
 
@@ -30,6 +31,19 @@ def each_once(questions: list[Question]) -> list[Question]:
     for it in questions:
         found.setdefault(it.label, it)
     return list(found.values())
+
+
+def labels_of_words(name: str) -> tuple[tuple[object, ...], tuple[object, ...]]:
+    """Returns the labels of the questions for a library and for a dependency of this name."""
+    return ("checks", f"find_library {name}"), (f"dependency {name}", None)
+
+
+def guess_of(question: Question) -> object:
+    """Returns the answer that most machines give to a question: what is asked for is there."""
+    if question.method in NUMBERS:
+        return USUAL_SIZES.get(arguments_of(question.key or "")[1][0], 8)
+    words = ["-pthread"] if question.dependency == "threads" else []
+    return True if question.method else {"version": "999", "compile_args": words, "link_args": words}
 
 
 def is_no_file(method: str, arguments: list[str]) -> bool:
@@ -45,13 +59,25 @@ class Machine:
             "binaries": {"c": compiler.c, "ar": compiler.ar}, "built-in options": {name: it for name, it in args.items() if it},
             "host_machine": compiler.host, "compiler": {"id": compiler.id, "version": compiler.version}}
         self.answers: dict[tuple[object, ...], object] = {}
+        self.guesses: dict[tuple[object, ...], object] = {}  # of questions whose answers take longer than a run of the program
 
     def learn(self, questions: list[Question]) -> Sections:
         """Returns the sections that answer these questions. A key that occurs twice has the answer of the first place."""
         self.answer_new(questions)
+        return self.sections(questions, self.answers)
+
+    def guess(self, questions: list[Question]) -> Sections | None:
+        """Returns sections that answer these questions, with guesses where the machine would have to compile. None if each of them is
+        answered or was guessed before."""
+        self.answer_at_once(questions)
+        fresh = [it for it in self.fresh(questions) if it.label not in self.guesses]
+        self.guesses.update({it.label: guess_of(it) for it in fresh})
+        return self.sections(questions, {**self.guesses, **self.answers}) if fresh else None
+
+    def sections(self, questions: list[Question], answers: dict[tuple[object, ...], object]) -> Sections:
         known = {title: dict(values) for title, values in self.itself.items()}
         for question in questions:
-            came = self.answers.get(question.label)
+            came = answers.get(question.label)
             if came is None or came == OWN or isinstance(came, NoAnswer) or not can_hold(question.section, question.key):
                 continue
             if question.key is None:
@@ -61,13 +87,35 @@ class Machine:
         checks = known.pop("checks", {})
         return {**known, "checks": checks}
 
-    def answer_new(self, questions: list[Question]) -> None:
+    def fresh(self, questions: list[Question]) -> list[Question]:
+        """Returns the questions for the machine that have no answer yet."""
         is_mine = lambda it: it.section in ("binaries", "checks") or it.dependency is not None
-        fresh = [it for it in each_once(questions) if is_mine(it) and it.label not in self.answers]
-        # A check may name dependencies and libraries, so these are answered first.
-        is_last = lambda it: it.method not in ("", "find_library") and it.texts("dependencies") != ()
-        self.answer_together([it for it in fresh if not is_last(it)])
-        self.answer_together([it for it in fresh if is_last(it)])
+        return [it for it in each_once(questions) if is_mine(it) and it.label not in self.answers]
+
+    def answer_at_once(self, questions: list[Question]) -> None:
+        """Answers what takes no compiler: programs, packages, and what is kept. What gives words to checks comes first."""
+        fresh = self.fresh(questions)
+        for it in sorted(fresh, key=lambda it: it.texts("dependencies") != ()):
+            kept, is_kept = self.compiler.cache.get(self.cache_label(it)) if self.is_complete(it) else (None, False)
+            if is_kept:
+                self.answers[it.label] = kept
+        is_quick = lambda it: it.section == "binaries" or it.dependency is not None and it.dependency not in BY_COMPILING
+        self.answer_each([it for it in fresh if it.label not in self.answers and is_quick(it)])
+
+    def is_complete(self, question: Question) -> bool:
+        """Returns whether all that a check names is answered."""
+        labels = [it for name in question.texts("dependencies") for it in labels_of_words(name)]
+        return all(it in self.answers or it not in self.guesses for it in labels)
+
+    def answer_new(self, questions: list[Question]) -> None:
+        fresh = self.fresh(questions)
+        asked = {it.label: self.check_of(it) for it in fresh if it.method}
+        self.answer_together(fresh)
+        # A dependency or a library may give other words than those that were guessed.
+        again = [it for it in fresh if it.label in asked and self.check_of(it) != asked[it.label]]
+        for it in again:
+            del self.answers[it.label]
+        self.answer_together(again)
 
     def answer_each(self, questions: list[Question]) -> None:
         self.answers.update(zip([it.label for it in questions], side_by_side(self.answered, questions, None, end_all)))
@@ -183,9 +231,8 @@ class Machine:
     def words_of(self, name: str) -> dict[str, list[str]]:
         """Returns what a dependency gives to the compiler and the linker; nothing if it isn't found, or is one that the project
         declares."""
-        is_library = self.answers.get(("checks", f"find_library {name}")) is True
-        found = self.answers.get((f"dependency {name}", None))
-        return found if isinstance(found, dict) else {"link_args": ["-l" + name]} if is_library else {}
+        is_library, found = (self.answers.get(it, self.guesses.get(it)) for it in labels_of_words(name))
+        return found if isinstance(found, dict) else {"link_args": ["-l" + name]} if is_library is True else {}
 
     def lack(self, question: Question) -> str:
         """Says what a run that ended with a question lacks, and who has it; nothing if the answer is no reason to end."""
