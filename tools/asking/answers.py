@@ -37,10 +37,28 @@ def question_of(word: str, prefix: str) -> Question:
 def try_out(compiler: Compiler, is_sandbox_required: bool) -> None:
     """Stops where the compiler doesn't work, and says or refuses what the sandbox can't bound."""
     compiler.try_out()
+    report_lack(compiler, is_sandbox_required)
+
+
+def report_lack(compiler: Compiler, is_sandbox_required: bool) -> None:
+    """Says or refuses what the sandbox can't bound."""
     if compiler.sandbox.lack and is_sandbox_required:
         raise Stop(f"--require-sandbox: {compiler.sandbox.lack}")
     if compiler.sandbox.lack:
         report(compiler.sandbox.lack)
+
+
+def settle(machine: Machine, is_sandbox_required: bool) -> bool:
+    """Tries out the compiler if no answer has shown that it works. Returns whether the answers count: not if another sandbox is needed."""
+    compiler = machine.compiler
+    if compiler.is_tried and not compiler.has_doubt:
+        return True
+    before, compiler.has_doubt = compiler.sandbox, False
+    try_out(compiler, is_sandbox_required)
+    if compiler.sandbox == before:
+        return True
+    machine.forget()
+    return False
 
 
 def ask_one(machine: Machine, question: Question) -> int:
@@ -63,7 +81,7 @@ def foreseen(machine: Machine, project: Project, told: Told) -> list[Question]:
     return told.questions
 
 
-def ask_all(machine: Machine, project: Project) -> tuple[Sections, Told]:
+def ask_all(machine: Machine, project: Project, is_sandbox_required: bool) -> tuple[Sections, Told]:
     """Runs the program and answers its questions until no new one comes. Returns what is known then, and the last run. It begins with
     the last answers, if they are kept. Each run asks at least one more question whose answer is the machine's, so the end is the same
     from any beginning. What was guessed is in no answer: a last run has those of the machine alone."""
@@ -73,6 +91,9 @@ def ask_all(machine: Machine, project: Project) -> tuple[Sections, Told]:
         told = project.ask(text_of(known))
         questions = foreseen(machine, project, told)
         learned = machine.learn(questions)
+        if not settle(machine, is_sandbox_required):
+            known = machine.learn([])
+            continue
         if learned == known and questions is told.questions:
             last.keep(learned)
             return learned, told
@@ -119,8 +140,10 @@ def answer(given: Any, program: str, scratch: str, cache: Cache) -> int:
         read_sections(given.check)  # a file that is not there is reported at once
     project = Project(program, given.source, ["-D" + it for it in given.words], scratch)
     machine.compiler.use(*options_in_use(cache, project, text_of(machine.learn([]))), project.words)
-    try_out(machine.compiler, given.require_sandbox)
-    known, told = ask_all(machine, project)
+    if not machine.compiler.can_be_tried_later():
+        machine.compiler.try_out()
+    report_lack(machine.compiler, given.require_sandbox)
+    known, told = ask_all(machine, project, given.require_sandbox)
     cache.save()
     if given.check is not None:
         return compare(machine, known, told, given.check)

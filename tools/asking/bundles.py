@@ -109,6 +109,11 @@ def bundles_of(checks: list[Check]) -> tuple[list[list[Check]], list[Check]]:
     return [it for it in sets.values() if it not in small], [*alone, *(it[0] for it in small)]
 
 
+def is_linked(check: Check) -> bool:
+    """Returns whether a bundle of such checks ends in a link."""
+    return arguments_of(check.key)[0] in (*NUMBERS, "has_function")
+
+
 def ask_together(compiler: Compiler, bundle: list[Check]) -> Answers:
     """Returns what one set of checks settles."""
     which = set_of(bundle[0])

@@ -14,9 +14,9 @@ import time
 
 from tools import records as dataclasses
 from tools.asking.allowed import DANGER, Allowed
-from tools.asking.cache import Cache, label_of
+from tools.asking.cache import Cache, label_of, short_name
 from tools.asking.early import DEFINED, VERSION, after_launchers, compiler_words, early_or_run
-from tools.asking.evidence import add_headers, add_linked, at_work, cut_headers, folders_in, gathered
+from tools.asking.evidence import add_evidence, add_headers, add_linked, at_work, cut_headers, folders_in, gathered
 from tools.asking.processes import Done, NoAnswer, run
 from tools.asking.programs import own_folders, path_folders
 from tools.asking.sandbox import SECONDS, Sandbox, sandbox_of
@@ -41,6 +41,8 @@ MOST_BYTES = 1 << 26  # of a program that holds answers
 ALL_SECONDS = 1800  # that all commands may take together: a project can ask any number of questions
 # The words of the real Meson for each way to try a source.
 MODES = {"preprocess": ["-E", "-P"], "compile": ["-c"], "link": []}
+# Words that change nothing in the folders that are searched for headers.
+OF_NO_FOLDER = r"(?s)-[DU]\w.*|-W(?![lpa],)[\w+=-]+|-std=[\w:+]+|-O\w?|-pthread|-f[\w+=-]+"
 OF_CLANG = ["-Werror=implicit-function-declaration"]
 OF_CLANG_THAT_COMPILES = ["-Werror=unknown-warning-option", "-Werror=unused-command-line-argument", "-Werror=ignored-optimization-argument"]
 
@@ -69,10 +71,22 @@ class Flags:
     link_args: tuple[str, ...] = ()
 
 
+@dataclasses.dataclass(frozen=True)
+class Linked:
+    """Holds whether an empty program was linked, and what that depends on."""
+    is_good: bool
+    evidence: Evidence
+
+
 class Compiler:
     def __init__(self, scratch: str, sources: str, cache: Cache | None = None) -> None:
         self.scratch, self.allowed, self.cache = scratch, Allowed((sources,)), cache or Cache(None)
         self.folders: dict[Flags, list[str] | None] = {}  # that are searched for headers
+        self.linked: dict[Flags, Linked] = {}  # whether an empty program is linked with these arguments, if that is known
+        self.packages: dict[str, tuple[object, Evidence]] = {}  # what pkg-config has said of them, and what that depends on
+        self.package_folders: list[str] | None = None  # that it searches
+        self.has_doubt = False  # whether pkg-config works in the sandbox
+        self.is_tried = False  # an empty program was linked with the flags in use, in the present sandbox
         self.searches = _thread.allocate_lock()
         self.end = time.monotonic() + ALL_SECONDS  # after which no command is run
         self.c, self.ar = compiler_words(), words_of("AR") or ["ar"]
@@ -114,9 +128,9 @@ class Compiler:
         self.cache.put(evidence, {label: [{it: defined[it] for it in OF_INTEREST if it in defined}, tools, headers]})
         return defined, tools, headers
 
-    def words(self) -> list[object]:
-        """Returns what an answer depends on in addition to its question: the compiler, and the arguments in use."""
-        return [self.itself, self.sandbox.lack, self.standard, self.c_args, self.c_link_args]
+    def words(self) -> str:
+        """Returns a name of what an answer depends on in addition to its question: the compiler, and the arguments in use."""
+        return short_name([self.itself, self.sandbox.lack, self.standard, self.c_args, self.c_link_args])
 
     def use(self, c_std: str, c_args: list[str], c_link_args: list[str], given: list[str]) -> None:
         """Takes over the options in use. What neither the environment nor a word `-D..` gives is the project's, and looked at."""
@@ -130,7 +144,7 @@ class Compiler:
             if refused is not None:
                 raise Stop(f"{name} of the project: {DANGER % refused}; -D{name}=.. gives others")
         self.standard = [] if c_std == "none" else ["-std=" + c_std]
-        self.c_args, self.c_link_args = c_args, c_link_args
+        self.c_args, self.c_link_args, self.is_tried = c_args, c_link_args, False
 
     def try_out(self) -> None:
         """Stops if an empty program can't be compiled and linked with the flags in use: every check would be false then."""
@@ -142,20 +156,57 @@ class Compiler:
         """Takes the strongest sandbox in which an empty program can be made with the flags in use; why that fails, where it fails in each.
         Words of the project take no weaker one than the user's words."""
         sandboxes = [self.sandbox] if self.has_words_of_project else list(self.sandbox.weaker())
-        label, faults = label_of(["works", self.words()]), []
-        kept, is_kept = self.cache.get(label)
-        if label in self.tried_out or is_kept and kept in range(len(sandboxes)):
-            self.sandbox = self.tried_out.get(label) or sandboxes[int(str(kept))]
+        label, faults = self.label_of_trial(), []
+        if self.recall_trial(sandboxes):
             return ""
         for number, self.sandbox in enumerate(sandboxes):
             with gathered() as evidence:
                 faults.append(self.fault_of_empty())
             if not faults[-1]:
-                self.cache.put(evidence, {label: number})
-                self.tried_out[label] = self.sandbox
+                self.keep_trial(label, number, evidence)
                 return ""
         self.sandbox = sandboxes[0]
         return faults[0]
+
+    def label_of_trial(self) -> str:
+        return label_of(["works", self.words()])
+
+    def keep_trial(self, label: str, number: int, evidence: Evidence) -> None:
+        """Notes that an empty program was made in a sandbox, which is the first, second or third that was tried."""
+        self.cache.put(evidence, {label: number})
+        self.tried_out[label], self.is_tried = self.sandbox, True
+
+    def recall_trial(self, sandboxes: list[Sandbox]) -> bool:
+        """Takes the sandbox in which an empty program was made before, with the same flags; returns whether there is one."""
+        label = self.label_of_trial()
+        kept, is_kept = self.cache.get(label)
+        is_known = label in self.tried_out or is_kept and kept in range(len(sandboxes))
+        if is_known:
+            self.sandbox = self.tried_out.get(label) or sandboxes[int(str(kept))]
+            self.is_tried = True
+        return is_known
+
+    def can_be_tried_later(self) -> bool:
+        """Returns whether the first link of a check may show that the compiler works: with the user's flags, and GCC, which compiles what
+        it links by the same words."""
+        return self.id == "gcc" and not self.has_words_of_project
+
+    def forget(self) -> None:
+        """Forgets what was found in another sandbox."""
+        self.linked.clear()
+        self.packages.clear()
+        self.folders.clear()
+        self.package_folders = None
+        self.cache.new.clear()
+
+    def note_trial(self, evidence: Evidence) -> None:
+        """Notes that a link with at least the flags in use was good, so that an empty program needn't be tried."""
+        if not self.is_tried and self.can_be_tried_later():
+            self.keep_trial(self.label_of_trial(), 0, evidence)
+
+    def note_links(self, links: list[Flags], is_good: bool, evidence: Evidence) -> None:
+        """Notes how empty programs are linked with these arguments."""
+        self.linked.update(dict.fromkeys(links, Linked(is_good, evidence)))
 
     def fault_of_empty(self) -> str:
         """Returns why it can't compile and link an empty program; empty if it can."""
@@ -206,6 +257,8 @@ class Compiler:
             to = [] if hears and mode == "preprocess" else ["-o", path]
             done = self.in_sandbox([*given, *to], folder, hears or evidence is not None)
             done = self.noted(evidence, mode, source, flags, done) if evidence else done
+            if mode == "link" and done.is_good and flags == Flags(tuple(self.standard)):
+                self.note_trial(evidence or Evidence())
             made = bytes_made(path) if reads and done.is_good else b""
             return dataclasses.replace(done, said=done.said.replace(file, "empty" + ending), made=made)
 
@@ -222,13 +275,26 @@ class Compiler:
         """Returns the folders that are searched for headers, with the words of a check."""
         with self.searches:
             if flags not in self.folders:
+                self.folders[flags] = self.known_folders([*flags.compile_args, *self.c_args, *flags.args])
+            if self.folders[flags] is None:
                 with ScratchFolder(self.scratch) as folder:
                     words = [*flags.compile_args, *self.c_args, *flags.args, "-x", "c", os.devnull, "-o", os.path.join(folder, "made")]
                     self.folders[flags] = folders_in(self.in_sandbox([*self.own, "-E", "-v", *words], folder).said)
             return self.folders[flags]
 
+    def known_folders(self, words: list[str]) -> list[str] | None:
+        """Returns the folders that are searched for headers with words that add no other folders than those which they name. None if
+        that isn't known."""
+        added = [it.removeprefix("-I") for it in words if it.startswith("-I/")]
+        is_known = all(it.startswith("-I/") or re.fullmatch(OF_NO_FOLDER, it) for it in words)
+        return [*added, *self.own_headers] if is_known and self.own_headers else None
+
     def takes(self, mode: str, source: str, flags: Flags = Flags()) -> bool:
-        return self.attempt(mode, source, flags).is_good
+        known = self.linked.get(flags) if mode == "link" and source == MAIN else None
+        if known is None:
+            return self.attempt(mode, source, flags).is_good
+        add_evidence(known.evidence)
+        return known.is_good
 
     def expansion(self, name: str, prefix: str, flags: Flags = Flags()) -> str:
         """Returns what a macro expands to after a prefix; empty if it is none."""

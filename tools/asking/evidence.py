@@ -29,16 +29,28 @@ class gathered:
     """Collects the evidence of what this thread does in a block."""
 
     def __enter__(self) -> Evidence:
-        GATHERS[get_ident()] = Evidence()
-        return GATHERS[get_ident()]
+        self.before, evidence = at_work(), Evidence()
+        GATHERS[get_ident()] = evidence
+        return evidence
 
     def __exit__(self, kind: type[BaseException] | None, fault: BaseException | None, trace: TracebackType | None) -> None:
-        GATHERS.pop(get_ident(), None)
+        if self.before is None:
+            del GATHERS[get_ident()]
+        else:
+            GATHERS[get_ident()] = self.before
 
 
 def at_work() -> Evidence | None:
     """Returns what this thread gathers, or None if its answers aren't kept."""
     return GATHERS.get(get_ident())
+
+
+def add_evidence(other: Evidence) -> None:
+    """Adds what was gathered elsewhere to what this thread gathers."""
+    evidence = at_work()
+    if evidence is not None:
+        evidence.paths |= other.paths
+        evidence.is_whole = evidence.is_whole and other.is_whole
 
 
 def cut_headers(said: str) -> tuple[str, list[tuple[int, str]]]:

@@ -6,11 +6,12 @@ from collections.abc import Iterator
 
 from tools import records as dataclasses
 from tools.asking.allowed import DANGER, is_package
-from tools.asking.bundles import Check, ask_together, bundles_of
+from tools.asking.bundles import Check, ask_together, bundles_of, is_linked
 from tools.asking.cache import label_of
 from tools.asking.checks import METHODS, NUMBERS, OF_WORDS, answer, arguments_of
 from tools.asking.compiler import Compiler, Flags, identity
-from tools.asking.dependencies import BY_COMPILING, dependency
+from tools.asking.dependencies import BY_COMPILING, THREADS, dependency, of_pkg_config
+from tools.asking.links import flags_to_link, link_together
 from tools.asking.evidence import gathered
 from tools.asking.packages import who_has
 from tools.asking.processes import NoAnswer, end_all
@@ -99,8 +100,26 @@ class Machine:
             kept, is_kept = self.compiler.cache.get(self.cache_label(it)) if self.is_complete(it) else (None, False)
             if is_kept:
                 self.answers[it.label] = kept
-        is_quick = lambda it: it.section == "binaries" or it.dependency is not None and it.dependency not in BY_COMPILING
-        self.answer_each([it for it in fresh if it.label not in self.answers and is_quick(it)])
+        for it in fresh:
+            if it.section == "binaries":
+                self.answers[it.label] = self.answered(it)
+        side_by_side(self.answer_package, [it for it in fresh if it.dependency and it.label not in self.answers], None, end_all)
+
+    def answer_package(self, question: Question) -> None:
+        """Answers a dependency, unless it is found by compiling alone."""
+        name = question.dependency or ""
+        try:
+            is_found = name not in BY_COMPILING or of_pkg_config(self.compiler, name) is not None
+        except NoAnswer:
+            is_found = True
+        if is_found:
+            self.answers[question.label] = self.answered(question)
+
+    def forget(self) -> None:
+        """Forgets what was found in another sandbox."""
+        self.answers.clear()
+        self.guesses.clear()
+        self.compiler.forget()
 
     def is_complete(self, question: Question) -> bool:
         """Returns whether all that a check names is answered."""
@@ -135,18 +154,36 @@ class Machine:
                 alone.append(question)
         bundles, rest = bundles_of(list(checks)) if self.in_bundles else ([], list(checks))
         alone += [it for check in rest for it in checks[check]]
+        links = self.links_of(alone, bundles)
         settled: dict[Check, bool | int] = {}
 
-        def work(item: list[Check] | Question) -> None:
+        def work(item: list[Check] | list[Flags] | Question) -> None:
             if isinstance(item, Question):
                 self.answers[item.label] = self.answered(item)
+            elif item is links:
+                link_together(self.compiler, item)
             else:
                 settled.update(self.together(item))
 
-        side_by_side(work, [*bundles, *alone], None, end_all)
+        later = [it for it in alone if self.flags_to_link(it) in (links or [])]
+        side_by_side(work, [*[links] * (links is not None), *bundles, *(it for it in alone if it not in later)], None, end_all)
         for check, answered in settled.items():
             self.answers.update({it.label: answered for it in checks[check]})
-        self.answer_each([it for bundle in bundles for check in bundle if check not in settled for it in checks[check]])
+        self.answer_each([*later, *(it for bundle in bundles for check in bundle if check not in settled for it in checks[check])])
+
+    def links_of(self, questions: list[Question], bundles: list[list[Check]]) -> list[Flags] | None:
+        """Returns the arguments of the links that are tried together, if there are several, or if the link is to show that the compiler
+        works, as the link of a bundle may."""
+        links = list(filter(None, dict.fromkeys(map(self.flags_to_link, questions)))) if self.in_bundles else []
+        plain = Flags(tuple(self.compiler.standard))
+        is_shown = self.compiler.is_tried or any(it[0].flags == plain and is_linked(it[0]) for it in bundles)
+        return links if len(links) > 1 or self.in_bundles and not is_shown and self.compiler.can_be_tried_later() else None
+
+    def flags_to_link(self, question: Question) -> Flags | None:
+        """Returns the arguments of a question that can be linked together with others."""
+        if question.dependency is not None:
+            return THREADS if question.dependency == "threads" else None
+        return flags_to_link(question.key or "") if question.section == "checks" and not self.refused(question) else None
 
     def together(self, bundle: list[Check]) -> dict[Check, bool | int]:
         """Returns what a bundle settles: nothing if it can't run, since each check runs alone then."""
