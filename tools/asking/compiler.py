@@ -92,7 +92,7 @@ class Compiler:
         self.c, self.ar = compiler_words(), words_of("AR") or ["ar"]
         self.own = after_launchers(self.c)  # as it is called for a check
         self.standard: list[str] = []
-        self.has_words_of_project = False  # among the flags in use
+        self.words_of_user: tuple[list[str], list[str], list[str]] | None = None  # if there are others of the project among those in use
         self.tried_out: dict[str, Sandbox] = {}  # the sandbox in which flags work
         self.c_args, self.c_link_args = words_of("CPPFLAGS") + words_of("CFLAGS"), words_of("CFLAGS") + words_of("LDFLAGS")
         for word in (self.c[0], self.own[0]):
@@ -137,9 +137,7 @@ class Compiler:
         for name, words, own in (("c_args", c_args, self.c_args), ("c_link_args", c_link_args, self.c_link_args)):
             if words == own or any(it.startswith(f"-D{name}=") for it in given):
                 continue
-            if not self.has_words_of_project:
-                self.choose_sandbox()  # by the user's words, before there are any of the project
-            self.has_words_of_project = True
+            self.words_of_user = self.words_of_user or ([], self.c_args, self.c_link_args)
             refused = self.allowed.refused(words)
             if refused is not None:
                 raise Stop(f"{name} of the project: {DANGER % refused}; -D{name}=.. gives others")
@@ -155,10 +153,22 @@ class Compiler:
     def choose_sandbox(self) -> str:
         """Takes the strongest sandbox in which an empty program can be made with the flags in use; why that fails, where it fails in each.
         Words of the project take no weaker one than the user's words."""
-        sandboxes = [self.sandbox] if self.has_words_of_project else list(self.sandbox.weaker())
-        label, faults = self.label_of_trial(), []
-        if self.recall_trial(sandboxes):
+        if self.recall_trial():
             return ""
+        if self.words_of_user is None:
+            return self.tried_in(list(self.sandbox.weaker()))
+        fault = self.tried_in([self.sandbox])
+        if not fault:
+            return ""
+        strongest, words = self.sandbox, (self.standard, self.c_args, self.c_link_args)
+        self.standard, self.c_args, self.c_link_args = self.words_of_user
+        self.tried_in(list(self.sandbox.weaker()))
+        self.standard, self.c_args, self.c_link_args = words
+        return fault if self.sandbox == strongest else self.tried_in([self.sandbox])
+
+    def tried_in(self, sandboxes: list[Sandbox]) -> str:
+        """Takes the first sandbox in which an empty program can be made with the flags in use. Returns why that fails in each."""
+        label, faults, self.is_tried = self.label_of_trial(), [], False
         for number, self.sandbox in enumerate(sandboxes):
             with gathered() as evidence:
                 faults.append(self.fault_of_empty())
@@ -176,9 +186,9 @@ class Compiler:
         self.cache.put(evidence, {label: number})
         self.tried_out[label], self.is_tried = self.sandbox, True
 
-    def recall_trial(self, sandboxes: list[Sandbox]) -> bool:
+    def recall_trial(self) -> bool:
         """Takes the sandbox in which an empty program was made before, with the same flags; returns whether there is one."""
-        label = self.label_of_trial()
+        label, sandboxes = self.label_of_trial(), list(self.sandbox.weaker())
         kept, is_kept = self.cache.get(label)
         is_known = label in self.tried_out or is_kept and kept in range(len(sandboxes))
         if is_known:
@@ -187,9 +197,9 @@ class Compiler:
         return is_known
 
     def can_be_tried_later(self) -> bool:
-        """Returns whether the first link of a check may show that the compiler works: with the user's flags, and GCC, which compiles what
-        it links by the same words."""
-        return self.id == "gcc" and not self.has_words_of_project
+        """Returns whether the first link of a check may show that the compiler works: that of GCC, which compiles what it links by the same
+        words."""
+        return self.id == "gcc"
 
     def forget(self) -> None:
         """Forgets what was found in another sandbox."""

@@ -142,6 +142,8 @@ class Machine:
     def answer_together(self, questions: list[Question]) -> None:
         """Answers checks in bundles, and at the same time those that no bundle takes. Then answers the checks that no bundle has
         settled."""
+        if not questions:
+            return
         checks: dict[Check, list[Question]] = {}
         alone = []
         for question in questions:
