@@ -39,8 +39,8 @@ ASSEMBLY = (".s", ".S")
 GUARD = "-Wl,-O0"
 MOST_BYTES = 1 << 26  # of a program that holds answers
 ALL_SECONDS = 1800  # that all commands may take together: a project can ask any number of questions
-# The words of the real Meson for each way to try a source.
-MODES = {"preprocess": ["-E", "-P"], "compile": ["-c"], "link": []}
+# The words of the real Meson for each way to try a source, and one that makes no code.
+MODES = {"preprocess": ["-E", "-P"], "compile": ["-c"], "link": [], "check": ["-fsyntax-only"]}
 # Words that change nothing in the folders that are searched for headers.
 OF_NO_FOLDER = r"(?s)-[DU]\w.*|-W(?![lpa],)[\w+=-]+|-std=[\w:+]+|-O\w?|-pthread|-f[\w+=-]+"
 OF_CLANG = ["-Werror=implicit-function-declaration"]
