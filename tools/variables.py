@@ -3,6 +3,7 @@ from __future__ import annotations
 
 import errno
 import os
+from collections.abc import Mapping
 
 from tools.ending import Stop
 
@@ -31,7 +32,7 @@ def words_of(variable: str) -> list[str]:
     return words_in(os.environ.get(variable, ""), variable)
 
 
-def folders_of_path(variables: dict[str, str]) -> list[str]:
+def folders_of_path(variables: Mapping[str, str]) -> list[str]:
     """Returns the folders of PATH in an environment."""
     path = variables.get("PATH", os.defpath)
     return path.split(":") if path else []
@@ -40,7 +41,7 @@ def folders_of_path(variables: dict[str, str]) -> list[str]:
 def found_program(name: str, folders: list[str] | None = None, here: str = "") -> str | None:
     """Returns the path of a command, as `shutil.which` does: in these folders, or in those of PATH; of a name with a slash itself.
     Relative paths count from `here`."""
-    searched = folders_of_path(dict(os.environ)) if folders is None else folders
+    searched = folders_of_path(os.environ) if folders is None else folders
     places = [name] if "/" in name else [os.path.join(it, name) for it in searched]
     return next((it for it in places if is_program(os.path.join(here, it))), None)
 
@@ -53,7 +54,7 @@ def is_program(path: str) -> bool:
         return False
 
 
-def path_of_program(name: str, variables: dict[str, str], here: str = "") -> str:
+def path_of_program(name: str, variables: Mapping[str, str], here: str = "") -> str:
     """Returns the path by which a command is executed in an environment and a folder. If there is none, an OSError says so."""
     path = name if "/" in name else found_program(name, folders_of_path(variables), here) if name else None
     if not path:

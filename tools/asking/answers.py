@@ -6,7 +6,7 @@ from tools.asking.checks import METHODS, OF_TWO, arguments_of
 from tools.asking.compiler import Compiler
 from tools.asking.machine import Machine
 from tools.asking.project_cache import LastMachineFile, options_in_use
-from tools.asking.questions import Project, Question, Told
+from tools.asking.questions import Project, Question, Told, check_tokens
 from tools.asking.text import Sections, text_of
 from tools.ending import Stop, one_line, say, write
 
@@ -73,11 +73,11 @@ def ask_one(machine: Machine, question: Question) -> int:
     return 0 if values else FAILED
 
 
-def foreseen(machine: Machine, project: Project, told: Told) -> list[Question]:
+def foreseen(machine: Machine, project: Project, known: Sections, told: Told) -> list[Question]:
     """Returns the questions that a run will have when its new ones are answered, as far as guesses show it; if it has no new ones, its own.
     A run of the program takes less time than a check."""
-    while (guessed := machine.guess(told.questions)) is not None:
-        told = project.ask(text_of(guessed))
+    while (guessed := machine.guess(told.questions, known)) is not None:
+        told, known = project.ask(text_of(guessed)), guessed
     return told.questions
 
 
@@ -89,7 +89,7 @@ def ask_all(machine: Machine, project: Project, is_sandbox_required: bool) -> tu
     known = last.sections or machine.learn([])
     for _ in range(ROUNDS):
         told = project.ask(text_of(known))
-        questions = foreseen(machine, project, told)
+        questions = foreseen(machine, project, known, told)
         learned = machine.learn(questions)
         if not settle(machine, is_sandbox_required):
             known = machine.learn([])
@@ -144,6 +144,8 @@ def answer(given: Any, program: str, scratch: str, cache: Cache) -> int:
         machine.compiler.try_out()
     report_lack(machine.compiler, given.require_sandbox)
     known, told = ask_all(machine, project, given.require_sandbox)
+    if told.fault:
+        check_tokens(given.source)
     cache.save()
     if given.check is not None:
         return compare(machine, known, told, given.check)

@@ -67,13 +67,14 @@ class Machine:
         self.answer_new(questions)
         return self.sections(questions, self.answers)
 
-    def guess(self, questions: list[Question]) -> Sections | None:
+    def guess(self, questions: list[Question], known: Sections) -> Sections | None:
         """Returns sections that answer these questions, with guesses where the machine would have to compile. None if each of them is
-        answered or was guessed before."""
+        answered or was guessed before, or if these are the known sections."""
+        is_new = any(it.label not in self.guesses for it in self.fresh(questions))
         self.answer_at_once(questions)
-        fresh = [it for it in self.fresh(questions) if it.label not in self.guesses]
-        self.guesses.update({it.label: guess_of(it) for it in fresh})
-        return self.sections(questions, {**self.guesses, **self.answers}) if fresh else None
+        self.guesses.update({it.label: guess_of(it) for it in self.fresh(questions) if it.label not in self.guesses})
+        guessed = self.sections(questions, {**self.guesses, **self.answers})
+        return guessed if is_new and guessed != known else None
 
     def sections(self, questions: list[Question], answers: dict[tuple[object, ...], object]) -> Sections:
         known = {title: dict(values) for title, values in self.itself.items()}

@@ -2,6 +2,7 @@
 from __future__ import annotations
 
 import os
+from collections.abc import Callable
 
 from tools import records as dataclasses
 from tools.asking.checks import OF_WORDS
@@ -10,8 +11,12 @@ from tools.ending import Stop
 from tools.files import DEFINITION, read_text
 from tools.light_json import loads
 from tools.linked_copy import linked_copy
-from tools.porting.lexer import SyntaxFault, tokens_of
+from tools.porting.lexer import SyntaxFault, tokens_in, tokens_of
 from tools.scratch import ScratchFolder
+
+TYPE_CHECKING = False
+if TYPE_CHECKING:
+    from typing import Any
 
 ROOT_FILE = "meson.build"
 BUILD = "build-of-the-questions"
@@ -89,7 +94,8 @@ class Project:
         with open(path, "w", encoding="utf-8") as it:
             it.write(machine_file)
         words = ["meson", "questions", *self.words, "--native-file", path, BUILD]
-        done = run(words, folder or self.sources, os.path.abspath(self.program), most=MOST_TOLD)
+        here = folder or self.sources
+        done = run(words, None if here == os.curdir else here, os.path.abspath(self.program), most=MOST_TOLD)
         if done.status not in (0, 1):
             raise Stop(done.why)
         return Told([question_of(it) for it in done.printed.split("\n") if it], done.why if done.status else "")
@@ -107,13 +113,30 @@ class Project:
 
 def first_statement(sources: str) -> str:
     """Returns the text of a project's root file up to the end of its first statement."""
+    return read_root(sources, end_of_statement)
+
+
+def end_of_statement(text: str) -> str:
+    """Returns a text up to the end of its first statement."""
+    has_begun = False
+    for it in tokens_in(text):
+        if it.kind == "end" or it.kind == "newline" and has_begun:
+            return text[:it.start]
+        has_begun = has_begun or it.kind != "newline"
+    return text
+
+
+def check_tokens(sources: str) -> None:
+    """Stops if a project's root file is no definition file; the first statement alone is read otherwise."""
+    read_root(sources, tokens_of)
+
+
+def read_root(sources: str, use: Callable[[str], Any]) -> Any:
+    """Returns what a call makes of the text of a project's root file. Stops if it can't be read."""
+    path = os.path.join(sources, ROOT_FILE)
     try:
-        path = os.path.join(sources, ROOT_FILE)
-        text = read_text(path, DEFINITION)
-        tokens = tokens_of(text)
+        return use(read_text(path, DEFINITION))
     except OSError as error:
         raise Stop(f"{path}: {error.strerror}") from error
     except SyntaxFault as fault:
         raise Stop(f"{path}:{fault.line}: {fault.why}") from fault
-    begins = next((number for number, it in enumerate(tokens) if it.kind != "newline"), 0)
-    return text[:next(it.start for it in tokens[begins:] if it.kind in ("newline", "end"))]

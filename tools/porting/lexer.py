@@ -3,6 +3,7 @@ from __future__ import annotations
 
 import bisect
 import re
+from collections.abc import Iterator
 
 from tools import records as dataclasses
 
@@ -88,8 +89,12 @@ def value_of_number(literal: str) -> int:
 
 def tokens_of(text: str) -> list[Token]:
     """Returns all tokens but blanks and comments; newlines only where they end a statement."""
-    tokens: list[Token] = []
-    at = depth = 0
+    return list(tokens_in(text))
+
+
+def tokens_in(text: str) -> Iterator[Token]:
+    """Yields the tokens one by one."""
+    at = depth = count = 0
     while at < len(text):
         match = TOKEN.match(text, at)
         if not match:
@@ -100,9 +105,10 @@ def tokens_of(text: str) -> list[Token]:
             depth = depth + 1 if word in "([{" else max(depth - 1, 0) if word in ")]}" else depth
         if kind == "name" and word in KEYWORDS:
             kind = "keyword"
-        if len(tokens) > MOST_TOKENS:
+        if count > MOST_TOKENS:
             raise SyntaxFault(line_at(text, at), f"a file of more than {MOST_TOKENS:,} tokens is not read here")
         if kind != "skip" and (kind != "newline" or depth == 0):
-            tokens.append(Token(kind, word, at, match.end()))
+            count += 1
+            yield Token(kind, word, at, match.end())
         at = match.end()
-    return [*tokens, Token("newline", "\n", at, at), Token("end", "", at, at)]
+    yield from (Token("newline", "\n", at, at), Token("end", "", at, at))
