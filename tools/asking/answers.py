@@ -1,14 +1,18 @@
 """Answers the questions of a project's run, or of a user, and prints what `meson machine-file` prints."""
 from __future__ import annotations
 
+import os
+
 from tools.asking.cache import Cache
 from tools.asking.checks import METHODS, OF_TWO, arguments_of
 from tools.asking.compiler import Compiler
+from tools.asking.last_output import LastOutput
 from tools.asking.machine import Machine
 from tools.asking.project_cache import LastMachineFile, options_in_use
 from tools.asking.questions import Project, Question, Told, check_tokens
 from tools.asking.text import Sections, text_of
 from tools.ending import Stop, one_line, say, write
+from tools.files import DEFINITION_FILES
 
 TYPE_CHECKING = False
 if TYPE_CHECKING:
@@ -128,7 +132,15 @@ def compare(machine: Machine, known: Sections, told: Told, path: str) -> int:
     return FAILED if lines or told.fault else 0
 
 
-def answer(given: Any, program: str, scratch: str, cache: Cache) -> int:
+def keep(last: LastOutput, machine: Machine, project: Project, told: Told, head: str) -> None:
+    """Keeps what was printed for a project, if all that it comes from is known."""
+    read = [project.program, __file__, *(os.path.join(project.sources, it) for it in DEFINITION_FILES)]
+    origin = machine.origin(told.questions, set(map(os.path.abspath, read)))
+    if origin is not None:
+        last.keep(told.printed, head, text_of(machine.learn(told.questions)), origin)
+
+
+def answer(given: Any, last: LastOutput, scratch: str, cache: Cache) -> int:
     """Carries out the command with these options. Returns its status."""
     question = question_of(given.ask, given.prefix) if given.ask is not None else None
     machine = Machine(Compiler(scratch, given.source, cache), given.source, not given.alone)
@@ -138,7 +150,7 @@ def answer(given: Any, program: str, scratch: str, cache: Cache) -> int:
     if given.check is not None:
         from tools.asking.compare import read_sections
         read_sections(given.check)  # a file that is not there is reported at once
-    project = Project(program, given.source, ["-D" + it for it in given.words], scratch)
+    project = Project(last.program, given.source, last.words, scratch)
     machine.compiler.use(*options_in_use(cache, project, text_of(machine.learn([]))), project.words)
     if not machine.compiler.can_be_tried_later():
         machine.compiler.try_out()
@@ -149,7 +161,10 @@ def answer(given: Any, program: str, scratch: str, cache: Cache) -> int:
     cache.save()
     if given.check is not None:
         return compare(machine, known, told, given.check)
-    write("".join([FIRST, *report_rest(machine, told.questions), text_of(known)]).encode())
+    head = "".join([FIRST, *report_rest(machine, told.questions)])
+    write((head + text_of(known)).encode())
+    if not told.fault and not any(said for _, said in machine.remarks(told.questions)):
+        keep(last, machine, project, told, head)
     if told.fault:
         report_fault(machine, told)
     return FAILED if told.fault else 0

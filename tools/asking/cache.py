@@ -123,10 +123,21 @@ class Cache:
 
     def put(self, evidence: Evidence, answers: dict[str, object]) -> None:
         """Keeps answers, unless what they rest on isn't known, or has changed since the script began."""
-        stamps = {it: self.stamp(it) for it in evidence.paths}
-        is_settled = all(it is None or it[0] < self.begun for it in stamps.values())
-        if self.path and answers and evidence.is_whole and is_settled:
+        stamps = self.settled_stamps(evidence.paths)
+        if self.path and answers and evidence.is_whole and stamps is not None:
             self.new.append((stamps, answers))
+
+    def paths_of(self, label: str) -> set[str] | None:
+        """Returns the paths that an answer depends on; None if it isn't kept."""
+        number = self.kept.answers.get(label, (None, -1))[1]
+        if self.good.get(number):
+            return set(self.kept.lists[number])
+        return next((set(stamps) for stamps, answers in self.new if label in answers), None)
+
+    def settled_stamps(self, paths: set[str]) -> dict[str, Stamp] | None:
+        """Returns the times and sizes of paths, unless one has changed since the script began."""
+        stamps = {it: self.stamp(it) for it in paths}
+        return stamps if all(it is None or it[0] < self.begun for it in stamps.values()) else None
 
     def save(self) -> None:
         """Writes the new answers, together with those that other runs have kept meanwhile. Replaces the file as a whole."""

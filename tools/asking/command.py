@@ -29,12 +29,14 @@ be written, or --check finds a difference; 2 for a bad command line; 130 if it w
 """
 from __future__ import annotations
 
+import os
 import sys
 
 from tools.asking.cache import Cache, cache_path
 from tools.asking.early import begin_compiler, end_early
+from tools.asking.last_output import LastOutput
 from tools.command_line import Parser
-from tools.ending import run_script
+from tools.ending import run_script, write
 from tools.scratch import ScratchFolder
 
 SCRIPT, FAILED, BAD_WORDS = "meson machine-file", 1, 2
@@ -57,11 +59,18 @@ def parser() -> Parser:
 
 def main() -> int:
     given = parser().parse_args(sys.argv[3:])
+    path = None if given.no_cache else cache_path()
+    last = LastOutput(path, sys.argv[1], given.source, ["-D" + it for it in given.words])
+    is_plain = given.ask is None and given.check is None and not given.require_sandbox
     with ScratchFolder() as scratch:
-        begin_compiler(scratch)
         try:
+            printed = last.printed(scratch) if is_plain else None
+            if printed is not None:
+                write(printed)
+                return 0
+            begin_compiler(scratch, path is None or not os.path.exists(path))
             from tools.asking.answers import answer
-            return answer(given, sys.argv[1], scratch, Cache(None if given.no_cache else cache_path()))
+            return answer(given, last, scratch, Cache(path))
         finally:
             end_early()
 

@@ -102,7 +102,7 @@ class Compiler:
             self.sandbox = sandbox_of(self.own, pkg_config(), folder)
             self.itself = [*identity(tuple(self.own))]
             defined, tools, self.own_headers = self.found_out(folder)
-        self.itself += [[it, stamp_of(it)] for it in tools]
+        self.tools, self.itself = tools, [*self.itself, *([it, stamp_of(it)] for it in tools)]
         self.id = "clang" if "__clang__" in defined else "gcc" if "__GNUC__" in defined else "unknown"
         self.version = (re.search(r"\d+(\.\d+)+", defined.get("__VERSION__", "")) or ["unknown"])[0]
         system = os.uname()

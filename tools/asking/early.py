@@ -25,10 +25,11 @@ def after_launchers(words: list[str]) -> list[str]:
     return words
 
 
-def begin_compiler(scratch: str) -> None:
-    """Begins the commands that say which compiler this is. One of them runs in an empty folder."""
+def begin_compiler(scratch: str, is_new: bool) -> None:
+    """Begins the commands that say which compiler this is: of one that is new, also what it defines. One runs in an empty folder."""
     own = after_launchers(compiler_words())
-    begin_early([*own, *DEFINED])
+    if is_new:
+        begin_early([*own, *DEFINED])
     begin_early([*own, *VERSION])
     begin_early([*own, *FOLDERS], scratch)
 

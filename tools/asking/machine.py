@@ -10,6 +10,8 @@ from tools.asking.bundles import Check, ask_together, bundles_of, is_linked
 from tools.asking.cache import label_of
 from tools.asking.checks import METHODS, NUMBERS, OF_WORDS, answer, arguments_of
 from tools.asking.compiler import Compiler, Flags, identity
+from tools.asking.early import VERSION
+from tools.asking.last_output import Origin
 from tools.asking.dependencies import BY_COMPILING, THREADS, dependency, of_pkg_config
 from tools.asking.links import flags_to_link, link_together
 from tools.asking.evidence import gathered
@@ -32,6 +34,11 @@ def each_once(questions: list[Question]) -> list[Question]:
     for it in questions:
         found.setdefault(it.label, it)
     return list(found.values())
+
+
+def is_mine(question: Question) -> bool:
+    """Returns whether the machine answers a question, and not the project or its user."""
+    return question.section in ("binaries", "checks") or question.dependency is not None
 
 
 def labels_of_words(name: str) -> tuple[tuple[object, ...], tuple[object, ...]]:
@@ -89,9 +96,27 @@ class Machine:
         checks = known.pop("checks", {})
         return {**known, "checks": checks}
 
+    def origin(self, questions: list[Question], more: set[str]) -> Origin | None:
+        """Returns what all answers come from, with more paths; None if one of them isn't kept."""
+        compiler, mine = self.compiler, [it for it in each_once(questions) if is_mine(it)]
+        kept = [it for it in mine if it.section != "binaries"]
+        paths = [compiler.cache.paths_of(it) for it in (compiler.label_of_trial(), *map(self.cache_label, kept))]
+        if compiler.sandbox.lack or any(it is None for it in paths) or any(isinstance(self.answers[it.label], NoAnswer) for it in mine):
+            return None
+        asked = [identity(tuple(compiler.own)), *[identity(tuple(pkg_config()))] * any(it.dependency for it in kept)]
+        names = {it.key or "": it for it in mine if it.section == "binaries"}
+        programs = {it: found_program(it) for it in (compiler.c[0], compiler.own[0], pkg_config()[0], *names) if "/" not in it}
+        files = {self.own_path(it, name): os.path.isfile(self.own_path(it, name)) for name, it in names.items()}
+        every = {path for it in paths for path in it or ()} | {it[1] for it in asked} | set(compiler.tools) | more
+        stamps = compiler.cache.settled_stamps(every)
+        return Origin([([*it[0], *VERSION], it[3]) for it in asked], programs, files, stamps) if stamps is not None else None
+
+    def own_path(self, question: Question, name: str) -> str:
+        """Returns where a program would be a file of the project."""
+        return os.path.join(self.sources, os.path.dirname(question.file), name)
+
     def fresh(self, questions: list[Question]) -> list[Question]:
         """Returns the questions for the machine that have no answer yet."""
-        is_mine = lambda it: it.section in ("binaries", "checks") or it.dependency is not None
         return [it for it in each_once(questions) if is_mine(it) and it.label not in self.answers]
 
     def answer_at_once(self, questions: list[Question]) -> None:
@@ -227,7 +252,7 @@ class Machine:
         return found
 
     def program(self, question: Question, name: str) -> object:
-        if os.path.isfile(os.path.join(self.sources, os.path.dirname(question.file), name)):
+        if os.path.isfile(self.own_path(question, name)):
             return OWN
         path = found_program(name) if "/" not in name else None
         if path and not is_written(path):

@@ -6,7 +6,7 @@ from collections.abc import Callable
 
 from tools import records as dataclasses
 from tools.asking.checks import OF_WORDS
-from tools.asking.processes import MOST_TOLD, run
+from tools.asking.program_runs import ask_program
 from tools.ending import Stop
 from tools.files import DEFINITION, read_text
 from tools.light_json import loads
@@ -19,7 +19,6 @@ if TYPE_CHECKING:
     from typing import Any
 
 ROOT_FILE = "meson.build"
-BUILD = "build-of-the-questions"
 # After the call of `project`: two checks, which have the options in use.
 IN_USE = """
 meson.get_compiler('c').sizeof('in use', prefix: get_option('c_std'), args: get_option('c_args'))
@@ -74,9 +73,10 @@ def question_of(line: str) -> Question:
 
 @dataclasses.dataclass(frozen=True)
 class Told:
-    """Holds the questions of a run in their order, and the line of the fault that it ended with, if there was one."""
+    """Holds the questions of a run in their order, the line of the fault that it ended with, if there was one, and what it printed."""
     questions: list[Question]
     fault: str
+    printed: str
 
 
 @dataclasses.dataclass(frozen=True)
@@ -90,15 +90,10 @@ class Project:
 
     def ask(self, machine_file: str, folder: str | None = None) -> Told:
         """Returns the questions of a run that knows this machine file, over the sources or another folder."""
-        path = os.path.join(self.scratch, "native.ini")
-        with open(path, "w", encoding="utf-8") as it:
-            it.write(machine_file)
-        words = ["meson", "questions", *self.words, "--native-file", path, BUILD]
-        here = folder or self.sources
-        done = run(words, None if here == os.curdir else here, os.path.abspath(self.program), most=MOST_TOLD)
+        done = ask_program(self.program, folder or self.sources, self.words, machine_file, self.scratch)
         if done.status not in (0, 1):
             raise Stop(done.why)
-        return Told([question_of(it) for it in done.printed.split("\n") if it], done.why if done.status else "")
+        return Told([question_of(it) for it in done.printed.split("\n") if it], done.why if done.status else "", done.printed)
 
     def in_use(self, machine_file: str) -> tuple[str, list[str], list[str]]:
         """Returns c_std, c_args and c_link_args as the project has them in the end, by a run of its first statement alone."""
