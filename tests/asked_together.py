@@ -48,7 +48,7 @@ KEYS = {
 HARD = ("has_header a\"b.h", "has_header stdio.h>\n#error", "has_type unsigned such", "has_type int) + sizeof(int",
         "has_header_symbol limits.h INT_MAX", "has_header_symbol limits.h 1x", "alignment char[4]", "has_function __builtin_expect",
         "has_function int", "has_function main", "has_function _GNU_SOURCE", "has_function mode_t", "has_function revoke",
-        "has_argument -Wno-error=such", "has_argument -fvisibility=such", "has_header_symbol sys/stat.h S_ISREG",
+        "has_argument -Wno-error=such", "has_argument -fvisibility=such", "has_argument -Werror=format-security", "has_argument -Werror=format", "has_header_symbol sys/stat.h S_ISREG",
         "has_header_symbol fcntl.h O_PATH")
 FLAGS = (Flags(), Flags(("-Werror", "-Wall", "-ffunction-sections", "-Wl,--gc-sections")), Flags(("-O2", "-flto", "-Wfatal-errors")))
 

@@ -31,14 +31,16 @@ PACKAGE = "Name: it\nDescription: it\nVersion: %s\nLibs: -l%s\nRequires: %s\n"
 
 
 # Runs a script and records each command that it starts.
-COUNTING = """import os, runpy, subprocess, sys
-begin, log = subprocess.Popen, os.environ.pop('COUNTED')
-def counted(words, **how):
+COUNTING = """import os, runpy, sys
+sys.argv = sys.argv[1:]
+sys.path.insert(0, os.path.dirname(os.path.dirname(os.path.realpath(sys.argv[0]))))
+from tools.asking import processes
+begin, log = processes.begin, os.environ.pop('COUNTED')
+def counted(words, *others, **how):
     with open(log, 'a') as it:
         it.write(' '.join(words) + '\\n')
-    return begin(words, **how)
-subprocess.Popen = counted
-sys.argv = sys.argv[1:]
+    return begin(words, *others, **how)
+processes.begin = counted
 runpy.run_path(sys.argv[0], run_name='__main__')
 """
 

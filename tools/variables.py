@@ -3,9 +3,12 @@ from __future__ import annotations
 
 import errno
 import os
-from collections.abc import Mapping
 
 from tools.ending import Stop
+
+TYPE_CHECKING = False
+if TYPE_CHECKING:
+    from collections.abc import Mapping
 
 
 def words_in(text: str, named: str) -> list[str]:

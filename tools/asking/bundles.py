@@ -46,7 +46,7 @@ STRICT = r"-Werror=(?!.*format|abi)[a-z][\w-]*"
 NO_WORD = (r".*error: (?:unrecognized command[- ]line option|unknown warning option|unknown argument:|missing argument to"
            r"|argument to) "
            r"'([^'=]+)=?'.*"
-           r"|.*error: '(-Werror=[^']+)': no option .*"
+           r"|.*error: (?:'(-Werror=[^']+)': no option|unknown warning option '(-Werror=[^']+)').*"
            r"|.*command[- ]line option '([^']+)' is valid for C\+\+/ObjC\+\+ but not for C.*")
 UNDEFINED = r"(?:undefined reference to [`']|undefined symbol: )([^'\s]+)"
 ERROR = r"(?:^|: )(?:fatal )?error: "

@@ -9,12 +9,15 @@ import _thread
 import os
 import select
 import time
-from collections.abc import Callable
 
 from tools import records as dataclasses
 from tools.early_signals import signal
 from tools.ending import Stop
 from tools.variables import path_of_program
+
+TYPE_CHECKING = False
+if TYPE_CHECKING:
+    from collections.abc import Callable
 
 SECONDS, GRACE = 300, 20  # that a command may take, and that it may take to end its own commands
 # Bytes that a command may print or say, that the program may report, and that are read at once.
