@@ -29,6 +29,7 @@ be written, or --check finds a difference; 2 for a bad command line; 130 if it w
 """
 from __future__ import annotations
 
+import gc
 import os
 import sys
 
@@ -76,4 +77,9 @@ def main() -> int:
 
 
 def run() -> None:
-    run_script(SCRIPT, main, FAILED)
+    """Runs the command, and ends at once: all is written, and what the interpreter would do at its end takes a tenth of the time."""
+    gc.disable()
+    try:
+        run_script(SCRIPT, main, FAILED)
+    except SystemExit as end:
+        os._exit(int(end.code or 0))
