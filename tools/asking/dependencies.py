@@ -119,6 +119,8 @@ BY_COMPILING: dict[str, Callable[[Compiler], Found | None]] = {
     "iconv": of_c_library("iconv.h", 'iconv_open("", "")', "iconv"), "intl": of_c_library("libintl.h", 'gettext("Hello world")', "intl")}
 
 
+# What the real Meson finds by compiling alone, whatever package has that name.
+NO_PACKAGES = ("threads", "openmp", "dl", "iconv", "intl")
 # Packages whose headers alone are used: their libraries are static, and are no part of another library.
 OF_HEADERS = ("valgrind",)
 
@@ -127,7 +129,7 @@ def dependency(compiler: Compiler, name: str) -> Found | None:
     """Returns the lines of its section, or None if it isn't found."""
     if not is_package(name):
         raise NoAnswer("is not asked: pkg-config would read the file of this name, or take it for other arguments")
-    by_compiling, package = BY_COMPILING.get(name), of_pkg_config(compiler, name)
+    by_compiling, package = BY_COMPILING.get(name), of_pkg_config(compiler, name) if name not in NO_PACKAGES else None
     if package and name in OF_HEADERS:
         return {**package, "link_args": []}
     return package or (by_compiling(compiler) if by_compiling else None)

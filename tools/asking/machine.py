@@ -12,7 +12,7 @@ from tools.asking.checks import METHODS, NUMBERS, OF_WORDS, answer, arguments_of
 from tools.asking.compiler import Compiler, Flags, identity
 from tools.asking.early import VERSION
 from tools.asking.last_output import Origin
-from tools.asking.dependencies import BY_COMPILING, THREADS, dependency, of_pkg_config
+from tools.asking.dependencies import BY_COMPILING, NO_PACKAGES, THREADS, dependency, of_pkg_config
 from tools.asking.links import flags_to_link, link_together
 from tools.asking.evidence import gathered
 from tools.asking.packages import who_has
@@ -103,7 +103,7 @@ class Machine:
         paths = [compiler.cache.paths_of(it) for it in (compiler.label_of_trial(), *map(self.cache_label, kept))]
         if compiler.sandbox.lack or any(it is None for it in paths) or any(isinstance(self.answers[it.label], NoAnswer) for it in mine):
             return None
-        asked = [identity(tuple(compiler.own)), *[identity(tuple(pkg_config()))] * any(it.dependency for it in kept)]
+        asked = [identity(tuple(compiler.own)), *[identity(tuple(pkg_config()))] * any(it.dependency not in (None, *NO_PACKAGES) for it in kept)]
         names = {it.key or "": it for it in mine if it.section == "binaries"}
         programs = {it: found_program(it) for it in (compiler.c[0], compiler.own[0], pkg_config()[0], *names) if "/" not in it}
         files = {self.own_path(it, name): os.path.isfile(self.own_path(it, name)) for name, it in names.items()}
@@ -135,7 +135,7 @@ class Machine:
         """Answers a dependency, unless it is found by compiling alone."""
         name = question.dependency or ""
         try:
-            is_found = name not in BY_COMPILING or of_pkg_config(self.compiler, name) is not None
+            is_found = name not in BY_COMPILING or name not in NO_PACKAGES and of_pkg_config(self.compiler, name) is not None
         except NoAnswer:
             is_found = True
         if is_found:
@@ -243,7 +243,8 @@ class Machine:
         if question.method and not self.refused(question):
             return self.label_of_check(self.check_of(question))
         name = question.dependency
-        return label_of(["dependency", name, identity(tuple(pkg_config())), self.compiler.words()]) if name and is_package(name) else ""
+        teller = identity(tuple(pkg_config())) if name and name not in NO_PACKAGES else ()
+        return label_of(["dependency", name, teller, self.compiler.words()]) if name and is_package(name) else ""
 
     def package(self, name: str) -> dict[str, object] | None:
         found = dependency(self.compiler, name)
