@@ -151,7 +151,10 @@ def answer(given: Any, last: LastOutput, scratch: str, cache: Cache) -> int:
         from tools.asking.compare import read_sections
         read_sections(given.check)  # a file that is not there is reported at once
     project = Project(last.program, given.source, last.words, scratch)
-    machine.compiler.use(*options_in_use(cache, project, text_of(machine.learn([]))), project.words)
+    nothing_known = text_of(machine.learn([]))
+    if not cache.kept.answers:
+        project.begin(nothing_known)
+    machine.compiler.use(*options_in_use(cache, project, nothing_known), project.words)
     if not machine.compiler.can_be_tried_later():
         machine.compiler.try_out()
     report_lack(machine.compiler, given.require_sandbox)

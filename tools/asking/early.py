@@ -3,12 +3,12 @@ from __future__ import annotations
 
 import os
 
-from tools.asking.processes import Done, NoAnswer, Running, begin, finish, run
+from tools.asking.processes import MOST_BYTES, Done, NoAnswer, Running, begin, finish, run
 from tools.variables import words_of
 
 # Commands that run the compiler that is named after them.
 LAUNCHERS = ("ccache", "sccache", "distcc", "icecc")
-BEGUN: dict[tuple[str, ...], Running] = {}  # by the words of the commands
+BEGUN: dict[tuple[str | None, ...], Running] = {}  # by the words of the commands, and of the program by its folder too
 VERSION, FOLDERS = ["--version"], ["-print-search-dirs"]
 # Prints what the compiler defines before all sources, and says which folders it searches for headers.
 DEFINED = ["-v", "-dM", "-E", "-x", "c", os.devnull]
@@ -34,20 +34,24 @@ def begin_compiler(scratch: str, is_new: bool) -> None:
     begin_early([*own, *FOLDERS], scratch)
 
 
-def begin_early(words: list[str], folder: str | None = None) -> None:
+def begin_early(words: list[str], folder: str | None = None, executable: str | None = None) -> None:
     """Begins a command, whose end `early_or_run` waits for. One that can't begin is begun again there, and fails there."""
-    if tuple(words) in BEGUN:
+    label = (executable and folder, *words)
+    if label in BEGUN:
         return
     try:
-        BEGUN[tuple(words)] = begin(words, folder)
+        BEGUN[label] = begin(words, folder, executable)
     except (OSError, ValueError):
         pass
 
 
-def early_or_run(words: list[str], folder: str | None = None) -> Done:
+def early_or_run(words: list[str], folder: str | None = None, executable: str | None = None, most: int = MOST_BYTES) -> Done:
     """Returns how a command ended: one that was begun early, or a new one."""
-    running = BEGUN.pop(tuple(words), None)
-    return run(words, folder) if running is None else finish(running)
+    running = BEGUN.pop((executable and folder, *words), None)
+    if running is None:
+        return run(words, folder, executable, most=most)
+    running.most = most
+    return finish(running)
 
 
 def end_early() -> None:

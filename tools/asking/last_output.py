@@ -10,7 +10,7 @@ import os
 
 from tools.asking.cache import FORM, around, read_own, replace, short_name
 from tools.asking.early import begin_early, early_or_run
-from tools.asking.program_runs import ask_program
+from tools.asking.program_runs import ProgramRun
 from tools.asking.stamps import stamp_of
 from tools.light_json import dumps, loads
 from tools.variables import found_program
@@ -62,7 +62,7 @@ class LastOutput:
                 begin_early(words)
             if not origin.is_as_it_was():
                 return None
-            done = ask_program(self.program, self.sources, self.words, machine, scratch)
+            done = ProgramRun(self.program, self.sources, self.words, scratch).end(machine)
             is_same = done.status == 0 and short_name(done.printed) == asked
             same = [early_or_run(words).printed == printed for words, printed in origin.commands]
             return (head + machine).encode() if is_same and all(same) else None

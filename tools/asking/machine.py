@@ -103,7 +103,8 @@ class Machine:
         paths = [compiler.cache.paths_of(it) for it in (compiler.label_of_trial(), *map(self.cache_label, kept))]
         if compiler.sandbox.lack or any(it is None for it in paths) or any(isinstance(self.answers[it.label], NoAnswer) for it in mine):
             return None
-        asked = [identity(tuple(compiler.own)), *[identity(tuple(pkg_config()))] * any(it.dependency not in (None, *NO_PACKAGES) for it in kept)]
+        has_packages = any(it.dependency not in (None, *NO_PACKAGES) for it in kept)
+        asked = [identity(tuple(it)) for it in ([compiler.own, pkg_config()] if has_packages else [compiler.own])]
         names = {it.key or "": it for it in mine if it.section == "binaries"}
         programs = {it: found_program(it) for it in (compiler.c[0], compiler.own[0], pkg_config()[0], *names) if "/" not in it}
         files = {self.own_path(it, name): os.path.isfile(self.own_path(it, name)) for name, it in names.items()}

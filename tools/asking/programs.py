@@ -36,8 +36,9 @@ def programs_of(compiler: list[str], others: list[str], folder: str) -> tuple[st
         if not word.startswith("-"):
             # All of its name: a command that wraps a compiler calls the next one on PATH.
             add_all(found, [*files_named(word, on_path), *files_named(os.path.basename(word), on_path)], DEEPEST)
+    searched = list(dict.fromkeys(map(os.path.realpath, [*own_folders(tuple(compiler), folder), *on_path])))
     for name in CALLED:
-        add_all(found, files_named(name, [*own_folders(tuple(compiler), folder), *on_path]), DEEPEST)
+        add_all(found, files_named(name, searched), DEEPEST)
     return tuple(found)
 
 

@@ -6,7 +6,7 @@ from collections.abc import Callable
 
 from tools import records as dataclasses
 from tools.asking.checks import OF_WORDS
-from tools.asking.program_runs import ask_program
+from tools.asking.program_runs import ProgramRun
 from tools.ending import Stop
 from tools.files import DEFINITION, read_text
 from tools.light_json import loads
@@ -90,10 +90,14 @@ class Project:
 
     def ask(self, machine_file: str, folder: str | None = None) -> Told:
         """Returns the questions of a run that knows this machine file, over the sources or another folder."""
-        done = ask_program(self.program, folder or self.sources, self.words, machine_file, self.scratch)
+        done = ProgramRun(self.program, folder or self.sources, self.words, self.scratch).end(machine_file)
         if done.status not in (0, 1):
             raise Stop(done.why)
         return Told([question_of(it) for it in done.printed.split("\n") if it], done.why if done.status else "", done.printed)
+
+    def begin(self, machine_file: str) -> None:
+        """Begins a run over the sources, for which the next call of `ask` with this machine file waits."""
+        ProgramRun(self.program, self.sources, self.words, self.scratch).begin(machine_file)
 
     def in_use(self, machine_file: str) -> tuple[str, list[str], list[str]]:
         """Returns c_std, c_args and c_link_args as the project has them in the end, by a run of its first statement alone."""
