@@ -30,7 +30,8 @@ KEYS = {
          "has_function bswap_32", "has_function _exit", "has_function _GNU_SOURCE", "has_function clz",
          "has_argument -Wall", "has_argument -Wno-such", "has_argument -Wsuch", "has_argument -Wnon-virtual-dtor", "has_argument -fno-rtti",
          "has_argument -fno-such", "has_argument -Wformat-security", "has_argument -Wno-error=such", "has_argument -Wframe-larger-than",
-         "has_argument -Wno-frame-larger-than", "has_argument -fvisibility=such", "has_argument -Wlogical-op", "has_argument -Werror=implicit", "has_argument -Werror=address", "has_argument -Werror=such",
+         "has_argument -Wno-frame-larger-than", "has_argument -fvisibility=such", "has_argument -Wlogical-op", "has_argument -Werror=implicit",
+         "has_argument -Werror=address", "has_argument -Werror=such",
          "has_argument -Werror=format-security", "has_argument -Werror=format", "has_argument -Werror=init-self"],
     STAT: ["has_member struct stat st_mtim", "has_member struct stat st_such", "has_member struct such st_mtim", "has_member such_t x",
            "has_member struct stat st_mtim.tv_sec", "has_type mode_t", "has_type such_t", "has_function stat", "has_function no_such",
@@ -107,7 +108,8 @@ def test_links() -> None:
             with open(paths[name], "w", encoding="utf-8") as it:
                 it.write(text)
         for name, compiler in compilers(scratch):
-            for what, keys in (("libraries", LIBRARIES), ("words", WORDS), ("both", LIBRARIES + WORDS), ("a bad script", [*LIBRARIES, BAD_SCRIPT])):
+            for what, keys in {"libraries": LIBRARIES, "words": WORDS, "both": LIBRARIES + WORDS,
+                               "a bad script": [*LIBRARIES, BAD_SCRIPT]}.items():
                 named = [it.replace("@GOOD", paths["@GOOD"]).replace("@BAD", paths["@BAD"]) for it in keys]
                 link_both_ways(f"machine files: {name}: links of {what}", compiler, named, BAD_SCRIPT in keys)
     left = [it for it in NOT_TOGETHER if flags_to_link(f"has_link_argument {it}") is not None]

@@ -34,7 +34,7 @@ else:
         plain = (text.decode() if isinstance(text, bytes) else text).strip(" \t\r\n")
         try:
             value, end = SCAN(plain, 0)
-        except StopIteration:
+        except (StopIteration, SystemError):  # the latter where `json` isn't loaded, which has the exception to be raised
             raise ValueError("no value") from None
         if end != len(plain):
             raise ValueError("more than one value")

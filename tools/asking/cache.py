@@ -136,7 +136,7 @@ class Cache:
 
     def settled_stamps(self, paths: set[str]) -> dict[str, Stamp] | None:
         """Returns the times and sizes of paths, unless one has changed since the script began."""
-        stamps = {it: self.stamp(it) for it in paths}
+        stamps = {it: self.stamp(it) for it in sorted(paths)}
         return stamps if all(it is None or it[0] < self.begun for it in stamps.values()) else None
 
     def save(self) -> None:

@@ -20,8 +20,8 @@ ROUNDS = 3  # links: each leaves out the libraries that the one before has misse
 LENIENT = "-Wl,--allow-shlib-undefined"  # without it a link accepts less
 LIBRARY = r"[A-Za-z0-9_][\w.+-]*"
 # Arguments of the linker that make no link good that is bad without them.
-STRICT = (r"-Wl,(?:-Bsymbolic(?:-functions)?|--(?:no-)?as-needed|--no-undefined|--(?:no-)?gc-sections|-O\d?|-z,(?:relro|norelro|now|lazy|defs)"
-          r"|--hash-style=(?:gnu|sysv|both)|--build-id|--enable-new-dtags|--?version-script[,=][^,]+)")
+STRICT = (r"-Wl,(?:-Bsymbolic(?:-functions)?|--(?:no-)?as-needed|--no-undefined|--(?:no-)?gc-sections|-O\d?"
+          r"|-z,(?:relro|norelro|now|lazy|defs)|--hash-style=(?:gnu|sysv|both)|--build-id|--enable-new-dtags|--?version-script[,=][^,]+)")
 MISSING = r"[^:]+: (?:error: )?(?:cannot find|unable to find library) -l([^\s:]+)(?:: No such file or directory)?"
 ENDS = r"collect2: error: ld returned \d+ exit status|.*error: linker command failed .*"
 

@@ -68,8 +68,8 @@ class TooMuch(Exception):
 class Running:
     """Holds a command that was begun: its number, the ends of its outputs, and what these have held so far."""
 
-    def __init__(self, name: str, most: int, is_asked_first: bool) -> None:
-        self.name, self.most, self.is_asked_first, self.pid = name, most, is_asked_first, 0
+    def __init__(self, name: str) -> None:
+        self.name, self.pid, self.most, self.is_asked_first = name, 0, MOST_BYTES, False
         self.parts: dict[int, list[bytes]] = {}
         self.status: int | None = None
 
@@ -140,7 +140,7 @@ def run(words: list[str], folder: str | None = None, executable: str | None = No
     bytes. With `is_asked_first` the command gets a signal before it is killed, so that it can end its own commands. Without `hears` its
     output is lost. The new process calls `enter` before the command begins. `errors` says what becomes of bytes that are no text."""
     try:
-        running = begin(words, folder, executable, hears, variables, enter)
+        running = Command(words, folder, executable, variables, enter).begin(hears)
     except (OSError, ValueError) as error:  # a ValueError where a word has a NUL
         return Done(None, "", f"{executable or words[0]}: {getattr(error, 'strerror', error)}")
     except Refused as error:
@@ -161,81 +161,87 @@ def finish(running: Running, seconds: int = SECONDS, errors: str = "replace") ->
     return Done(running.status, printed, said)
 
 
-def begin(words: list[str], folder: str | None = None, executable: str | None = None, hears: bool = True,
-          variables: dict[str, str] | None = None, enter: Callable[[], None] | None = None) -> Running:
+def begin(words: list[str], folder: str | None = None, executable: str | None = None) -> Running:
     """Begins a command as `run` does, and doesn't wait for it."""
-    around = {**os.environ, "LC_ALL": "C"} if variables is None else variables
-    path = executable or path_of_program(words[0], around, folder or "")
-    running, opened = Running(words[0], MOST_BYTES, False), []
-    try:
-        with BEGINS:
-            if ENDED:
-                raise NoAnswer(f"{words[0]} was not started")
-            for _ in range(2 if hears else 0):
-                reading, writing = os.pipe()
-                opened.append(writing)
-                running.parts[reading] = []
-            # Without a folder and limits the new process needs no copy of this one.
-            start = begun_here if folder is None and enter is None else begun_apart
-            running.pid = start(path, words, around, opened, folder, enter)
-            AT_WORK.add(running.pid)
-    except BaseException:
-        for it in running.parts:
-            os.close(it)
-        raise
-    finally:
-        for it in opened:
-            os.close(it)
-    return running
+    return Command(words, folder, executable).begin()
 
 
-def begun_here(path: str, words: list[str], around: dict[str, str], outputs: list[int], *_: object) -> int:
-    """Starts a command in this folder, without limits. Returns its number."""
-    to = [(os.POSIX_SPAWN_DUP2, it, number) for number, it in enumerate(outputs, 1)]
-    to = to or [(os.POSIX_SPAWN_OPEN, it, os.devnull, os.O_WRONLY, 0) for it in (1, 2)]
-    streams = [(os.POSIX_SPAWN_OPEN, 0, os.devnull, os.O_RDONLY, 0), *to]
-    return os.posix_spawn(path, words, around, file_actions=streams, setsid=True, setsigdef=IGNORED_HERE)
+class Command:
+    """Describes a command: its words, its folder, the file that is executed, its environment, and what the new process calls first."""
 
+    def __init__(self, words: list[str], folder: str | None = None, executable: str | None = None,
+                 variables: dict[str, str] | None = None, enter: Callable[[], None] | None = None) -> None:
+        self.words, self.folder, self.enter = words, folder, enter
+        self.variables = {**os.environ, "LC_ALL": "C"} if variables is None else variables
+        self.path = executable or path_of_program(words[0], self.variables, folder or "")
 
-def begun_apart(path: str, words: list[str], around: dict[str, str], outputs: list[int], folder: str | None,
-                enter: Callable[[], None] | None) -> int:
-    """Starts a command by a copy of this process, which goes to its folder and calls `enter` first. Returns its number."""
-    reading, writing = os.pipe()
-    pid = os.fork()
-    if pid == 0:
-        os._exit(replace(path, words, around, outputs, folder, enter, writing))
-    os.close(writing)
-    with open(reading, "rb") as it:
-        said = it.read()
-    if said:
-        os.waitpid(pid, 0)
-        number, _, text = said.decode(errors="replace").partition(" ")
-        raise OSError(int(number), text) if number != "0" else Refused(text)
-    return pid
+    def begin(self, hears: bool = True) -> Running:
+        """Begins it. Without `hears` its output is lost."""
+        running, opened = Running(self.words[0]), []
+        try:
+            with BEGINS:
+                if ENDED:
+                    raise NoAnswer(f"{self.words[0]} was not started")
+                for _ in range(2 if hears else 0):
+                    reading, writing = os.pipe()
+                    opened.append(writing)
+                    running.parts[reading] = []
+                # In this folder and without limits the new process needs no copy of this one.
+                start = self.begin_here if self.folder is None and self.enter is None else self.begin_apart
+                running.pid = start(opened)
+                AT_WORK.add(running.pid)
+        except BaseException:
+            for it in running.parts:
+                os.close(it)
+            raise
+        finally:
+            for it in opened:
+                os.close(it)
+        return running
 
+    def begin_here(self, outputs: list[int]) -> int:
+        """Begins it in this folder. Returns its number."""
+        to = [(os.POSIX_SPAWN_DUP2, it, number) for number, it in enumerate(outputs, 1)]
+        to = to or [(os.POSIX_SPAWN_OPEN, it, os.devnull, os.O_WRONLY, 0) for it in (1, 2)]
+        streams = [(os.POSIX_SPAWN_OPEN, 0, os.devnull, os.O_RDONLY, 0), *to]
+        return os.posix_spawn(self.path, self.words, self.variables, file_actions=streams, setsid=True, setsigdef=IGNORED_HERE)
 
-def replace(path: str, words: list[str], around: dict[str, str], outputs: list[int], folder: str | None,
-            enter: Callable[[], None] | None, to: int) -> int:
-    """Replaces this new process by a command. If that fails it writes to a pipe why: a number of the system, or 0 if `enter` has failed."""
-    number = -1
-    try:
-        os.setsid()
-        for it in IGNORED_HERE:
-            signal.signal(it, signal.SIG_DFL)
-        null = os.open(os.devnull, os.O_RDWR)
-        for place, it in enumerate([null, *(outputs or (null, null))]):
-            os.dup2(it, place)
-        if folder is not None:
-            os.chdir(folder)
-        if enter is not None:
-            number = 0
-            enter()
-            number = -1
-        os.execve(path, words, around)
-    except BaseException as error:
-        code = getattr(error, "errno", None) or 1
-        os.write(to, f"{code if number else 0} {getattr(error, 'strerror', error)}".encode(errors="replace"))
-    return NOT_BEGUN
+    def begin_apart(self, outputs: list[int]) -> int:
+        """Begins it by a copy of this process, which goes to its folder and calls `enter` first. Returns its number."""
+        reading, writing = os.pipe()
+        pid = os.fork()
+        if pid == 0:
+            os._exit(self.replace_process(outputs, writing))
+        os.close(writing)
+        with open(reading, "rb") as it:
+            said = it.read()
+        if said:
+            os.waitpid(pid, 0)
+            number, _, text = said.decode(errors="replace").partition(" ")
+            raise OSError(int(number), text) if number != "0" else Refused(text)
+        return pid
+
+    def replace_process(self, outputs: list[int], to: int) -> int:
+        """Replaces this new process. If that fails it writes to a pipe why: a number of the system, or 0 if `enter` has failed."""
+        has_entered = True
+        try:
+            os.setsid()
+            for it in IGNORED_HERE:
+                signal.signal(it, signal.SIG_DFL)
+            null = os.open(os.devnull, os.O_RDWR)
+            for place, it in enumerate([null, *(outputs or (null, null))]):
+                os.dup2(it, place)
+            if self.folder is not None:
+                os.chdir(self.folder)
+            if self.enter is not None:
+                has_entered = False
+                self.enter()
+                has_entered = True
+            os.execve(self.path, self.words, self.variables)
+        except BaseException as error:
+            code = (getattr(error, "errno", None) or 1) if has_entered else 0
+            os.write(to, f"{code} {getattr(error, 'strerror', error)}".encode(errors="replace"))
+        return NOT_BEGUN
 
 
 def end_all() -> None:
