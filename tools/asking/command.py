@@ -18,7 +18,8 @@ arguments are left for you to fill in. If this system can't sandbox the compiler
 --require-sandbox the command stops.
 
 One compilation answers all checks that have the same arguments and the same prefix. If its result leaves a doubt, each
-check is compiled by itself; --alone always does that. First the compiler is tried on an empty program.
+check is compiled by itself; --alone always does that. If no link of a check shows that the compiler works, it is tried
+on an empty program.
 
 Standard error lists each question without an answer, with file and line and the line to add, and each check with two
 answers. If the run ends in a fault, it has the fault, and the package that is missing, if that is known. What is known
