@@ -78,8 +78,8 @@ def ask_one(machine: Machine, question: Question) -> int:
 
 
 def foreseen(machine: Machine, project: Project, known: Sections, told: Told) -> list[Question]:
-    """Returns the questions that a run will have when its new ones are answered, as far as guesses show it; if it has no new ones, its own.
-    A run of the program takes less time than a check."""
+    """Returns the questions that a run would have if guesses were the answers to its new ones; if it has no new ones, its own. A run of the
+    program takes less time than a check."""
     while (guessed := machine.guess(told.questions, known)) is not None:
         told, known = project.ask(text_of(guessed)), guessed
     return told.questions

@@ -3,7 +3,7 @@ from __future__ import annotations
 
 import os
 
-from tools.asking.processes import MOST_BYTES, Done, NoAnswer, Running, begin, finish, run
+from tools.asking.processes import MOST_BYTES, Done, Running, begin, finish, run
 from tools.variables import words_of
 
 # Commands that run the compiler that is named after them.
@@ -55,9 +55,6 @@ def early_or_run(words: list[str], folder: str | None = None, executable: str | 
 
 
 def end_early() -> None:
-    """Waits for the commands that nobody has asked for."""
+    """Ends the commands that nobody waits for."""
     while BEGUN:
-        try:
-            finish(BEGUN.popitem()[1])
-        except NoAnswer:
-            pass
+        BEGUN.popitem()[1].end()

@@ -47,7 +47,7 @@ def labels_of_words(name: str) -> tuple[tuple[object, ...], tuple[object, ...]]:
 
 
 def guess_of(question: Question) -> object:
-    """Returns the answer that most machines give to a question: what is asked for is there."""
+    """Returns the answer that most machines give to a question: the thing is there."""
     if question.method in NUMBERS:
         return USUAL_SIZES.get(arguments_of(question.key or "")[1][0], 8)
     words = ["-pthread"] if question.dependency == "threads" else []

@@ -91,9 +91,13 @@ class Running:
                         waiting.unregister(number)
                         del room[number]
             self.reap(end)
-        except BaseException:
+        finally:
+            self.end()
+
+    def end(self) -> None:
+        """Ends it, if it runs yet, and reads no more of it."""
+        try:
             self.kill_early()
-            raise
         finally:
             for it in self.parts:
                 os.close(it)

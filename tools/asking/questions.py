@@ -8,7 +8,7 @@ from tools import records as dataclasses
 from tools.asking.checks import OF_WORDS
 from tools.asking.program_runs import ProgramRun
 from tools.ending import Stop
-from tools.files import DEFINITION, read_text
+from tools.files import DEFINITION, OPTION_FILES, read_text
 from tools.light_json import loads
 from tools.linked_copy import linked_copy
 from tools.porting.lexer import SyntaxFault, tokens_in, tokens_of
@@ -100,10 +100,16 @@ class Project:
         ProgramRun(self.program, self.sources, self.words, self.scratch).begin(machine_file)
 
     def in_use(self, machine_file: str) -> tuple[str, list[str], list[str]]:
-        """Returns c_std, c_args and c_link_args as the project has them in the end, by a run of its first statement alone."""
+        """Returns c_std, c_args and c_link_args as the project has them in the end, by a run of its first statement alone. A run that lacks
+        another file of the project than its option files ends in a fault, and is run again with all."""
+        begin = {ROOT_FILE: first_statement(self.sources) + IN_USE}
         with ScratchFolder(self.scratch) as folder:
-            linked_copy(self.sources, folder, {ROOT_FILE: first_statement(self.sources) + IN_USE})
+            linked_copy(self.sources, folder, begin, OPTION_FILES)
             told = self.ask(machine_file, folder)
+        if told.fault:
+            with ScratchFolder(self.scratch) as folder:
+                linked_copy(self.sources, folder, begin)
+                told = self.ask(machine_file, folder)
         if told.fault:
             raise Stop(told.fault)
         to_compile, to_link = told.questions[-2:]

@@ -1,4 +1,4 @@
-"""Tells whether files are as they were: by the time and the size of what is at a path."""
+"""Notes the time and the size of files, which show whether one has changed."""
 import os
 
 Stamp = list[int] | None
