@@ -6,11 +6,13 @@ such as checks after a text with an open comment or bracket.
 import os
 import shutil
 import tempfile
+from collections.abc import Iterator
 
 from tests.workshop import check
 from tools.asking.bundles import Check, ask_together, bundles_of
 from tools.asking.checks import answer
-from tools.asking.compiler import Compiler, Flags
+from tools.asking.compiler import MAIN, Compiler, Flags
+from tools.asking.links import flags_to_link, link_together
 from tools.asking.processes import end_all
 from tools.parallel import side_by_side
 
@@ -28,7 +30,9 @@ KEYS = {
          "has_function bswap_32", "has_function _exit", "has_function _GNU_SOURCE", "has_function clz",
          "has_argument -Wall", "has_argument -Wno-such", "has_argument -Wsuch", "has_argument -Wnon-virtual-dtor", "has_argument -fno-rtti",
          "has_argument -fno-such", "has_argument -Wformat-security", "has_argument -Wno-error=such", "has_argument -Wframe-larger-than",
-         "has_argument -Wno-frame-larger-than", "has_argument -fvisibility=such", "has_argument -Wlogical-op"],
+         "has_argument -Wno-frame-larger-than", "has_argument -fvisibility=such", "has_argument -Wlogical-op", "has_argument -Werror=implicit",
+         "has_argument -Werror=address", "has_argument -Werror=such",
+         "has_argument -Werror=format-security", "has_argument -Werror=format", "has_argument -Werror=init-self"],
     STAT: ["has_member struct stat st_mtim", "has_member struct stat st_such", "has_member struct such st_mtim", "has_member such_t x",
            "has_member struct stat st_mtim.tv_sec", "has_type mode_t", "has_type such_t", "has_function stat", "has_function no_such",
            "has_function lchmod", "has_function S_ISREG", "has_function mode_t", "sizeof mode_t", "sizeof struct stat",
@@ -47,19 +51,25 @@ KEYS = {
 HARD = ("has_header a\"b.h", "has_header stdio.h>\n#error", "has_type unsigned such", "has_type int) + sizeof(int",
         "has_header_symbol limits.h INT_MAX", "has_header_symbol limits.h 1x", "alignment char[4]", "has_function __builtin_expect",
         "has_function int", "has_function main", "has_function _GNU_SOURCE", "has_function mode_t", "has_function revoke",
-        "has_argument -Wno-error=such", "has_argument -fvisibility=such", "has_header_symbol sys/stat.h S_ISREG",
-        "has_header_symbol fcntl.h O_PATH")
+        "has_argument -Wno-error=such", "has_argument -fvisibility=such", "has_argument -Werror=format-security",
+        "has_argument -Werror=format", "has_header_symbol sys/stat.h S_ISREG", "has_header_symbol fcntl.h O_PATH")
 FLAGS = (Flags(), Flags(("-Werror", "-Wall", "-ffunction-sections", "-Wl,--gc-sections")), Flags(("-O2", "-flto", "-Wfatal-errors")))
 
 
-def test_both_ways() -> None:
+def compilers(scratch: str) -> Iterator[tuple[str, Compiler]]:
+    """Yields each installed compiler with its name."""
     for name in filter(shutil.which, ("gcc", "clang")):
-        with tempfile.TemporaryDirectory() as scratch:
-            old, os.environ["CC"] = os.environ.get("CC"), name
-            compiler = Compiler(scratch, scratch)
-            os.environ.pop("CC")
-            if old is not None:
-                os.environ["CC"] = old
+        old, os.environ["CC"] = os.environ.get("CC"), name
+        compiler = Compiler(scratch, scratch)
+        os.environ.pop("CC")
+        if old is not None:
+            os.environ["CC"] = old
+        yield name, compiler
+
+
+def test_both_ways() -> None:
+    with tempfile.TemporaryDirectory() as scratch:
+        for name, compiler in compilers(scratch):
             for flags in FLAGS:
                 ask_both_ways(name, compiler, flags)
 
@@ -81,4 +91,41 @@ def ask_both_ways(name: str, compiler: Compiler, flags: Flags) -> None:
         check(f"{what}: what is plain is settled", not left, left)
 
 
-TESTS = (test_both_ways,)
+# Checks by the link of an empty program: sets of which a link settles all, and one that it doesn't settle.
+LIBRARIES = [f"find_library {it}" for it in ("m", "dl", "such", "c", "pthread", "no_such-1.0", "rt")]
+WORDS = [f"has_link_argument -Wl,{it}" for it in ("-z,relro", "-z,now", "-Bsymbolic-functions", "--as-needed", "--gc-sections", "-O1",
+                                                 "--hash-style=gnu", "--version-script,@GOOD")]
+BAD_SCRIPT = "has_link_argument -Wl,--version-script,@BAD"
+# What is never linked together with others: it may make a bad link good, or the linker may warn of it alone.
+NOT_TOGETHER = ("-nostdlib", "-static", "-r", "-Wl,--unresolved-symbols=ignore-all", "-Wl,--no-such", "-Wl,-z,such", "-Wl,-z,noexecstack",
+                "-Wl,--allow-shlib-undefined", "-Wl,--version-script,a,--noinhibit-exec")
+
+
+def test_links() -> None:
+    with tempfile.TemporaryDirectory() as scratch:
+        paths = {"@GOOD": os.path.join(scratch, "good.map"), "@BAD": os.path.join(scratch, "bad.map")}
+        for name, text in (("@GOOD", "{ global: main; local: *; };\n"), ("@BAD", "{ global main\n")):
+            with open(paths[name], "w", encoding="utf-8") as it:
+                it.write(text)
+        for name, compiler in compilers(scratch):
+            for what, keys in {"libraries": LIBRARIES, "words": WORDS, "both": LIBRARIES + WORDS,
+                               "a bad script": [*LIBRARIES, BAD_SCRIPT]}.items():
+                named = [it.replace("@GOOD", paths["@GOOD"]).replace("@BAD", paths["@BAD"]) for it in keys]
+                link_both_ways(f"machine files: {name}: links of {what}", compiler, named, BAD_SCRIPT in keys)
+    left = [it for it in NOT_TOGETHER if flags_to_link(f"has_link_argument {it}") is not None]
+    check("machine files: words that may make a bad link good are tried alone", not left, left)
+
+
+def link_both_ways(what: str, compiler: Compiler, keys: list[str], is_open: bool) -> None:
+    wanted = [it for it in map(flags_to_link, keys) if it is not None]
+    compiler.linked.clear()
+    link_together(compiler, [*wanted, Flags(("-pthread",))])
+    settled = dict(compiler.linked)
+    alone = side_by_side(lambda it: compiler.attempt("link", MAIN, it).is_good, list(settled), None, end_all)
+    wrong = {it: settled[it].is_good for it, is_good in zip(settled, alone) if settled[it].is_good != is_good}
+    check(f"{what} together have the answers of links alone", not wrong and len(wanted) == len(keys), wrong)
+    left = [it for it in wanted if it not in settled]
+    check(f"{what} together: which are settled", bool(left) == is_open, left)
+
+
+TESTS = (test_both_ways, test_links)

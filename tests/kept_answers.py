@@ -24,6 +24,7 @@ cc.has_function('memcpy')
 cc.has_function('later_function')
 cc.has_argument('-Wall')
 dependency('threads')
+find_program('kept-tool', required: false)
 """
 PACKAGES = "dependency('own', required: false)\ndependency('later', required: false)\n"
 HAS_PACKAGES = shutil.which("pkg-config") is not None
@@ -31,14 +32,16 @@ PACKAGE = "Name: it\nDescription: it\nVersion: %s\nLibs: -l%s\nRequires: %s\n"
 
 
 # Runs a script and records each command that it starts.
-COUNTING = """import os, runpy, subprocess, sys
-begin, log = subprocess.Popen, os.environ.pop('COUNTED')
-def counted(words, **how):
-    with open(log, 'a') as it:
-        it.write(' '.join(words) + '\\n')
-    return begin(words, **how)
-subprocess.Popen = counted
+COUNTING = """import os, runpy, sys
 sys.argv = sys.argv[1:]
+sys.path.insert(0, os.path.dirname(os.path.dirname(os.path.realpath(sys.argv[0]))))
+from tools.asking import processes
+begin, log = processes.Command.begin, os.environ.pop('COUNTED')
+def counted(command, *others):
+    with open(log, 'a') as it:
+        it.write(' '.join(command.words) + '\\n')
+    return begin(command, *others)
+processes.Command.begin = counted
 runpy.run_path(sys.argv[0], run_name='__main__')
 """
 
@@ -51,7 +54,7 @@ def library(name: str, function: str) -> None:
 
 def variables() -> dict[str, str]:
     return {"CC": f"{WORK}/kept/other-cc", "CPPFLAGS": f"-I{WORK}/kept/first -I{WORK}/kept/second", "LDFLAGS": f"-L{WORK}/kept/lib",
-            "PKG_CONFIG_PATH": f"{WORK}/kept/packages"}
+            "PKG_CONFIG_PATH": f"{WORK}/kept/packages", "PATH": f"{WORK}/kept/bin:{os.environ['PATH']}"}
 
 
 class Asked:
@@ -79,6 +82,7 @@ def begin() -> None:
     put("kept/other-cc", "#!/bin/sh\nexec cc \"$@\"\n", 0o755)
     os.makedirs(f"{WORK}/kept/first")
     os.makedirs(f"{WORK}/kept/lib")
+    os.makedirs(f"{WORK}/kept/bin")
     library("own", "own_function")
 
 
@@ -138,6 +142,7 @@ CHANGES: dict[str, tuple[Callable[[], object], str]] = {
     "a package that is another": (lambda: put("kept/packages/own.pc", PACKAGE % ("7.77", "own", "")), "version = '7.77'"),
     "a package that a package needs": (lambda: put("kept/packages/needed.pc", PACKAGE % ("1.0", "needed2", "")),
                                        "link_args = ['-lown', '-lneeded2']"),
+    "a program that was missing": (lambda: put("kept/bin/kept-tool", "#!/bin/sh\n", 0o755), f"kept-tool = '{WORK}/kept/bin/kept-tool'"),
     "a compiler that is another": (lambda: put("kept/other-cc", "#!/bin/sh\nexec cc -Dlater_t=int \"$@\"\n", 0o755),
                                    "has_type later_t = true")}
 
@@ -161,6 +166,7 @@ def test_damage() -> None:
     begin()
     first = Asked()
     path = os.path.join(environment()["XDG_CACHE_HOME"], "hawkottoman", "answers.json")
+    outputs = os.path.join(os.path.dirname(path), "outputs")
     whole = read(path)
     form, names, stamps, lists, answers = json.loads(whole)
     for name, text in (("empty", ""), ("cut", whole[:len(whole) // 2]), ("no JSON", "\0" * 100), ("deep", "[" * 100000), ("other", "{}"),
@@ -168,10 +174,12 @@ def test_damage() -> None:
                        ("no lists", json.dumps([form, names, stamps, [[10**9]], answers])),
                        ("another form", json.dumps([form + 1, names, stamps, lists, answers]))):
         put(path, text)
+        shutil.rmtree(outputs)
         again = Asked()
         check(f"kept answers: damaged: {name}", again.lines == first.lines and again.status == 0 and again.said == "", again.said)
         check(f"kept answers: damaged: {name}: made anew", Asked().calls == [])
     os.remove(path)
+    shutil.rmtree(outputs)
     other = put("kept/of another", "text")
     os.symlink(other, path)
     check("kept answers: a link is not followed", Asked().lines == first.lines and read(other) == "text")
@@ -182,4 +190,28 @@ def test_damage() -> None:
     os.remove(os.path.dirname(path))
 
 
-TESTS = (test_kept, test_other_definitions, test_changes, test_damage)
+def test_damaged_output() -> None:
+    """A file of what was printed that says nothing, or what it shouldn't, isn't printed, and is made anew."""
+    begin()
+    first = Asked()
+    folder = os.path.join(environment()["XDG_CACHE_HOME"], "hawkottoman", "outputs")
+    path = os.path.join(folder, *os.listdir(folder))
+    whole = read(path)
+    key, asked, head, machine, origin = json.loads(whole)
+    commands, programs, files, stamps = origin
+    for name, text in (("empty", ""), ("cut", whole[:len(whole) // 2]), ("no JSON", "\0" * 100), ("deep", "[" * 100000), ("other", "{}"),
+                       ("numbers", "[1, 2, 3, 4, 5]"), ("another key", json.dumps([key + "x", asked, "x", machine, origin])),
+                       ("other questions", json.dumps([key, "x", "x", machine, origin])),
+                       ("other commands",
+                        json.dumps([key, asked, "x", machine, [[[it, "x"] for it, _ in commands], programs, files, stamps]])),
+                       ("other programs", json.dumps([key, asked, "x", machine, [commands, {"sh": None}, files, stamps]])),
+                       ("other files", json.dumps([key, asked, "x", machine, [commands, programs, {path: False}, stamps]])),
+                       ("other stamps", json.dumps([key, asked, "x", machine, [commands, programs, files, {path: [1, 2]}]])),
+                       ("no stamps", json.dumps([key, asked, "x", machine, [commands, programs, files, 1]]))):
+        put(path, text)
+        again = Asked()
+        check(f"kept answers: a damaged output: {name}", again.lines == first.lines and again.status == 0 and again.said == "", again.said)
+        check(f"kept answers: a damaged output: {name}: made anew", read(path) == whole, read(path))
+
+
+TESTS = (test_kept, test_other_definitions, test_changes, test_damage, test_damaged_output)

@@ -10,6 +10,11 @@ import _signal as signal
 import os
 import sys
 
+try:
+    import _signal as signal  # `signal` makes classes of its numbers, which takes half as long as a command
+except ImportError:
+    import signal
+
 TYPE_CHECKING = False
 if TYPE_CHECKING:
     from types import FrameType

@@ -6,16 +6,15 @@ the reader of a pipe has gone, nothing is said.
 from __future__ import annotations
 
 import os
-import signal
 import sys
-from collections.abc import Callable
 
 TYPE_CHECKING = False
 if TYPE_CHECKING:
+    from collections.abc import Callable
     from types import FrameType
     from typing import NoReturn
 
-from tools.early_signals import INTERRUPTED, SIGNALS
+from tools.early_signals import INTERRUPTED, SIGNALS, signal
 
 # The name by which the command was called, which is none of what it runs.
 CALLED = os.environ.pop("HAWKOTTOMAN_CALLED", "meson")

@@ -1,13 +1,15 @@
 """Runs work in parallel, and ends it if the script ends."""
 from __future__ import annotations
 
+import _thread
 import os
-import threading
 from collections.abc import Callable
 
 TYPE_CHECKING = False
 if TYPE_CHECKING:
     from typing import Any
+
+SPELL = 0.5  # of waiting, in seconds
 
 
 class Lanes:
@@ -16,8 +18,9 @@ class Lanes:
     def __init__(self, work: Callable[[Any], Any], items: list[Any], end: Callable[[], None]) -> None:
         self.work, self.items, self.end = work, items, end
         self.came: list[Any] = [None] * len(items)
-        self.waiting, self.lock = list(range(len(items)))[::-1], threading.Lock()
+        self.waiting, self.lock = list(range(len(items)))[::-1], _thread.allocate_lock()
         self.fault: BaseException | None = None
+        self.alive: list[_thread.LockType] = []  # one for each thread, which lets it go at its end
 
     def next_number(self) -> int | None:
         with self.lock:
@@ -30,6 +33,31 @@ class Lanes:
             except BaseException as fault:
                 self.stop(fault)
 
+    def start(self) -> None:
+        """Starts a thread."""
+        ended = _thread.allocate_lock()
+        ended.acquire()
+        self.alive.append(ended)
+        try:
+            _thread.start_new_thread(self.run_in_thread, (ended,))
+        except BaseException:
+            self.alive.remove(ended)
+            raise
+
+    def run_in_thread(self, ended: _thread.LockType) -> None:
+        try:
+            self.run()
+        finally:
+            self.alive.remove(ended)
+            ended.release()
+
+    def wait(self) -> None:
+        """Waits for all threads, in short spells: where two signals come at once another thread may take both, and this one would sleep
+        on."""
+        for it in list(self.alive):
+            while it in self.alive:
+                it.acquire(timeout=SPELL)
+
     def stop(self, fault: BaseException) -> None:
         """Starts no more work, and ends what is running; the first fault counts."""
         with self.lock:
@@ -40,20 +68,14 @@ class Lanes:
 def side_by_side(work: Callable[[Any], Any], items: list[Any], jobs: int | None, end: Callable[[], None]) -> list[Any]:
     """Returns the results of work on each item. If one fails, or the script is interrupted, `end` ends what is running, and no more
     starts."""
-    lanes, begun = Lanes(work, items, end), []
+    lanes = Lanes(work, items, end)
     try:
         for _ in range(min(jobs or (os.cpu_count() or 1) + 4, len(items))):
-            begun.append(threading.Thread(target=lanes.run))
-            begun[-1].start()
-        # In short spells: where two signals come at once another thread may take both, and this one would sleep on.
-        for it in begun:
-            while it.is_alive():
-                it.join(0.5)
+            lanes.start()
+        lanes.wait()
     except BaseException as fault:
         lanes.stop(fault)
-        for it in begun:
-            if it.ident is not None:
-                it.join()
+        lanes.wait()
         raise
     if lanes.fault is not None:
         raise lanes.fault

@@ -41,9 +41,12 @@ NOT_COMPLETE = r"storage size of 'foo' isn't known|field 'target' has incomplete
 NO_HEADER = r"fatal error: (?:[^ ]+: No such file or directory|'[^']+' file not found)"
 # Words that change no other word's meaning, and what the compiler says of one that it doesn't know.
 FREE = r"-W(?!(?:no-)?(?:error|fatal))[a-z][\w+-]*(?:=\w+)?|-f(?:no-[a-z-]+|visibility=hidden|stack-[a-z-]+|strict-[a-z-]+)"
+# Words each of which makes one warning an error. Those of formats are left out: GCC refuses one alone that it accepts after another.
+STRICT = r"-Werror=(?!.*format|abi)[a-z][\w-]*"
 NO_WORD = (r".*error: (?:unrecognized command[- ]line option|unknown warning option|unknown argument:|missing argument to"
            r"|argument to) "
            r"'([^'=]+)=?'.*"
+           r"|.*error: (?:'(-Werror=[^']+)': no option|unknown warning option '(-Werror=[^']+)').*"
            r"|.*command[- ]line option '([^']+)' is valid for C\+\+/ObjC\+\+ but not for C.*")
 UNDEFINED = r"(?:undefined reference to [`']|undefined symbol: )([^'\s]+)"
 ERROR = r"(?:^|: )(?:fatal )?error: "
@@ -78,8 +81,8 @@ def is_closed(prefix: str) -> bool:
 def set_of(check: Check) -> tuple[str, str, Flags] | None:
     """Returns the set whose checks run together: its family, what is before them, their flags. None if a check runs alone."""
     method, (a, b) = arguments_of(check.key)[0], (*arguments_of(check.key)[1], "")[:2]
-    if method == "has_argument" and re.fullmatch(FREE, a):
-        return method, "", Flags()
+    if method == "has_argument" and re.fullmatch(f"{FREE}|{STRICT}", a):
+        return method, "-Werror=" * a.startswith("-Werror="), Flags()
     if not is_closed(check.prefix):
         return None
     if method == "has_header" and re.fullmatch(HEADER, a):
@@ -105,8 +108,13 @@ def bundles_of(checks: list[Check]) -> tuple[list[list[Check]], list[Check]]:
         else:
             sets.setdefault(which, []).append(check)
     # One check of a header or a compilation is quick by itself.
-    small = [it for (family, _, _), it in sets.items() if len(it) == 1 and family in ("has_header", "has_argument", "compile")]
+    small = [it for (family, _, _), it in sets.items() if len(it) == 1 and family in ("has_header", "compile")]
     return [it for it in sets.values() if it not in small], [*alone, *(it[0] for it in small)]
+
+
+def is_linked(check: Check) -> bool:
+    """Returns whether a bundle of such checks ends in a link."""
+    return arguments_of(check.key)[0] in (*NUMBERS, "has_function")
 
 
 def ask_together(compiler: Compiler, bundle: list[Check]) -> Answers:
@@ -140,7 +148,8 @@ def ask_headers(compiler: Compiler, bundle: list[Check], before: str, flags: Fla
 
 
 def ask_words(compiler: Compiler, bundle: list[Check]) -> Answers:
-    """Gives the compiler all arguments together; it names each one that it doesn't know."""
+    """Gives the compiler all arguments together; it names each one that it doesn't know. GCC does so before it makes any code."""
+    mode = "check" if compiler.id == "gcc" else "compile"
     if any(it.startswith("-Werror") for it in compiler.c_args):
         return {}
     settled: Answers = {}
@@ -148,7 +157,7 @@ def ask_words(compiler: Compiler, bundle: list[Check]) -> Answers:
         left = {it: words_to_try(argument_of(it)) for it in bundle if it not in settled}
         if not left:
             break
-        done = compiler.attempt("compile", OF_ARGUMENT, Flags(tuple(word for words in left.values() for word in words)), hears=True)
+        done = compiler.attempt(mode, OF_ARGUMENT, Flags(tuple(word for words in left.values() for word in words)), hears=True)
         lines = [it for it in done.said.split("\n") if "error: " in it or "is valid for C++/ObjC++" in it]
         matches = [re.fullmatch(NO_WORD, it) for it in lines]
         named = {it for match in matches if match for it in match.groups()}

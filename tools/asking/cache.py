@@ -3,8 +3,8 @@
 Each is kept by the whole question, the compiler and the environment, with its evidence: it is good as long as each of these files is as it
 was. A cache that is damaged, or isn't the user's, counts as empty, and one that can't be written is left alone.
 """
-import contextlib
-import json
+from __future__ import annotations
+
 import os
 import stat
 import time
@@ -14,9 +14,10 @@ try:
 except ImportError:
     from hashlib import blake2b
 
-from tools.asking.evidence import Evidence, Stamp, stamp_of
+from tools.asking.stamps import Evidence, Stamp, stamp_of
+from tools.light_json import dumps, loads
 
-FORM = 2  # another number where the file has another form, or an answer another meaning: what was kept before is then not taken
+FORM = 3  # another number where the file has another form, or an answer another meaning: what was kept before is then not taken
 FOLDER, NAME = "hawkottoman", "answers.json"
 MOST_BYTES, MOST_ANSWERS = 2**24, 100_000
 # Variables that change no answer; any other one is part of the question.
@@ -36,8 +37,21 @@ def cache_path() -> str | None:
 
 def label_of(question: object) -> str:
     """Returns a question with the environment, as a short name."""
-    around = sorted((name, it) for name, it in os.environ.items() if name not in FREE)
-    return blake2b(json.dumps([FORM, question, around]).encode(), digest_size=16).hexdigest()
+    return short_name([FORM, question, around()])
+
+
+def short_name(value: object) -> str:
+    return blake2b(dumps(value).encode(), digest_size=16).hexdigest()
+
+
+AROUND: list[str] = []  # the environment, once it was looked at
+
+
+def around() -> str:
+    """Returns the variables of the environment that may change an answer, as a short name."""
+    if not AROUND:
+        AROUND.append(short_name(sorted((name, it) for name, it in os.environ.items() if name not in FREE)))
+    return AROUND[0]
 
 
 class Kept:
@@ -47,18 +61,20 @@ class Kept:
         self.stamps: dict[str, Stamp] = {}
         self.lists: list[list[str]] = []
         self.answers: dict[str, tuple[object, int]] = {}
-        with contextlib.suppress(ValueError, TypeError, KeyError, IndexError, RecursionError):
-            form, names, stamps, lists, answers = json.loads(text) if text else (None,) * 5
+        try:
+            form, names, stamps, lists, answers = loads(text) if text else (None,) * 5
             if form == FORM:
                 paths = [str(it) for it in names]
                 read = [[paths[it] for it in one] for one in lists]
                 pairs = {str(label): (it, int(number)) for label, (it, number) in answers.items() if 0 <= int(number) < len(read)}
                 self.stamps, self.lists, self.answers = dict(zip(paths, stamps, strict=True)), read, pairs
+        except (ValueError, TypeError, KeyError, IndexError, RecursionError):
+            pass  # it counts as empty
 
     def text(self) -> bytes:
         number = {it: place for place, it in enumerate(self.stamps)}
         lists = [[number[it] for it in one] for one in self.lists]
-        return json.dumps([FORM, list(self.stamps), list(self.stamps.values()), lists, self.answers], separators=(",", ":")).encode()
+        return dumps([FORM, list(self.stamps), list(self.stamps.values()), lists, self.answers]).encode()
 
     def add(self, stamps: dict[str, Stamp], answers: dict[str, object]) -> None:
         """Adds answers with their evidence. Lists that say otherwise of a path go, with the answers that depend on them."""
@@ -88,7 +104,7 @@ class Cache:
         self.path, self.begun = path, time.time_ns()
         self.kept = Kept(read_own(path) if path else b"")
         self.new: list[tuple[dict[str, Stamp], dict[str, object]]] = []
-        self.now: dict[str, Stamp] = {}  # stamps that were looked at
+        self.now: dict[str, Stamp] = {}  # stamps when they were first looked at: what changes after that is no longer good next time
         self.good: dict[int, bool] = {}  # lists of which each path is as it was
 
     def stamp(self, path: str) -> Stamp:
@@ -107,10 +123,21 @@ class Cache:
 
     def put(self, evidence: Evidence, answers: dict[str, object]) -> None:
         """Keeps answers, unless what they rest on isn't known, or has changed since the script began."""
-        stamps = {it: stamp_of(it) for it in evidence.paths}
-        is_settled = all(it is None or it[0] < self.begun for it in stamps.values())
-        if self.path and answers and evidence.is_whole and is_settled:
+        stamps = self.settled_stamps(evidence.paths)
+        if self.path and answers and evidence.is_whole and stamps is not None:
             self.new.append((stamps, answers))
+
+    def paths_of(self, label: str) -> set[str] | None:
+        """Returns the paths that an answer depends on; None if it isn't kept."""
+        number = self.kept.answers.get(label, (None, -1))[1]
+        if self.good.get(number):
+            return set(self.kept.lists[number])
+        return next((set(stamps) for stamps, answers in self.new if label in answers), None)
+
+    def settled_stamps(self, paths: set[str]) -> dict[str, Stamp] | None:
+        """Returns the times and sizes of paths, unless one has changed since the script began."""
+        stamps = {it: self.stamp(it) for it in sorted(paths)}
+        return stamps if all(it is None or it[0] < self.begun for it in stamps.values()) else None
 
     def save(self) -> None:
         """Writes the new answers, together with those that other runs have kept meanwhile. Replaces the file as a whole."""
@@ -121,18 +148,23 @@ class Cache:
             kept = Kept()
         for stamps, answers in self.new:
             kept.add(stamps, answers)
-        with contextlib.suppress(OSError):
-            replace(self.path, kept.text())
+        replace(self.path, kept.text())
 
 
 def replace(path: str, text: bytes) -> None:
-    os.makedirs(os.path.dirname(path), mode=0o700, exist_ok=True)
+    """Writes a file as a whole, if it can be written."""
     beside = f"{path}.{os.urandom(8).hex()}"
     try:
+        os.makedirs(os.path.dirname(path), mode=0o700, exist_ok=True)
         with open(os.open(beside, os.O_WRONLY | os.O_CREAT | os.O_EXCL | os.O_NOFOLLOW | os.O_CLOEXEC, 0o600), "wb") as it:
             it.write(text)
         os.replace(beside, path)
     except OSError:
-        with contextlib.suppress(OSError):
-            os.unlink(beside)
-        raise
+        remove(beside)
+
+
+def remove(path: str) -> None:
+    try:
+        os.unlink(path)
+    except OSError:
+        pass  # it isn't there

@@ -31,6 +31,8 @@ NUMBERS = {"sizeof": ("sizeof({a})", "{prefix}\n#include <stddef.h>\n#include <s
 # An array that has a size only where the condition holds.
 HOLDS = "%s\nint main(void) { static int check[1 - 2 * !(%s)]; check[0] = 0; return check[0]; }"
 GREATEST = 2**62
+# Checks by the link of an empty program, and its arguments.
+OF_LINKS = {"has_link_argument": ("-Wl,--fatal-warnings", "{a}"), "find_library": ("-l{a}", "-Wl,--allow-shlib-undefined")}
 OF_TWO = ("has_member", "has_header_symbol")  # arguments
 # Checks of arguments of the compiler and the linker, which get no other arguments of the project.
 OF_WORDS = ("has_argument", "has_link_argument", "find_library")
@@ -49,10 +51,8 @@ def answer(compiler: Compiler, key: str, prefix: str = "", flags: Flags = Flags(
     if method == "has_argument":
         done = compiler.attempt("compile", OF_ARGUMENT, Flags(tuple(words_to_try(a))), hears=True)
         return done.is_good and "is valid for C++/ObjC++" not in done.said
-    if method == "has_link_argument":
-        return compiler.takes("link", MAIN, Flags(("-Wl,--fatal-warnings", a)))
-    if method == "find_library":
-        return compiler.takes("link", MAIN, Flags((f"-l{a}", "-Wl,--allow-shlib-undefined")))
+    if method in OF_LINKS:
+        return compiler.takes("link", MAIN, flags_of_link(method, a))
     if method == "has_function":
         return has_function(compiler, a, prefix, flags)
     if method in NUMBERS:
@@ -60,6 +60,11 @@ def answer(compiler: Compiler, key: str, prefix: str = "", flags: Flags = Flags(
         return number(compiler, f"(long)({expression})", before + kind, flags)
     mode, source = SOURCES[method]
     return compiler.takes(mode, source.format(prefix=prefix, a=a, b=b), flags)
+
+
+def flags_of_link(method: str, word: str) -> Flags:
+    """Returns the arguments with which an empty program is linked to answer a check."""
+    return Flags(tuple(it.format(a=word) for it in OF_LINKS[method]))
 
 
 def words_to_try(word: str) -> list[str]:

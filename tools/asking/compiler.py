@@ -4,26 +4,27 @@ The compiler reads the text of a project that nobody has to trust, and no result
 one, and the last arguments name the output in it. The arguments of a project are those of an allowlist (allowed.py), and the compiler runs
 in a sandbox (sandbox.py).
 """
+from __future__ import annotations
+
+import _thread
 import functools
 import os
 import re
-import shlex
-import shutil
-import tempfile
-import threading
 import time
 
 from tools import records as dataclasses
 from tools.asking.allowed import DANGER, Allowed
-from tools.asking.cache import Cache, label_of
-from tools.asking.evidence import Evidence, add_headers, add_linked, at_work, cut_headers, folders_in, gathered, stamp_of
-from tools.asking.processes import Done, NoAnswer, end_all, run
-from tools.asking.programs import after_launchers
+from tools.asking.cache import Cache, label_of, short_name
+from tools.asking.early import DEFINED, VERSION, after_launchers, compiler_words, early_or_run
+from tools.asking.evidence import add_evidence, add_headers, add_linked, at_work, cut_headers, folders_in, gathered
+from tools.asking.processes import Done, NoAnswer, run
+from tools.asking.programs import own_folders, path_folders
 from tools.asking.sandbox import SECONDS, Sandbox, sandbox_of
+from tools.asking.stamps import Evidence, stamp_of
 from tools.ending import Stop
 from tools.files import read_bytes
-from tools.parallel import side_by_side
-from tools.variables import pkg_config, words_of
+from tools.scratch import ScratchFolder
+from tools.variables import found_program, pkg_config, words_of
 
 # The programs that a compiler runs, and what is looked at of all that it defines.
 TOOLS = ("cc1", "as", "collect2", "ld")
@@ -38,8 +39,10 @@ ASSEMBLY = (".s", ".S")
 GUARD = "-Wl,-O0"
 MOST_BYTES = 1 << 26  # of a program that holds answers
 ALL_SECONDS = 1800  # that all commands may take together: a project can ask any number of questions
-# The words of the real Meson for each way to try a source.
-MODES = {"preprocess": ["-E", "-P"], "compile": ["-c"], "link": []}
+# The words of the real Meson for each way to try a source, and one that makes no code.
+MODES = {"preprocess": ["-E", "-P"], "compile": ["-c"], "link": [], "check": ["-fsyntax-only"]}
+# Words that change nothing in the folders that are searched for headers.
+OF_NO_FOLDER = r"(?s)-[DU]\w.*|-W(?![lpa],)[\w+=-]+|-std=[\w:+]+|-O\w?|-pthread|-f[\w+=-]+"
 OF_CLANG = ["-Werror=implicit-function-declaration"]
 OF_CLANG_THAT_COMPILES = ["-Werror=unknown-warning-option", "-Werror=unused-command-line-argument", "-Werror=ignored-optimization-argument"]
 
@@ -47,8 +50,8 @@ OF_CLANG_THAT_COMPILES = ["-Werror=unknown-warning-option", "-Werror=unused-comm
 @functools.cache
 def identity(words: tuple[str, ...]) -> tuple[object, ...]:
     """Returns which program these arguments run."""
-    path = os.path.realpath(shutil.which(words[0]) or words[0])
-    return (words, path, stamp_of(path), run([*words, "--version"]).printed)
+    path = os.path.realpath(found_program(words[0]) or words[0])
+    return (words, path, stamp_of(path), early_or_run([*words, *VERSION]).printed)
 
 
 def bytes_made(path: str) -> bytes:
@@ -68,26 +71,38 @@ class Flags:
     link_args: tuple[str, ...] = ()
 
 
+@dataclasses.dataclass(frozen=True)
+class Linked:
+    """Holds whether an empty program was linked, and what that depends on."""
+    is_good: bool
+    evidence: Evidence
+
+
 class Compiler:
     def __init__(self, scratch: str, sources: str, cache: Cache | None = None) -> None:
         self.scratch, self.allowed, self.cache = scratch, Allowed((sources,)), cache or Cache(None)
         self.folders: dict[Flags, list[str] | None] = {}  # that are searched for headers
-        self.searches = threading.Lock()
+        self.linked: dict[Flags, Linked] = {}  # whether an empty program is linked with these arguments, if that is known
+        self.packages: dict[str, tuple[object, Evidence]] = {}  # what pkg-config has said of them, and what that depends on
+        self.package_folders: list[str] | None = None  # that it searches
+        self.has_doubt = False  # whether pkg-config works in the sandbox
+        self.is_tried = False  # an empty program was linked with the flags in use, in the present sandbox
+        self.searches = _thread.allocate_lock()
         self.end = time.monotonic() + ALL_SECONDS  # after which no command is run
-        self.c, self.ar = words_of("CC") or ["cc"], words_of("AR") or ["ar"]
+        self.c, self.ar = compiler_words(), words_of("AR") or ["ar"]
         self.own = after_launchers(self.c)  # as it is called for a check
         self.standard: list[str] = []
-        self.has_words_of_project = False  # among the flags in use
+        self.words_of_user: tuple[list[str], list[str], list[str]] | None = None  # if there are others of the project among those in use
         self.tried_out: dict[str, Sandbox] = {}  # the sandbox in which flags work
         self.c_args, self.c_link_args = words_of("CPPFLAGS") + words_of("CFLAGS"), words_of("CFLAGS") + words_of("LDFLAGS")
         for word in (self.c[0], self.own[0]):
-            if not shutil.which(word):
+            if not found_program(word):
                 raise Stop(f"no C compiler: {word!r} isn't on PATH (CC names another)")
-        with tempfile.TemporaryDirectory(dir=scratch) as folder:
+        with ScratchFolder(scratch) as folder:
             self.sandbox = sandbox_of(self.own, pkg_config(), folder)
-        self.itself = [*identity(tuple(self.own))]
-        defined, tools = self.found_out()
-        self.itself += [[it, stamp_of(it)] for it in tools]
+            self.itself = [*identity(tuple(self.own))]
+            defined, tools, self.own_headers = self.found_out(folder)
+        self.tools, self.itself = tools, [*self.itself, *([it, stamp_of(it)] for it in tools)]
         self.id = "clang" if "__clang__" in defined else "gcc" if "__GNUC__" in defined else "unknown"
         self.version = (re.search(r"\d+(\.\d+)+", defined.get("__VERSION__", "")) or ["unknown"])[0]
         system = os.uname()
@@ -99,40 +114,35 @@ class Compiler:
         endian = "big" if defined.get("__BYTE_ORDER__") == "__ORDER_BIG_ENDIAN__" else "little"
         self.host = {"system": system.sysname.lower(), "cpu_family": family, "cpu": cpu, "endian": endian}
 
-    def found_out(self) -> tuple[dict[str, str], list[str]]:
-        """Returns what the compiler defines before all sources, and the programs that it runs."""
+    def found_out(self, folder: str) -> tuple[dict[str, str], list[str], list[str] | None]:
+        """Returns what the compiler defines before all sources, the programs that it runs, and the folders that it searches for headers."""
         label = label_of(["compiler", self.itself])
         kept, is_good = self.cache.get(label)
         if is_good and isinstance(kept, list):
-            return kept[0], kept[1]
-        defined = dict(re.findall(r"^#define (\w+) (.*)$", run([*self.own, "-dM", "-E", "-x", "c", "/dev/null"]).printed, re.M))
-        tools = side_by_side(self.tool, list(TOOLS), None, end_all) if self.cache.path else []
-        evidence = Evidence()
-        evidence.paths = set(filter(None, tools))
-        self.cache.put(evidence, {label: [{it: defined[it] for it in OF_INTEREST if it in defined}, sorted(evidence.paths)]})
-        return defined, sorted(evidence.paths)
+            return kept[0], kept[1], kept[2]
+        done = early_or_run([*self.own, *DEFINED])
+        defined, headers = dict(re.findall(r"^#define (\w+) (.*)$", done.printed, re.M)), folders_in(done.said)
+        searched = [*own_folders(tuple(self.own), folder), *path_folders()]
+        evidence = Evidence(set(filter(None, (found_program(it, searched) for it in TOOLS))) if self.cache.path else None)
+        tools = sorted(evidence.paths)
+        self.cache.put(evidence, {label: [{it: defined[it] for it in OF_INTEREST if it in defined}, tools, headers]})
+        return defined, tools, headers
 
-    def tool(self, name: str) -> str:
-        printed = run([*self.own, f"-print-prog-name={name}"]).printed.strip()
-        return shutil.which(printed) or "" if printed else ""
-
-    def words(self) -> list[object]:
-        """Returns what an answer depends on in addition to its question: the compiler, and the arguments in use."""
-        return [self.itself, self.sandbox.lack, self.standard, self.c_args, self.c_link_args]
+    def words(self) -> str:
+        """Returns a name of what an answer depends on in addition to its question: the compiler, and the arguments in use."""
+        return short_name([self.itself, self.sandbox.lack, self.standard, self.c_args, self.c_link_args])
 
     def use(self, c_std: str, c_args: list[str], c_link_args: list[str], given: list[str]) -> None:
         """Takes over the options in use. What neither the environment nor a word `-D..` gives is the project's, and looked at."""
         for name, words, own in (("c_args", c_args, self.c_args), ("c_link_args", c_link_args, self.c_link_args)):
             if words == own or any(it.startswith(f"-D{name}=") for it in given):
                 continue
-            if not self.has_words_of_project:
-                self.choose_sandbox()  # by the user's words, before there are any of the project
-            self.has_words_of_project = True
+            self.words_of_user = self.words_of_user or ([], self.c_args, self.c_link_args)
             refused = self.allowed.refused(words)
             if refused is not None:
                 raise Stop(f"{name} of the project: {DANGER % refused}; -D{name}=.. gives others")
         self.standard = [] if c_std == "none" else ["-std=" + c_std]
-        self.c_args, self.c_link_args = c_args, c_link_args
+        self.c_args, self.c_link_args, self.is_tried = c_args, c_link_args, False
 
     def try_out(self) -> None:
         """Stops if an empty program can't be compiled and linked with the flags in use: every check would be false then."""
@@ -143,21 +153,70 @@ class Compiler:
     def choose_sandbox(self) -> str:
         """Takes the strongest sandbox in which an empty program can be made with the flags in use; why that fails, where it fails in each.
         Words of the project take no weaker one than the user's words."""
-        sandboxes = [self.sandbox] if self.has_words_of_project else list(self.sandbox.weaker())
-        label, faults = label_of(["works", self.words()]), []
-        kept, is_kept = self.cache.get(label)
-        if label in self.tried_out or is_kept and kept in range(len(sandboxes)):
-            self.sandbox = self.tried_out.get(label) or sandboxes[int(str(kept))]
+        if self.recall_trial():
             return ""
+        if self.words_of_user is None:
+            return self.tried_in(list(self.sandbox.weaker()))
+        fault = self.tried_in([self.sandbox])
+        if not fault:
+            return ""
+        strongest, words = self.sandbox, (self.standard, self.c_args, self.c_link_args)
+        self.standard, self.c_args, self.c_link_args = self.words_of_user
+        self.tried_in(list(self.sandbox.weaker()))
+        self.standard, self.c_args, self.c_link_args = words
+        return fault if self.sandbox == strongest else self.tried_in([self.sandbox])
+
+    def tried_in(self, sandboxes: list[Sandbox]) -> str:
+        """Takes the first sandbox in which an empty program can be made with the flags in use. Returns why that fails in each."""
+        label, faults, self.is_tried = self.label_of_trial(), [], False
         for number, self.sandbox in enumerate(sandboxes):
             with gathered() as evidence:
                 faults.append(self.fault_of_empty())
             if not faults[-1]:
-                self.cache.put(evidence, {label: number})
-                self.tried_out[label] = self.sandbox
+                self.keep_trial(label, number, evidence)
                 return ""
         self.sandbox = sandboxes[0]
         return faults[0]
+
+    def label_of_trial(self) -> str:
+        return label_of(["works", self.words()])
+
+    def keep_trial(self, label: str, number: int, evidence: Evidence) -> None:
+        """Notes that an empty program was made in a sandbox, which is the first, second or third that was tried."""
+        self.cache.put(evidence, {label: number})
+        self.tried_out[label], self.is_tried = self.sandbox, True
+
+    def recall_trial(self) -> bool:
+        """Takes the sandbox in which an empty program was made before, with the same flags; returns whether there is one."""
+        label, sandboxes = self.label_of_trial(), list(self.sandbox.weaker())
+        kept, is_kept = self.cache.get(label)
+        is_known = label in self.tried_out or is_kept and kept in range(len(sandboxes))
+        if is_known:
+            self.sandbox = self.tried_out.get(label) or sandboxes[int(str(kept))]
+            self.is_tried = True
+        return is_known
+
+    def can_be_tried_later(self) -> bool:
+        """Returns whether the first link of a check may show that the compiler works: that of GCC, which compiles what it links by the same
+        words."""
+        return self.id == "gcc"
+
+    def forget(self) -> None:
+        """Forgets what was found in another sandbox."""
+        self.linked.clear()
+        self.packages.clear()
+        self.folders.clear()
+        self.package_folders = None
+        self.cache.new.clear()
+
+    def note_trial(self, evidence: Evidence) -> None:
+        """Notes that a link with at least the flags in use was good, so that an empty program needn't be tried."""
+        if not self.is_tried and self.can_be_tried_later():
+            self.keep_trial(self.label_of_trial(), 0, evidence)
+
+    def note_links(self, links: list[Flags], is_good: bool, evidence: Evidence) -> None:
+        """Notes how empty programs are linked with these arguments."""
+        self.linked.update(dict.fromkeys(links, Linked(is_good, evidence)))
 
     def fault_of_empty(self) -> str:
         """Returns why it can't compile and link an empty program; empty if it can."""
@@ -172,6 +231,7 @@ class Compiler:
     def fault_of(self, mode: str) -> str:
         """Returns why it can't take an empty program in this way; empty if it can."""
         done = self.attempt(mode, MAIN, Flags(tuple(self.standard)), hears=True)
+        import shlex
         given = shlex.join([*self.c, *self.standard, *self.c_args, *(self.c_link_args if mode == "link" else [])])
         return "" if done.is_good else f"the C compiler can't {mode} an empty program: `{given}`: {done.why}"
 
@@ -185,14 +245,14 @@ class Compiler:
 
     def ask(self, words: list[str]) -> Done:
         """Runs a command in the sandbox, in an empty folder."""
-        with tempfile.TemporaryDirectory(dir=self.scratch) as folder:
+        with ScratchFolder(self.scratch) as folder:
             return self.in_sandbox(words, folder)
 
     def attempt(self, mode: str, source: str, flags: Flags = Flags(), hears: bool = False, ending: str = ".c",
                 reads: bool = False) -> Done:
         """Returns how the compiler takes a source, in a file of this ending, with the arguments of a check in the order of the real
         Meson. Reads the output if the caller requests it."""
-        with tempfile.TemporaryDirectory(dir=self.scratch) as folder:
+        with ScratchFolder(self.scratch) as folder:
             # The words of a check can't name the source, whose text is the project's too.
             file = os.path.join(folder, os.urandom(8).hex() + ending)
             with open(file, "w", encoding="utf-8", errors="surrogatepass") as it:
@@ -207,6 +267,8 @@ class Compiler:
             to = [] if hears and mode == "preprocess" else ["-o", path]
             done = self.in_sandbox([*given, *to], folder, hears or evidence is not None)
             done = self.noted(evidence, mode, source, flags, done) if evidence else done
+            if mode == "link" and done.is_good and flags == Flags(tuple(self.standard)):
+                self.note_trial(evidence or Evidence())
             made = bytes_made(path) if reads and done.is_good else b""
             return dataclasses.replace(done, said=done.said.replace(file, "empty" + ending), made=made)
 
@@ -223,13 +285,26 @@ class Compiler:
         """Returns the folders that are searched for headers, with the words of a check."""
         with self.searches:
             if flags not in self.folders:
-                with tempfile.TemporaryDirectory(dir=self.scratch) as folder:
+                self.folders[flags] = self.known_folders([*flags.compile_args, *self.c_args, *flags.args])
+            if self.folders[flags] is None:
+                with ScratchFolder(self.scratch) as folder:
                     words = [*flags.compile_args, *self.c_args, *flags.args, "-x", "c", os.devnull, "-o", os.path.join(folder, "made")]
                     self.folders[flags] = folders_in(self.in_sandbox([*self.own, "-E", "-v", *words], folder).said)
             return self.folders[flags]
 
+    def known_folders(self, words: list[str]) -> list[str] | None:
+        """Returns the folders that are searched for headers with words that add no other folders than those which they name. None if
+        that isn't known."""
+        added = [it.removeprefix("-I") for it in words if it.startswith("-I/")]
+        is_known = all(it.startswith("-I/") or re.fullmatch(OF_NO_FOLDER, it) for it in words)
+        return [*added, *self.own_headers] if is_known and self.own_headers else None
+
     def takes(self, mode: str, source: str, flags: Flags = Flags()) -> bool:
-        return self.attempt(mode, source, flags).is_good
+        known = self.linked.get(flags) if mode == "link" and source == MAIN else None
+        if known is None:
+            return self.attempt(mode, source, flags).is_good
+        add_evidence(known.evidence)
+        return known.is_good
 
     def expansion(self, name: str, prefix: str, flags: Flags = Flags()) -> str:
         """Returns what a macro expands to after a prefix; empty if it is none."""

@@ -3,53 +3,54 @@
 While a thread answers a question, `gathered` collects for it each file that the compiler, the linker and pkg-config have read, and each
 path that would have been read in its place. An answer is good as long as all of these are as they were.
 """
-import contextlib
+from __future__ import annotations
+
 import os
 import re
-import threading
-from collections.abc import Iterator
+from _thread import get_ident
 
+from tools.asking.stamps import Evidence
 from tools.files import read_bytes
 
+TYPE_CHECKING = False
+if TYPE_CHECKING:
+    from types import TracebackType
+
 MOST_BYTES = 1 << 24  # of a header or a package
-Stamp = list[int] | None
 INCLUDE = r"#\s*include\s*[<\"]([^>\"\n]+)[>\"]|__has_include(?:_next)?\s*\(\s*[<\"]([^>\"\n]+)[>\"]"
 MISSING = r"fatal error: '?([^:'\n]+)'?(?:: No such file or directory| file not found)"
 OPENED = r"(?m)^attempt to open (/.*) (succeeded|failed)$"
 LINKER_RAN = r"ld returned \d+ exit status|linker command failed"
 BAD_OPTION = r"\bld(?:\.\w+)?: unrecognized option "  # with which it opens no file
-HERE = threading.local()  # `gathers`: the evidence of the question that this thread answers
+GATHERS: dict[int, Evidence] = {}  # by thread: the evidence of the question that it answers
 
 
-class Evidence:
-    """Holds paths, and whether the answer depends on nothing else."""
+class gathered:
+    """Collects the evidence of what this thread does in a block."""
 
-    def __init__(self) -> None:
-        self.paths: set[str] = set()
-        self.is_whole = True
+    def __enter__(self) -> Evidence:
+        self.before, evidence = at_work(), Evidence()
+        GATHERS[get_ident()] = evidence
+        return evidence
 
-
-@contextlib.contextmanager
-def gathered() -> Iterator[Evidence]:
-    HERE.gathers = Evidence()
-    try:
-        yield HERE.gathers
-    finally:
-        HERE.gathers = None
+    def __exit__(self, kind: type[BaseException] | None, fault: BaseException | None, trace: TracebackType | None) -> None:
+        if self.before is None:
+            del GATHERS[get_ident()]
+        else:
+            GATHERS[get_ident()] = self.before
 
 
 def at_work() -> Evidence | None:
     """Returns what this thread gathers, or None if its answers aren't kept."""
-    return getattr(HERE, "gathers", None)
+    return GATHERS.get(get_ident())
 
 
-def stamp_of(path: str) -> Stamp:
-    """Returns the time and the size of what is at a path; none if nothing is."""
-    try:
-        found = os.stat(path)
-    except (OSError, ValueError):
-        return None
-    return [found.st_mtime_ns, found.st_size]
+def add_evidence(other: Evidence) -> None:
+    """Adds what was gathered elsewhere to what this thread gathers."""
+    evidence = at_work()
+    if evidence is not None:
+        evidence.paths |= other.paths
+        evidence.is_whole = evidence.is_whole and other.is_whole
 
 
 def cut_headers(said: str) -> tuple[str, list[tuple[int, str]]]:

@@ -1,11 +1,10 @@
 """Finds which package has what is missing, by pkg-config and the tools of the distribution."""
 import re
-import shutil
 
 from tools.asking.allowed import is_package
 from tools.asking.compiler import Compiler
 from tools.asking.processes import run
-from tools.variables import pkg_config
+from tools.variables import found_program, pkg_config
 
 # The end of the path of what is missing, by its kind.
 FILES = {"dependency": "/{}.pc", "program": "/bin/{}", "find_library": "/lib{}.so", "has_header": "/include/{}",
@@ -29,7 +28,7 @@ def lacks(compiler: Compiler, name: str) -> str:
 def of_file(path: str, stem: str) -> str:
     for words, form, text in TOOLS:
         # By its name a package is guessed for a .pc file alone.
-        if shutil.which(words[0]) and (words[0] != "apt-cache" or path.endswith(".pc")):
+        if found_program(words[0]) and (words[0] != "apt-cache" or path.endswith(".pc")):
             asked = [it.format(path=path, pattern=re.escape(path), stem=re.escape(stem)) for it in words]
             # At the root: scripts among these commands could be made to look in the present folder for modules.
             printed = run(asked, "/").printed

@@ -1,26 +1,20 @@
 """Finds the files that a compiler and pkg-config execute: the commands themselves, the compiler's own programs, and their loaders."""
+from __future__ import annotations
+
+import functools
 import os
 import re
-import shutil
 import struct
 
-from tools.asking.processes import run
+from tools.asking.early import FOLDERS, early_or_run
 from tools.elf import Elf
+from tools.variables import found_program
 
 # The programs that GCC and Clang call.
 CALLED = ("cc1", "collect2", "lto1", "lto-wrapper", "as", "ld", "ld.bfd", "ld.gold", "ld.lld", "ld.mold", "nm", "objcopy")
-# Commands that run the compiler that is named after them.
-LAUNCHERS = ("ccache", "sccache", "distcc", "icecc")
 INTERPRETER = 3  # the kind of an ELF file's segment that names the loader
 FIRST_BYTES, MOST_BYTES = 1 << 16, 1 << 20  # of a program that are read: of an ELF file the first ones, if they name its loader
 DEEPEST = 4  # scripts that call scripts
-
-
-def after_launchers(words: list[str]) -> list[str]:
-    """Returns the words of the compiler without those that cache or distribute its work."""
-    while len(words) > 1 and os.path.basename(words[0]) in LAUNCHERS and not words[1].startswith("-"):
-        words = words[1:]
-    return words
 
 
 def path_folders() -> list[str]:
@@ -30,7 +24,7 @@ def path_folders() -> list[str]:
 
 def files_named(name: str, folders: list[str]) -> list[str]:
     """Returns each executable file of a name in these folders, as the system has it."""
-    found = [shutil.which(name)] if "/" in name else [shutil.which(name, path=folder) for folder in folders]
+    found = [found_program(name)] if "/" in name else [found_program(name, [folder]) for folder in folders]
     return [os.path.realpath(it) for it in found if it]
 
 
@@ -42,11 +36,17 @@ def programs_of(compiler: list[str], others: list[str], folder: str) -> tuple[st
         if not word.startswith("-"):
             # All of its name: a command that wraps a compiler calls the next one on PATH.
             add_all(found, [*files_named(word, on_path), *files_named(os.path.basename(word), on_path)], DEEPEST)
-    listed = re.search(r"^programs: =?(.*)$", run([*compiler, "-print-search-dirs"], folder).printed, re.M)
-    own = [it for it in (listed[1].split(":") if listed else []) if os.path.isabs(it)]
+    searched = list(dict.fromkeys(map(os.path.realpath, [*own_folders(tuple(compiler), folder), *on_path])))
     for name in CALLED:
-        add_all(found, files_named(name, [*own, *on_path]), DEEPEST)
+        add_all(found, files_named(name, searched), DEEPEST)
     return tuple(found)
+
+
+@functools.cache
+def own_folders(compiler: tuple[str, ...], folder: str) -> list[str]:
+    """Returns the folders that a compiler searches for its own programs. Runs it in an empty folder."""
+    listed = re.search(r"^programs: =?(.*)$", early_or_run([*compiler, *FOLDERS], folder).printed, re.M)
+    return [it for it in (listed[1].split(":") if listed else []) if os.path.isabs(it)]
 
 
 def add_all(found: dict[str, None], paths: list[str], deepest: int) -> None:

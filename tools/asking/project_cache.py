@@ -8,7 +8,7 @@ from __future__ import annotations
 import os
 
 from tools.asking.cache import Cache, label_of
-from tools.asking.evidence import Evidence, stamp_of
+from tools.asking.stamps import Evidence, stamp_of
 from tools.asking.questions import Project, first_statement
 from tools.files import DEFINITION, OPTION_FILES, read_text
 
@@ -48,7 +48,7 @@ def is_in_use(kept: object) -> bool:
 class LastMachineFile:
     """Holds the sections of a project's last machine file, for these arguments and this compiler."""
 
-    def __init__(self, cache: Cache, project: Project, compiler: list[object]) -> None:
+    def __init__(self, cache: Cache, project: Project, compiler: str) -> None:
         self.cache = cache
         self.label = label_of(["machine file", os.path.abspath(project.sources), project.words, compiler])
         kept, is_kept = cache.get(self.label)

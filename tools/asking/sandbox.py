@@ -6,16 +6,17 @@ memory, files, processes and time have limits. What it reads is not limited: hea
 One gap is known: the loader is among the programs, and a program that is handed to the loader is mapped, not executed. So a compiler that
 can be made to run the loader runs a program inside the sandbox; the arguments that could do this are never given (allowed.py).
 """
-import contextlib
+from __future__ import annotations
+
 import ctypes
 import errno
 import os
 import resource
-import signal
 from collections.abc import Callable, Iterator
 
 from tools import records as dataclasses
 from tools.asking.programs import programs_of
+from tools.early_signals import signal
 
 # The system calls of Landlock, which have these numbers on every machine but Alpha, and the call and option of `prctl`.
 CREATE_RULESET, ADD_RULE, RESTRICT_SELF = 444, 445, 446
@@ -107,15 +108,9 @@ class Sandbox:
         known = sum(rights for version, rights in RIGHTS.items() if version <= self.version)
         return known if self.programs is not None else known & ~EXECUTE
 
-    @contextlib.contextmanager
-    def entrance(self, folder: str) -> Iterator[Callable[[], None]]:
-        """Returns what a child calls before `exec` to be sandboxed; it may write below `folder`."""
-        with contextlib.ExitStack() as opened:
-            ruleset = self.ruleset(folder) if self.version else None
-            if ruleset is not None:
-                opened.callback(os.close, ruleset)
-            most = limits() if self.has_limits else {}
-            yield lambda: enter(ruleset, most)
+    def entrance(self, folder: str) -> Entrance:
+        """Returns what has a child sandboxed before `exec`; it may write below `folder`."""
+        return Entrance(self.ruleset(folder) if self.version else None, limits() if self.has_limits else {})
 
     def ruleset(self, folder: str) -> int:
         network = TCP if self.version >= 4 else 0
@@ -142,6 +137,20 @@ class Sandbox:
         if self.programs is not None:
             yield dataclasses.replace(self, programs=None, lack=OTHER_PROGRAMS)
         yield Sandbox(0, None, UNBOUNDED, False)
+
+
+class Entrance:
+    """Holds the number of a ruleset, if there is one, and the limits of a child. In a block it is the call by which the child enters."""
+
+    def __init__(self, ruleset: int | None, most: dict[int, int]) -> None:
+        self.ruleset, self.most = ruleset, most
+
+    def __enter__(self) -> Callable[[], None]:
+        return lambda: enter(self.ruleset, self.most)
+
+    def __exit__(self, *_: object) -> None:
+        if self.ruleset is not None:
+            os.close(self.ruleset)
 
 
 def limits() -> dict[int, int]:

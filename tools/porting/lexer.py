@@ -3,6 +3,7 @@ from __future__ import annotations
 
 import bisect
 import re
+from collections.abc import Iterator
 
 TOKEN = re.compile(r"""
     (?P<skip> [ \t\r]+ | \#[^\n]* | \\[ \t\r]*(?:\#[^\n]*)?\n )
@@ -12,10 +13,11 @@ TOKEN = re.compile(r"""
   | (?P<number> 0[xX][0-9a-fA-F]+ | 0[oO][0-7]+ | 0[bB][01]+ | [0-9]+ )
   | (?P<mark> \+= | [=!<>]= | [][(){},:.?=<>+*/%-] )
 """, re.VERBOSE | re.DOTALL)
-ESCAPE = re.compile(r"\\(?:([\\'abfnrtv])|([0-7]{1,3})|x([0-9a-fA-F]{2})|u([0-9a-fA-F]{4})|U([0-9a-fA-F]{8}))")
+# Patterns of texts that are compiled when they are used first.
+ESCAPE = r"\\(?:([\\'abfnrtv])|([0-7]{1,3})|x([0-9a-fA-F]{2})|u([0-9a-fA-F]{4})|U([0-9a-fA-F]{8}))"
 PLAIN_ESCAPES = dict(zip("\\'abfnrtv", "\\'\a\b\f\n\r\t\v"))
 # Characters that steer a terminal, and halves of a pair, which are no characters: a literal names them by their numbers.
-UNSHOWN = re.compile("[\\x00-\\x1f\\x7f-\\x9f\ud800-\udfff]")
+UNSHOWN = "[\\x00-\\x1f\\x7f-\\x9f\ud800-\udfff]"
 KEYWORDS = {"true", "false", "if", "elif", "else", "endif", "and", "or", "not", "in", "foreach", "endforeach", "break", "continue"}
 
 
@@ -62,13 +64,14 @@ def unescaped(text: str) -> str:
             return PLAIN_ESCAPES[plain]
         number = int(octal, 8) if octal else int(next(filter(None, codes)), 16)
         return chr(number) if number < 0x110000 else match.group()
-    return ESCAPE.sub(character, text)
+    return re.sub(ESCAPE, character, text)
 
 
 def escaped(text: str) -> str:
     """Returns a text as a literal between plain quotes."""
     plain = text.replace("\\", "\\\\").replace("'", "\\'").replace("\n", "\\n").replace("\t", "\\t")
-    return "'" + UNSHOWN.sub(lambda match: f"\\x{ord(match[0]):02x}" if match[0] < "\u0100" else f"\\u{ord(match[0]):04x}", plain) + "'"
+    by_number = lambda match: f"\\x{ord(match[0]):02x}" if match[0] < "\u0100" else f"\\u{ord(match[0]):04x}"
+    return "'" + re.sub(UNSHOWN, by_number, plain) + "'"
 
 
 def value_of_text(literal: str) -> str:
@@ -86,11 +89,15 @@ def value_of_number(literal: str) -> int:
 
 def tokens_of(text: str) -> list[Token]:
     """Returns all tokens but blanks and comments; newlines only where they end a statement."""
-    tokens: list[Token] = []
-    at = depth = 0
+    return list(tokens_in(text))
+
+
+def tokens_in(text: str) -> Iterator[Token]:
+    """Yields the tokens one by one."""
+    at = depth = count = 0
     while (match := TOKEN.match(text, at)) is not None:
-        kind, word, start, at = match.lastgroup or "", match.group(), at, match.end()
-        if len(tokens) > MOST_TOKENS:
+        kind, word, start, at = match.lastgroup or "", match.group(), match.start(), match.end()
+        if count > MOST_TOKENS:
             raise SyntaxFault(line_at(text, start), f"a file of more than {MOST_TOKENS:,} tokens is not read here")
         if kind == "skip":
             continue
@@ -99,7 +106,8 @@ def tokens_of(text: str) -> list[Token]:
         elif kind == "name" and word in KEYWORDS:
             kind = "keyword"
         if kind != "newline" or depth == 0:
-            tokens.append(Token(kind, word, start, at))
+            count += 1
+            yield Token(kind, word, start, at)
     if at < len(text):
         raise SyntaxFault(line_at(text, at), f"no token begins here: {text[at:at + 20].splitlines()[0]!r}")
-    return [*tokens, Token("newline", "\n", at, at), Token("end", "", at, at)]
+    yield from (Token("newline", "\n", at, at), Token("end", "", at, at))
