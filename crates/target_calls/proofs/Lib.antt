@@ -5,5 +5,6 @@ pub mod Names
 pub mod FirstItems
 pub mod AnsweredAlike
 pub mod StandingCommands
+pub mod StandingSources
 pub mod StandingTargets
 pub mod StandingDeeds

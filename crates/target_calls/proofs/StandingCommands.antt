@@ -134,7 +134,7 @@ tells_nothing here place q o had known = record {
   more = λ e r is. known_joined here place q r had known;
 }
 
-either : (a b : Bool) → (a || (b || false)) ≡ true → (a ≡ true) ⊎ (b ≡ true)
+pub either : (a b : Bool) → (a || (b || false)) ≡ true → (a ≡ true) ⊎ (b ≡ true)
 either true b h = inl refl
 either false true h = inr refl
 either false false h = absurd cc
@@ -207,7 +207,7 @@ outputs_may q had (Some r) few h = record {
   none = λ k. absurd (omega (arith, ltb-true items had.paths h, few, k));
 }
 
-paths_kept : (long : Bool) (k : ℕ) (had : HadData) → (list_noted long k had).1.paths ≡ had.paths
+pub paths_kept : (long : Bool) (k : ℕ) (had : HadData) → (list_noted long k had).1.paths ≡ had.paths
 paths_kept false k had = refl
 paths_kept true k had = refl
 
@@ -224,7 +224,7 @@ counted_few q r h (Some ps) few is =
     let outer = min-le_right (items + 1) (min (items + 1) h.paths + min (items + 1) (length ps)) in
     omega (arith, made, needs, total, inner, before, outer, few)
 
-counted_lists : (outputs : Option (List Path)) (h : HadData) → (counted outputs h).lists ≡ h.lists
+pub counted_lists : (outputs : Option (List Path)) (h : HadData) → (counted outputs h).lists ≡ h.lists
 counted_lists None h = refl
 counted_lists (Some ps) h = refl
 

@@ -26,7 +26,7 @@ use Rattle.target_calls.specs.CustomCalls.{said_custom}
 use Rattle.target_calls.specs.CustomInstalls.{add_custom, all_noted, installed_names, way_of}
 use Rattle.target_calls.specs.CustomTargets.{declared_by, declared_custom}
 use Rattle.target_calls.specs.FitBreaches.{Breach, fit_breach}
-use Rattle.target_calls.specs.LongCommands.{short_command}
+use Rattle.target_calls.specs.LongCommands.{short_makers}
 use Rattle.target_calls.specs.Targets.{required_fit}
 use Rattle.target_calls.specs.declared.build_target.NamedTarget.{NamedTarget}
 use Rattle.target_calls.proofs.AnsweredAlike.{Alike}
@@ -82,12 +82,12 @@ refused_same (Ok d) (Ok b) r same h = absurd cc
 
 -- the call was refused
 pub carries_unsaid : (a : ArgumentsData) {x : HereData} (answer : Result NamedTarget ArgumentError) {s : State} {e : Stop}
-    → said_data named_target_view answer ≡ declared_by short_command x a → x ≡ here_of s.world.facts → IsPassed {B = NamedTarget} s.world answer (Err e)
+    → said_data named_target_view answer ≡ declared_by short_makers x a → x ≡ here_of s.world.facts → IsPassed {B = NamedTarget} s.world answer (Err e)
     → Carries named_target_view (said_custom a) s (Err e) s
 unfolding said_custom
 carries_unsaid a (Ok named) said is p = absurd cc
 carries_unsaid a {x = x} (Err refused) said is p =
-    carries_said_of {view = named_target_view} (λ h. declared_custom h a) here_of (Err refused) (refused_same (declared_custom x a) (declared_by short_command x a) _ (declared_alike x a) said) is p
+    carries_said_of {view = named_target_view} (λ h. declared_custom h a) here_of (Err refused) (refused_same (declared_custom x a) (declared_by short_makers x a) _ (declared_alike x a) said) is p
 
 declares : (exact : Said NamedTargetData) (e : NamedTargetData) → SaidAs NamedAlike exact (Ok e) → {Goal : Type 0}
     → ((d : NamedTargetData) → exact ≡ Ok d → NamedAlike d e → Goal) → Goal
@@ -100,13 +100,13 @@ view_in named (Err e) = named_target_view named
 
 -- the call declares something, for which what the code made stands
 pub carries_declaring : {B D : Type 0} {view : D → B} (a : ArgumentsData) {x : HereData} (answer : Result NamedTarget ArgumentError) (named : NamedTarget) {s s1 : State}
-    {result : Result D Stop} {next : NamedTargetData → Deed B} → said_data named_target_view answer ≡ declared_by short_command x a → x ≡ here_of s.world.facts
+    {result : Result D Stop} {next : NamedTargetData → Deed B} → said_data named_target_view answer ≡ declared_by short_makers x a → x ≡ here_of s.world.facts
     → IsPassed s.world answer (Ok named) → ((d : NamedTargetData) → NamedAlike d (named_target_view named) → Carries view (next d) s result s1)
     → Carries view (then (said_custom a) next) s result s1
 unfolding said_custom view_in
 carries_declaring a (Err refused) named said is p rest = absurd p
 carries_declaring a {x = x} (Ok made) named {s = s} said is p rest =
-    let same : Ok (named_target_view named) ≡ declared_by short_command x a = ap (λ r. Ok (view_in named r)) p ∙ said in
+    let same : Ok (named_target_view named) ≡ declared_by short_makers x a = ap (λ r. Ok (view_in named r)) p ∙ said in
     declares (declared_custom x a) (named_target_view named) (subst (SaidAs NamedAlike (declared_custom x a)) (sym same) (declared_alike x a))
     (λ d exact alike. carries_then {view = λ (n : NamedTarget). d} {x = named}
     (carries_read (carries_as (sym (ap deed_of_result (ap (λ h. declared_custom h a) (sym is) ∙ exact))) (carries_give refl))) (rest d alike))

@@ -11,22 +11,24 @@ use Rattle.arguments.specs.Said.{Said, ◌>>=◌, found_value, no_breach}
 use Rattle.arguments.specs.declared.rule.Rule.{Rule}
 use Rattle.arguments.specs.declared.rule.Rule.TheVariants as rules
 use Rattle.build.specs.Data.{Custom, CustomData, SourceData}
+use Rattle.build.specs.Libraries.{DeclaredTargetData}
 use Rattle.build.specs.Sources.{source_paths}
 use Rattle.build.specs.edge.Texts.{Path, Text}
 use Rattle.build.specs.project.Adding.{is_within, paths_in}
 use Rattle.sources.specs.Holes.{PlaceData}
-use Rattle.sources.specs.Sources.{NamedData}
+use Rattle.sources.specs.Sources.{NamedData, sources_of}
 use Rattle.world.specs.Here.{HereData}
 use Rattle.target_calls.specs.BuildTargets.{NamedTargetData}
-use Rattle.target_calls.specs.Commands.{Commands, PartData, command_of}
+use Rattle.target_calls.specs.Commands.{PartData, command_of}
 use Rattle.target_calls.specs.CustomNames.{NamesData, place_of}
-use Rattle.target_calls.specs.CustomTargets.{custom_from, custom_target, declared_by, declared_custom, declared_files, longest, names_from, part_by}
-use Rattle.target_calls.specs.CustomTargets.{rule_broken, sources_by, whole_command, with_needs, written_sources}
-use Rattle.target_calls.specs.LongCommands.{short_command}
-use Rattle.target_calls.specs.Sources.{file_in}
+use Rattle.target_calls.specs.CustomTargets.{Makers, custom_from, custom_target, declared_by, declared_custom, declared_files, longest, names_from, part_by}
+use Rattle.target_calls.specs.CustomTargets.{rule_broken, sources_by, sources_made, whole_command, whole_makers, with_needs, written_sources}
+use Rattle.target_calls.specs.LongCommands.{short_command, short_makers, short_sources}
+use Rattle.target_calls.specs.Sources.{file_in, sources_in}
 use Rattle.target_calls.proofs.AnsweredAlike.{Alike, alike_long, alike_self}
 use Rattle.target_calls.proofs.FirstItems.{SameFirst, same_append}
 use Rattle.target_calls.proofs.StandingCommands.{Stands, StandsIf, command_stands, paths}
+use Rattle.target_calls.proofs.StandingSources.{FilesStand, FilesStandIf, sources_stand}
 
 -- ---- what is said
 
@@ -57,7 +59,7 @@ found_as None (Some q) rule text s = absurd s
 found_as (Some p) None rule text s = absurd s
 
 part_as : (here : HereData) (a : ArgumentsData) (place : PlaceData) (name : Text)
-    → SaidAs Stands (part_by command_of here a place name) (part_by short_command here a place name)
+    → SaidAs Stands (part_by whole_makers here a place name) (part_by short_makers here a place name)
 part_as here a place name =
     let ds = leaves_named name a in
     found_as (command_of here place ds) (short_command here place ds) rules.HasMeaning name (command_stands here place ds)
@@ -70,37 +72,56 @@ record Whole (p q : PartData) : Type 0 where
   fewer_needs : paths q ≤ paths p
   all : length q.words ≤ items → paths q ≤ items → q ≡ p
 
-whole_from : (p q d e : PartData) (files : List SourceData) → Stands p q → Stands d e
-    → Whole (with_needs p (d.needs ++ files)) (with_needs q (e.needs ++ files))
-whole_from p q d e files s t =
+whole_from : (p q d e : PartData) (ns ms : List SourceData) → Stands p q → Stands d e → FilesStand ns ms
+    → Whole (with_needs p (d.needs ++ ns)) (with_needs q (e.needs ++ ms))
+whole_from p q d e ns ms s t v =
     let make : List Text → List SourceData → PartData = λ words needs. record { words = words; needs = needs } in
-    let whole = sum_by-append paths_in p.needs (d.needs ++ files) in
-    let more = sum_by-append paths_in d.needs files in
-    let short = sum_by-append paths_in q.needs (e.needs ++ files) in
-    let shorter = sum_by-append paths_in e.needs files in
+    let whole = sum_by-append paths_in p.needs (d.needs ++ ns) in
+    let more = sum_by-append paths_in d.needs ns in
+    let short = sum_by-append paths_in q.needs (e.needs ++ ms) in
+    let shorter = sum_by-append paths_in e.needs ms in
     record {
       words = s.words;
-      needs = same_append p.needs q.needs (d.needs ++ files) (e.needs ++ files) s.needs (same_append d.needs e.needs files files t.needs (λ f. refl));
+      needs = same_append p.needs q.needs (d.needs ++ ns) (e.needs ++ ms) s.needs (same_append d.needs e.needs ns ms t.needs v.needs);
       fewer_words = s.fewer_words;
-      fewer_needs = omega (arith, whole, more, short, shorter, s.fewer_needs, t.fewer_needs);
+      fewer_needs = omega (arith, whole, more, short, shorter, s.fewer_needs, t.fewer_needs, v.fewer);
       all = λ h k.
           let few : paths q ≤ items = omega (arith, short, k) in
           let fewer : paths e ≤ items = omega (arith, short, shorter, k) in
-          ap (λ ws. make ws (q.needs ++ (e.needs ++ files))) (s.all_words h few)
-          ∙ ap (λ ns. make p.words (ns ++ (e.needs ++ files))) (s.all_needs few)
-          ∙ ap (λ ns. make p.words (p.needs ++ (ns ++ files))) (t.all_needs fewer);
+          let fewest : sum_by paths_in ms ≤ items = omega (arith, short, shorter, k) in
+          ap (λ ws. make ws (q.needs ++ (e.needs ++ ms))) (s.all_words h few)
+          ∙ ap (λ l. make p.words (l ++ (e.needs ++ ms))) (s.all_needs few)
+          ∙ ap (λ l. make p.words (p.needs ++ (l ++ ms))) (t.all_needs fewer)
+          ∙ ap (λ l. make p.words (p.needs ++ (d.needs ++ l))) (v.all fewest);
     }
 
-command_as : (here : HereData) (a : ArgumentsData) (place : PlaceData) → SaidAs Whole (whole_command command_of here a place) (whole_command short_command here a place)
+files_found : (o p : Option (List SourceData)) (rule : Rule) (text : Text) → FilesStandIf o p
+    → SaidAs FilesStand (found_value o rule text) (found_value p rule text)
+files_found None None rule text s = refl
+files_found (Some ns) (Some ms) rule text s = s
+files_found None (Some ms) rule text s = absurd s
+files_found (Some ns) None rule text s = absurd s
+
+made_as : (here : HereData) (a : ArgumentsData) (name : Text) → SaidAs FilesStand (sources_made sources_in here a name) (sources_made short_sources here a name)
+made_as here a name =
+    let found : (List DeclaredTargetData → List NamedData → Option (List SourceData)) → List NamedData → Said (List SourceData) =
+    λ make ns. found_value (make here.earlier ns) rules.HasMeaning name in
+    then_same FilesStand (sources_of here.source_root here.folder (leaves_named name a)) (found sources_in) (found short_sources)
+    (λ ns. files_found (sources_in here.earlier ns) (short_sources here.earlier ns) rules.HasMeaning name (sources_stand here.earlier ns))
+
+command_as : (here : HereData) (a : ArgumentsData) (place : PlaceData)
+    → SaidAs Whole (whole_command whole_makers here a place) (whole_command short_makers here a place)
 command_as here a place =
-    let command = λ (c : Commands). part_by c here a place (codes "command") in
-    let depends = λ (c : Commands). part_by c here a place (codes "depends") in
-    let files = sources_by here a (codes "depend_files") in
+    let command = λ (m : Makers). part_by m here a place (codes "command") in
+    let depends = λ (m : Makers). part_by m here a place (codes "depends") in
+    let files = λ (m : Makers). sources_made m.sources here a (codes "depend_files") in
     let last : PartData → PartData → List SourceData → Said PartData = λ p d ns. Ok (with_needs p (d.needs ++ ns)) in
-    let after : Commands → PartData → Said PartData = λ c p. depends c >>= (λ d. files >>= last p d) in
-    then_as Stands Whole (command command_of) (command short_command) (after command_of) (after short_command) (part_as here a place (codes "command"))
-    (λ p q s. then_as Stands Whole (depends command_of) (depends short_command) (λ d. files >>= last p d) (λ d. files >>= last q d) (part_as here a place (codes "depends"))
-    (λ d e t. then_same Whole files (last p d) (last q e) (λ ns. whole_from p q d e ns s t)))
+    let later : Makers → PartData → PartData → Said PartData = λ m p d. files m >>= last p d in
+    let after : Makers → PartData → Said PartData = λ m p. depends m >>= later m p in
+    then_as Stands Whole (command whole_makers) (command short_makers) (after whole_makers) (after short_makers) (part_as here a place (codes "command"))
+    (λ p q s. then_as Stands Whole (depends whole_makers) (depends short_makers) (later whole_makers p) (later short_makers q) (part_as here a place (codes "depends"))
+    (λ d e t. then_as FilesStand Whole (files whole_makers) (files short_makers) (last p d) (last q e) (made_as here a (codes "depend_files"))
+    (λ ns ms v. whole_from p q d e ns ms s t v)))
 
 -- ---- the target
 
@@ -125,15 +146,15 @@ alike_custom : (here : HereData) (a : ArgumentsData) (names : NamesData) (inputs
     → Alike (Custom (custom_target here a names inputs p)) (Custom (custom_target here a names inputs q))
 alike_custom here a names inputs p q w = within_by here a names inputs p q w (is_within (Custom (custom_target here a names inputs q))) refl
 
-custom_as : (here : HereData) (a : ArgumentsData) (inputs : List SourceData) → SaidAs (λ t u. Alike (Custom t) (Custom u)) (custom_from command_of here a inputs) (custom_from short_command here a inputs)
+custom_as : (here : HereData) (a : ArgumentsData) (inputs : List SourceData) → SaidAs (λ t u. Alike (Custom t) (Custom u)) (custom_from whole_makers here a inputs) (custom_from short_makers here a inputs)
 custom_as here a inputs =
     let both : CustomData → CustomData → Type 0 = λ t u. Alike (Custom t) (Custom u) in
     let from = flat_map (source_paths here.depth) inputs in
-    let command = λ (c : Commands) (names : NamesData). whole_command c here a (place_of here from names) in
+    let command = λ (m : Makers) (names : NamesData). whole_command m here a (place_of here from names) in
     let last : NamesData → PartData → Said CustomData = λ names p. Ok (custom_target here a names inputs p) in
-    let after : Commands → NamesData → Said CustomData = λ c names. command c names >>= last names in
-    then_same both (names_from here a from) (after command_of) (after short_command)
-    (λ names. then_as Whole both (command command_of names) (command short_command names) (last names) (last names) (command_as here a (place_of here from names))
+    let after : Makers → NamesData → Said CustomData = λ m names. command m names >>= last names in
+    then_same both (names_from here a from) (after whole_makers) (after short_makers)
+    (λ names. then_as Whole both (command whole_makers names) (command short_makers names) (last names) (last names) (command_as here a (place_of here from names))
     (λ p q w. alike_custom here a names inputs p q w))
 
 -- ---- the call
@@ -144,19 +165,19 @@ pub record NamedAlike (d e : NamedTargetData) : Type 0 where
   pub files : e.files ≡ d.files
 
 files_as : (here : HereData) (a : ArgumentsData) (inputs : List SourceData) (files : List Path)
-    → SaidAs NamedAlike (declared_files command_of here a inputs files) (declared_files short_command here a inputs files)
+    → SaidAs NamedAlike (declared_files whole_makers here a inputs files) (declared_files short_makers here a inputs files)
 files_as here a inputs files =
     let last : CustomData → Said NamedTargetData = λ t. Ok (record { target = Custom t; files = files }) in
-    then_as (λ t u. Alike (Custom t) (Custom u)) NamedAlike (custom_from command_of here a inputs) (custom_from short_command here a inputs) last last (custom_as here a inputs)
+    then_as (λ t u. Alike (Custom t) (Custom u)) NamedAlike (custom_from whole_makers here a inputs) (custom_from short_makers here a inputs) last last (custom_as here a inputs)
     (λ t u same. record { target = same; files = refl })
 
-pub declared_alike : (here : HereData) (a : ArgumentsData) → SaidAs NamedAlike (declared_custom here a) (declared_by short_command here a)
+pub declared_alike : (here : HereData) (a : ArgumentsData) → SaidAs NamedAlike (declared_custom here a) (declared_by short_makers here a)
 unfolding declared_by
 declared_alike here a =
     let inputs = sources_by here a (codes "input") in
-    let files : Commands → List NamedData → List SourceData → Said NamedTargetData = λ c named is. declared_files c here a is (flat_map file_in named) in
-    let rest : Commands → List NamedData → Said NamedTargetData = λ c named. inputs >>= files c named in
-    let whole : Commands → Unit {0} → Said NamedTargetData = λ c u. written_sources here a >>= rest c in
-    then_same NamedAlike (no_breach (rule_broken a)) (whole command_of) (whole short_command)
-    (λ u. then_same NamedAlike (written_sources here a) (rest command_of) (rest short_command)
-    (λ named. then_same NamedAlike inputs (files command_of named) (files short_command named) (λ is. files_as here a is (flat_map file_in named))))
+    let files : Makers → List NamedData → List SourceData → Said NamedTargetData = λ m named is. declared_files m here a is (flat_map file_in named) in
+    let rest : Makers → List NamedData → Said NamedTargetData = λ m named. inputs >>= files m named in
+    let whole : Makers → Unit {0} → Said NamedTargetData = λ m u. written_sources here a >>= rest m in
+    then_same NamedAlike (no_breach (rule_broken a)) (whole whole_makers) (whole short_makers)
+    (λ u. then_same NamedAlike (written_sources here a) (rest whole_makers) (rest short_makers)
+    (λ named. then_same NamedAlike inputs (files whole_makers named) (files short_makers named) (λ is. files_as here a is (flat_map file_in named))))

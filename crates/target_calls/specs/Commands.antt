@@ -91,10 +91,6 @@ parts_behind here place whole (d ∷ ds) =
 abbrev pub no_part : PartData
 no_part = record { words = []; needs = [] }
 
--- Says how a command is made of values.
-abbrev pub Commands : Type 0
-Commands = HereData → PlaceData → List Data → Option PartData
-
 -- Returns the command of all these values, and none if one of them cannot be in a command.
-abbrev pub command_of : Commands
+abbrev pub command_of : HereData → PlaceData → List Data → Option PartData
 command_of here place ds = parts_behind here place no_part ds

@@ -11,11 +11,12 @@ use Rattle.values.specs.Data.{Data}
 use Rattle.build.specs.edge.Texts.{Path, Text}
 use Rattle.sources.specs.Holes.{PlaceData}
 use Rattle.build.specs.Data.{Custom, CustomData, SourceData}
+use Rattle.build.specs.Libraries.{DeclaredTargetData}
 use Rattle.build.specs.Sources.{source_paths}
 use Rattle.values.specs.Flat.{opened}
 use Rattle.sources.specs.Sources.{NamedData, sources_of}
 use Rattle.target_calls.specs.BuildTargets.{NamedTargetData}
-use Rattle.target_calls.specs.Commands.{Commands, PartData, command_of}
+use Rattle.target_calls.specs.Commands.{PartData, command_of}
 use Rattle.target_calls.specs.CustomNames.{NamesData, names_of, place_of, place_with}
 use Rattle.world.specs.Here.{HereData}
 use Rattle.target_calls.specs.Sources.{file_in, sources_in}
@@ -70,11 +71,16 @@ IsAllInput a = sources_in_call a ≡ leaves_named (codes "input") a
 abbrev pub written_sources : HereData → ArgumentsData → Said (List NamedData)
 written_sources here a = sources_of here.source_root here.folder (sources_in_call a)
 
+-- Returns the sources that a keyword names, made so. None may be an output that no target has.
+abbrev pub sources_made : (List DeclaredTargetData → List NamedData → Option (List SourceData)) → HereData → ArgumentsData → Text
+    → Said (List SourceData)
+sources_made sources here a name = do
+  named ← sources_of here.source_root here.folder (leaves_named name a)
+  found_value (sources here.earlier named) rules.HasMeaning name
+
 -- Returns the sources that a keyword names. None may be an output that no target has.
 abbrev pub sources_by : HereData → ArgumentsData → Text → Said (List SourceData)
-sources_by here a name = do
-  named ← sources_of here.source_root here.folder (leaves_named name a)
-  found_value (sources_in here.earlier named) rules.HasMeaning name
+sources_by here a name = sources_made sources_in here a name
 
 -- ---- the target
 
@@ -98,16 +104,25 @@ custom_target here a names inputs command = record {
 abbrev pub with_needs : PartData → (more : List SourceData) → PartData
 with_needs command more = record { words = command.words; needs = command.needs ++ more }
 
+-- Says how a command is made of values, and how sources are made of their names.
+pub record Makers : Type 0 where
+  pub command : HereData → PlaceData → List Data → Option PartData
+  pub sources : List DeclaredTargetData → List NamedData → Option (List SourceData)
+
+-- Makes whole commands and all sources.
+abbrev pub whole_makers : Makers
+whole_makers = record { command = command_of; sources = sources_in }
+
 -- Returns the part of the command that a keyword gives. Each placeholder must have a value, and each program must have been found.
-abbrev pub part_by : Commands → HereData → ArgumentsData → PlaceData → Text → Said PartData
-part_by commands here a place name = found_value (commands here place (leaves_named name a)) rules.HasMeaning name
+abbrev pub part_by : Makers → HereData → ArgumentsData → PlaceData → Text → Said PartData
+part_by make here a place name = found_value (make.command here place (leaves_named name a)) rules.HasMeaning name
 
 -- Returns the command, and the files that it needs: files and targets in it, then `depends`, then `depend_files`.
-abbrev pub whole_command : Commands → HereData → ArgumentsData → PlaceData → Said PartData
-whole_command commands here a place = do
-  command ← part_by commands here a place (codes "command")
-  depends ← part_by commands here a place (codes "depends")
-  files ← sources_by here a (codes "depend_files")
+abbrev pub whole_command : Makers → HereData → ArgumentsData → PlaceData → Said PartData
+whole_command make here a place = do
+  command ← part_by make here a place (codes "command")
+  depends ← part_by make here a place (codes "depends")
+  files ← sources_made make.sources here a (codes "depend_files")
   Ok (with_needs command (depends.needs ++ files))
 
 -- Returns the names of the files that the target makes. Each placeholder must have a value.
@@ -115,27 +130,27 @@ abbrev pub names_from : HereData → ArgumentsData → (inputs : List Path) → 
 names_from here a inputs = found_value (names_of (place_with here inputs [] None) a) rules.HasMeaning (codes "output")
 
 -- Returns the custom target of a call with these inputs.
-abbrev pub custom_from : Commands → HereData → ArgumentsData → (inputs : List SourceData) → Said CustomData
-custom_from commands here a inputs = do
+abbrev pub custom_from : Makers → HereData → ArgumentsData → (inputs : List SourceData) → Said CustomData
+custom_from make here a inputs = do
   names ← names_from here a (flat_map (source_paths here.depth) inputs)
-  command ← whole_command commands here a (place_of here (flat_map (source_paths here.depth) inputs) names)
+  command ← whole_command make here a (place_of here (flat_map (source_paths here.depth) inputs) names)
   Ok (custom_target here a names inputs command)
 
 -- Returns what a call with these inputs and source files declares.
-abbrev pub declared_files : Commands → HereData → ArgumentsData → List SourceData → List Path → Said NamedTargetData
-declared_files commands here a inputs files = do
-  t ← custom_from commands here a inputs
+abbrev pub declared_files : Makers → HereData → ArgumentsData → List SourceData → List Path → Said NamedTargetData
+declared_files make here a inputs files = do
+  t ← custom_from make here a inputs
   Ok (record { target = Custom t; files = files })
 
--- Returns what a call declares whose commands are made so, or its refusal. Checked are empty lists first, then the outputs and the
+-- Returns what a call declares that is made so, or its refusal. Checked are empty lists first, then the outputs and the
 -- directory, then sources, names and the command.
-unfoldable pub declared_by : Commands → HereData → ArgumentsData → Said NamedTargetData
-declared_by commands here a = do
+unfoldable pub declared_by : Makers → HereData → ArgumentsData → Said NamedTargetData
+declared_by make here a = do
   _ ← no_breach (rule_broken a)
   named ← written_sources here a
   inputs ← sources_by here a (codes "input")
-  declared_files commands here a inputs (flat_map file_in named)
+  declared_files make here a inputs (flat_map file_in named)
 
 -- Returns what a call declares, or its refusal. Its command has all its words.
 abbrev pub declared_custom : HereData → ArgumentsData → Said NamedTargetData
-declared_custom here a = declared_by command_of here a
+declared_custom here a = declared_by whole_makers here a

@@ -20,14 +20,14 @@ ghost use Rattle.target_calls.specs.CommandsView.{part_view};
 ghost use Rattle.target_calls.specs.CustomNames.{names_in, names_of, place_of};
 ghost use Rattle.target_calls.specs.CustomTargets.{IsAllInput, captures_one, count_named, custom_from, custom_target, declared_by};
 ghost use Rattle.target_calls.specs.CustomTargets.{declared_files, has_place, is_source_keyword, longest, names_from, part_by, rule_broken};
-ghost use Rattle.target_calls.specs.CustomTargets.{sources_by, whole_command, sources_in_call, written_in, written_sources};
+ghost use Rattle.target_calls.specs.CustomTargets.{sources_by, sources_made, whole_command, sources_in_call, written_in, written_sources};
 ghost use Rattle.target_calls.specs.CustomTargetsView.{names_view};
-ghost use Rattle.target_calls.specs.LongCommands.{short_command};
+ghost use Rattle.target_calls.specs.LongCommands.{short_makers, short_sources};
 ghost use Rattle.target_calls.specs.Sources.{sources_in};
 
 use crate::build_target::NamedTarget;
 use crate::command::{Part, command_of};
-use crate::source_lookup::{files_among, sources_in};
+use crate::source_lookup::{files_among, short_sources, sources_in};
 use arguments::{ArgumentError, Arguments, Named, Rule};
 use build::{CustomTarget, Source, Target, paths_in, source_paths};
 use sources::{NamedSource, PlaceholderScope, PlaceholderValues, fill, sources_named, sources_of};
@@ -227,6 +227,31 @@ fn sources_by(
     }
 }
 
+// Returns the files that `depend_files` names, or the refusal of a bad path or output. If there are too many, no list of outputs is repeated.
+fn files_by(
+    here: &Here<'_>,
+    arguments: &Arguments,
+) -> Result<Result<Vec<Source>, ArgumentError>, AllocError>
+    ensures { IfOk result (λ ss. said_data (λ v. map source_view v.items) ss
+        ≡ sources_made short_sources (here_view here.now) (arguments_data arguments.now) (codes "depend_files")) }
+{
+    let keyword = "depend_files";
+    let named = match sources_named(
+        here.alloc,
+        here.source_root,
+        here.folder,
+        arguments,
+        keyword,
+    )? {
+        Ok(named) => named,
+        Err(refused) => return Ok(Err(refused)),
+    };
+    match short_sources(here.alloc, here.earlier, named)? {
+        Some(files) => Ok(Ok(files)),
+        None => Ok(Err(Rule::HasMeaning.refuse(here.alloc, keyword)?)),
+    }
+}
+
 // Returns the sources that `input` names, given all that the call names. Most often these are the same, and they are not looked up again.
 fn inputs_among(
     here: &Here<'_>,
@@ -408,7 +433,7 @@ fn part_by(
     name: &str,
 ) -> Result<Result<Part, ArgumentError>, AllocError>
     ensures { IfOk result (λ p. said_data part_view p
-        ≡ part_by short_command (here_view here.now) (arguments_data arguments.now) (place_view place.now) name.now) }
+        ≡ part_by short_makers (here_view here.now) (arguments_data arguments.now) (place_view place.now) name.now) }
 {
     let values = arguments.leaves(here.alloc, name)?;
     match command_of(here, place, &values)? {
@@ -424,7 +449,7 @@ fn whole_command(
     place: &PlaceholderValues<'_>,
 ) -> Result<Result<Part, ArgumentError>, AllocError>
     ensures { IfOk result (λ p. said_data part_view p
-        ≡ whole_command short_command (here_view here.now) (arguments_data arguments.now) (place_view place.now)) }
+        ≡ whole_command short_makers (here_view here.now) (arguments_data arguments.now) (place_view place.now)) }
 {
     let mut command = match part_by(here, arguments, place, "command")? {
         Ok(part) => part,
@@ -434,7 +459,7 @@ fn whole_command(
         Ok(part) => part,
         Err(refused) => return Ok(Err(refused)),
     };
-    let mut files = match sources_by(here, arguments, "depend_files")? {
+    let mut files = match files_by(here, arguments)? {
         Ok(sources) => sources,
         Err(refused) => return Ok(Err(refused)),
     };
@@ -471,7 +496,7 @@ fn command_from<'p>(
     names: &'p OutputNames,
 ) -> Result<Result<Part, ArgumentError>, AllocError>
     requires { folder.now ≡ here.now.folder.now }
-    ensures { IfOk result (λ p. said_data part_view p ≡ whole_command short_command (here_view here.now) (arguments_data arguments.now)
+    ensures { IfOk result (λ p. said_data part_view p ≡ whole_command short_makers (here_view here.now) (arguments_data arguments.now)
         (place_of (here_view here.now) (texts inputs.now) (names_view names.now))) }
 {
     let below = files_below(here, names)?;
@@ -487,7 +512,7 @@ fn custom_from(
     inputs: Vec<Source>,
 ) -> Result<Result<CustomTarget, ArgumentError>, AllocError>
     ensures { IfOk result (λ t. said_data custom_view t
-        ≡ custom_from short_command (here_view here.now) (arguments_data arguments.now) (map source_view inputs.items)) }
+        ≡ custom_from short_makers (here_view here.now) (arguments_data arguments.now) (map source_view inputs.items)) }
 {
     let paths = source_paths(here.alloc, here.depth, &inputs)?;
     let folder = String::from_str(here.alloc, here.folder)?;
@@ -510,7 +535,7 @@ fn declare_files(
     files: Vec<String>,
 ) -> Result<Result<NamedTarget, ArgumentError>, AllocError>
     ensures { IfOk result (λ t. said_data named_target_view t
-        ≡ declared_files short_command (here_view here.now) (arguments_data arguments.now)
+        ≡ declared_files short_makers (here_view here.now) (arguments_data arguments.now)
         (map source_view inputs.items) (texts files.items)) }
 {
     match custom_from(here, arguments, inputs)? {
@@ -532,7 +557,7 @@ pub fn declare_custom(
     arguments: &Arguments,
 ) -> Result<Result<NamedTarget, ArgumentError>, AllocError>
     ensures { IfOk result (λ t. said_data named_target_view t
-        ≡ declared_by short_command (here_view here.now) (arguments_data arguments.now)) }
+        ≡ declared_by short_makers (here_view here.now) (arguments_data arguments.now)) }
 {
     if let Some((rule, keyword)) = rule_broken(arguments) {
         return Ok(Err(rule.refuse(here.alloc, keyword)?));

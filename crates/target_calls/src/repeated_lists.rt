@@ -1,13 +1,15 @@
-//! Finds the lists of paths that a command repeats although it is too long already.
+//! Finds the lists of paths that a custom target repeats although it has too many already.
 ghost use Rattle.std.specs.Prelude.{◌≡◌, IfOk, option_map};
 ghost use Rattle.build.specs.edge.Texts.{texts};
 ghost use Rattle.build.specs.DeclaredTargetViews.{declared_target_views};
+ghost use Rattle.sources.specs.SourcesView.{named_view};
 ghost use Rattle.world.specs.Prelude.{data_of};
-ghost use Rattle.target_calls.specs.LongCommands.{counted, list_noted, no_lists, noted, object_noted, outputs_noted, text_noted};
+ghost use Rattle.target_calls.specs.LongCommands.{counted, list_noted, no_lists, noted, object_noted, outputs_noted};
+ghost use Rattle.target_calls.specs.LongCommands.{source_noted, text_noted};
 ghost use Rattle.target_calls.specs.LongCommandsView.{had_view};
 
 use build::DeclaredTarget;
-use sources::outputs_at;
+use sources::{NamedSource, outputs_at};
 use std::alloc::{AllocError, Global};
 use support::limits::ITEMS;
 use support::tables::{SipSet, new_set};
@@ -108,9 +110,24 @@ impl HadLists {
             _ => Ok(false),
         }
     }
+
+    /// Returns whether a source is left out, and notes the source.
+    pub fn leaves_source(
+        &mut self,
+        earlier: &[DeclaredTarget],
+        named: &NamedSource,
+    ) -> Result<bool, AllocError>
+        ensures { IfOk result (λ left. (left, had_view self.new)
+            ≡ source_noted (declared_target_views earlier.now) (named_view named.now) (had_view self.old)) }
+    {
+        match named {
+            NamedSource::Outputs(number) => self.leaves_outputs(earlier, *number),
+            NamedSource::Tree(_) | NamedSource::Built(_) | NamedSource::Output { .. } => Ok(false),
+        }
+    }
 }
 
-/// Returns what is known of a command without words.
+/// Returns what is known of a command without words, or of no sources.
 pub fn no_lists(alloc: Global) -> HadLists
     ensures { had_view result ≡ no_lists }
 {

@@ -6,8 +6,10 @@ ghost use Rattle.build.specs.DeclaredTargetViews.{declared_target_views};
 ghost use Rattle.build.specs.View.{source_view};
 ghost use Rattle.sources.specs.Outputs.{output_at, outputs_at};
 ghost use Rattle.sources.specs.SourcesView.{named_view};
+ghost use Rattle.target_calls.specs.LongCommands.{short_sources};
 ghost use Rattle.target_calls.specs.Sources.{file_in, one_made, source_in, sources_in};
 
+use crate::repeated_lists::no_lists;
 use build::edge::push_copies;
 use build::{DeclaredTarget, Source};
 use sources::{NamedSource, output_at, outputs_at};
@@ -91,6 +93,30 @@ pub fn sources_in(
 {
     let mut sources = Vec::with_capacity(alloc, named.len())?;
     for one in named {
+        match source_in(alloc, earlier, one)? {
+            Some(source) => sources.push(source)?,
+            None => return Ok(None),
+        }
+    }
+    Ok(Some(sources))
+}
+
+/// Returns the sources that are named, and `None` if one is an output that no target has. If there are too many, no list of outputs is
+/// repeated: the call is refused, as it is with all sources.
+pub fn short_sources(
+    alloc: Global,
+    earlier: &[DeclaredTarget],
+    named: Vec<NamedSource>,
+) -> Result<Option<Vec<Source>>, AllocError>
+    ensures { IfOk result (λ ss. option_map (λ v. map source_view v.items) ss
+        ≡ short_sources (declared_target_views earlier.now) (map named_view named.items)) }
+{
+    let mut sources = Vec::with_capacity(alloc, named.len())?;
+    let mut had = no_lists(alloc);
+    for one in named {
+        if had.leaves_source(earlier, &one)? {
+            continue;
+        }
         match source_in(alloc, earlier, one)? {
             Some(source) => sources.push(source)?,
             None => return Ok(None),
