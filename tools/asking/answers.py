@@ -5,6 +5,7 @@ import os
 
 from tools.asking.cache import Cache
 from tools.asking.checks import METHODS, OF_TWO, arguments_of
+from tools.asking.command import BAD_WORDS, FAILED, SCRIPT
 from tools.asking.compiler import Compiler
 from tools.asking.last_output import LastOutput
 from tools.asking.machine import Machine
@@ -18,7 +19,6 @@ TYPE_CHECKING = False
 if TYPE_CHECKING:
     from typing import Any
 
-SCRIPT, FAILED, BAD_WORDS = "meson machine-file", 1, 2
 ROUNDS = 1000  # the most runs of the program
 MISSING = "ERROR: E17 "
 FIRST = "# What this machine answers; written by `meson machine-file`.\n"
