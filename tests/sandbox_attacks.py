@@ -14,7 +14,7 @@ import time
 from collections.abc import Iterator
 
 from tests.attacks import files_below, fresh
-from tests.workshop import CHECKOUT, WORK, check, put, run
+from tests.workshop import CHECKOUT, WORK, check, put, read, run
 from tools.asking.allowed import Allowed
 from tools.asking.compiler import Compiler, Flags
 from tools.asking.processes import NoAnswer
@@ -269,6 +269,14 @@ def test_without_landlock() -> None:
         done = run(["meson", "machine-file", "m"], {"CC": hidden})
         is_said = done.stderr.startswith("meson machine-file: the compiler runs programs that are not known here")
         check("a compiler whose programs are not known", is_said and "has_type int = true\n" in done.stdout, f"{done}")
+        put("one.pc", "Name: one\nDescription: one\nVersion: 1.2\n")
+        put("m/meson.build", "project('p', 'c')\nmeson.get_compiler('c').has_function('puts')\ndependency('one', required: false)\n")
+        hidden = put("hidden-pkg-config", read(hidden).replace("103, 99, 99", "112, 107, 103, 45, 99, 111, 110, 102, 105, 103"), 0o755)
+        for what in ("", ": again"):
+            done = run(["meson", "machine-file", "m"], {"PKG_CONFIG": hidden, "PKG_CONFIG_PATH": WORK})
+            is_said = done.stderr.startswith("meson machine-file: the compiler runs programs that are not known here")
+            is_found = "version = '1.2'\n" in done.stdout and "has_function puts = true\n" in done.stdout
+            check(f"a pkg-config whose programs are not known{what}", is_said and is_found or not shutil.which("pkg-config"), f"{done}")
 
 
 TESTS = (test_words, test_what_a_check_has_compiled, test_the_makefile_of_a_link, test_the_table, test_packages,

@@ -5,6 +5,7 @@ import os
 
 from tools.asking.cache import Cache
 from tools.asking.checks import METHODS, OF_TWO, arguments_of
+from tools.asking.command import BAD_WORDS, FAILED, SCRIPT
 from tools.asking.compiler import Compiler
 from tools.asking.last_output import LastOutput
 from tools.asking.machine import Machine
@@ -18,7 +19,6 @@ TYPE_CHECKING = False
 if TYPE_CHECKING:
     from typing import Any
 
-SCRIPT, FAILED, BAD_WORDS = "meson machine-file", 1, 2
 ROUNDS = 1000  # the most runs of the program
 MISSING = "ERROR: E17 "
 FIRST = "# What this machine answers; written by `meson machine-file`.\n"
@@ -53,11 +53,12 @@ def report_lack(compiler: Compiler, is_sandbox_required: bool) -> None:
 
 
 def settle(machine: Machine, is_sandbox_required: bool) -> bool:
-    """Tries out the compiler if no answer has shown that it works. Returns whether the answers count: not if another sandbox is needed."""
+    """Tries out the compiler if no answer has shown that it works, or if pkg-config may not work. Returns whether the answers count: not if
+    another sandbox is needed."""
     compiler = machine.compiler
     if compiler.is_tried and not compiler.has_doubt:
         return True
-    before, compiler.has_doubt = compiler.sandbox, False
+    before = compiler.sandbox
     try_out(compiler, is_sandbox_required)
     if compiler.sandbox == before:
         return True
@@ -155,7 +156,7 @@ def answer(given: Any, last: LastOutput, scratch: str, cache: Cache) -> int:
     if not cache.kept.answers:
         project.begin(nothing_known)
     machine.compiler.use(*options_in_use(cache, project, nothing_known), project.words)
-    if not machine.compiler.can_be_tried_later():
+    if not machine.compiler.recall_trial() and not machine.compiler.can_be_tried_later():
         machine.compiler.try_out()
     report_lack(machine.compiler, given.require_sandbox)
     known, told = ask_all(machine, project, given.require_sandbox)

@@ -85,7 +85,7 @@ class Compiler:
         self.linked: dict[Flags, Linked] = {}  # whether an empty program is linked with these arguments, if that is known
         self.packages: dict[str, tuple[object, Evidence]] = {}  # what pkg-config has said of them, and what that depends on
         self.package_folders: list[str] | None = None  # that it searches
-        self.has_doubt = False  # whether pkg-config works in the sandbox
+        self.has_doubt = False  # pkg-config may not work in the sandbox
         self.is_tried = False  # an empty program was linked with the flags in use, in the present sandbox
         self.searches = _thread.allocate_lock()
         self.end = time.monotonic() + ALL_SECONDS  # after which no command is run
@@ -153,8 +153,9 @@ class Compiler:
     def choose_sandbox(self) -> str:
         """Takes the strongest sandbox in which an empty program can be made with the flags in use; why that fails, where it fails in each.
         Words of the project take no weaker one than the user's words."""
-        if self.recall_trial():
+        if not self.has_doubt and self.recall_trial():
             return ""
+        self.has_doubt = False
         if self.words_of_user is None:
             return self.tried_in(list(self.sandbox.weaker()))
         fault = self.tried_in([self.sandbox])

@@ -10,11 +10,11 @@ from tools.asking.bundles import Check, ask_together, bundles_of, is_linked
 from tools.asking.cache import label_of
 from tools.asking.checks import METHODS, NUMBERS, OF_WORDS, answer, arguments_of
 from tools.asking.compiler import Compiler, Flags, identity
-from tools.asking.early import VERSION
-from tools.asking.last_output import Origin
 from tools.asking.dependencies import BY_COMPILING, NO_PACKAGES, THREADS, dependency, of_pkg_config
-from tools.asking.links import flags_to_link, link_together
+from tools.asking.early import VERSION
 from tools.asking.evidence import gathered
+from tools.asking.last_output import Origin
+from tools.asking.links import flags_to_link, link_together
 from tools.asking.packages import who_has
 from tools.asking.processes import NoAnswer, end_all
 from tools.asking.questions import Question
@@ -84,6 +84,7 @@ class Machine:
         return guessed if is_new and guessed != known else None
 
     def sections(self, questions: list[Question], answers: dict[tuple[object, ...], object]) -> Sections:
+        """Returns the sections of a machine file that has these answers."""
         known = {title: dict(values) for title, values in self.itself.items()}
         for question in questions:
             came = answers.get(question.label)
