@@ -362,7 +362,8 @@ def test_device_faults() -> None:
     says("a machine file whose name is misspelt", lines(near), "--native-file", "nativ.ini", status=2)
     way = "of/this: the machine file: No such file or directory; `meson machine-file > of/this` makes one"
     says("a machine file in a folder that is not there", lines(way), "--native-file", "of/this", status=2)
-    check("meson setup: a disk without room for an output", is_full(WORK, [1, 1 << 62]) and not is_full(WORK, [1]) and not is_full(WORK, []))
+    is_good = is_full(WORK, [1, 1 << 62]) and not is_full(WORK, [1]) and not is_full(WORK, [])
+    check("meson setup: a disk without room for an output", is_good)
     os.remove(f"{WORK}/instead")
     fresh()
 
