@@ -1,5 +1,5 @@
 -- Reads the arguments of a call. These definitions are total: the row of the call already makes sure that each argument has the right type.
-use Rattle.std.specs.Prelude.{ℕ, ℤ, Bool, true, false, List, [], codes, drop, slice_get, Option, Some, None, unwrap_or, option_and_then}
+use Rattle.std.specs.Prelude.{ℕ, ℤ, Bool, List, [], codes, drop, slice_get, Option, Some, None, unwrap_or, option_and_then, if◌then◌else◌}
 use Rattle.values.specs.Data.{Data, boolean, boolean_in, integer_in, text_in, object}
 use Rattle.values.specs.declared.object.Feature.{Feature}
 use Rattle.values.specs.declared.object.Feature.TheVariants as features
@@ -67,8 +67,7 @@ texts_from i a = flat_all (drop i a.positional)
 
 -- Returns the requirement of a boolean.
 abbrev pub of_boolean : Bool → Requirement
-of_boolean true = requirements.Required
-of_boolean false = requirements.Optional
+of_boolean is_required = if is_required then requirements.Required else requirements.Optional
 
 -- Returns the requirement of a feature: an enabled one requires, an automatic one does not, and for a disabled one nothing is looked up.
 abbrev pub of_feature : Feature → Requirement

@@ -4,7 +4,6 @@ pub mod Disablers
 pub mod Each
 pub mod Given
 pub mod Leaves
-pub mod Maybe
 pub mod MisfitView
 pub mod Misfits
 pub mod Pieces

@@ -1,6 +1,7 @@
 -- Chains steps that read arguments. Each step has a result, or the refusal of what breaks a rule.
-use Rattle.std.specs.Prelude.{ℕ, Bool, true, false, List, Option, Some, None, Result, Ok, Err}
+use Rattle.std.specs.Prelude.{ℕ, Bool, List, Option, Some, None, Result, Ok, Err, if◌then◌else◌}
 use Rattle.std.specs.Option.{ok_or}
+pub use Rattle.support.specs.ResultSteps.{◌>>=◌}
 use Rattle.arguments.specs.Refused.{RefusedData, breaks}
 use Rattle.arguments.specs.declared.rule.Rule.{Rule}
 
@@ -8,20 +9,13 @@ use Rattle.arguments.specs.declared.rule.Rule.{Rule}
 abbrev pub Said : Type 0 → Type 0
 Said A = Result A RefusedData
 
-infixl 10 ◌>>=◌
--- Runs a step after another, unless that was refused.
-abbrev pub ◌>>=◌ : {A B : Type 0} → Said A → (A → Said B) → Said B
-(Ok a) >>= next = next a
-(Err refused) >>= next = Err refused
-
 -- Returns the value that was found, and otherwise the refusal that this text, or the keyword with this name, breaks the rule.
 abbrev pub found_value : {A : Type 0} → Option A → Rule → List ℕ → Said A
 found_value a rule text = ok_or a (breaks rule text)
 
 -- Succeeds if a condition is true, and otherwise refuses: this text, or the keyword with this name, breaks the rule.
 abbrev pub kept_rule : Bool → Rule → List ℕ → Said (Unit {0})
-kept_rule true rule text = Ok tt
-kept_rule false rule text = Err (breaks rule text)
+kept_rule is_kept rule text = if is_kept then Ok tt else Err (breaks rule text)
 
 -- Succeeds if nothing breaks a rule, and otherwise refuses.
 abbrev pub no_breach : Option (Rule × List ℕ) → Said (Unit {0})

@@ -4,7 +4,8 @@ use Rattle.std.proofs.Common.{append_assoc, append-nil}
 use Rattle.std.proofs.lemmas.Bool.{and_parts, false≢true}
 use Rattle.ninja.specs.Pieces.{Piece, Plain, Outside, escapes, Scope}
 use Rattle.ninja.specs.Lines.{without_blanks, plain_name, Token, Path, Colon, Bar, Bars, Between, Within, tokens}
-use Rattle.ninja.specs.Reading.{◌>>=◌, Empty, Let, BuildHead, statement_of, paths_at, paths_behind_bar, paths_behind_bars}
+use Rattle.support.specs.OptionSteps.{◌>>=◌}
+use Rattle.ninja.specs.Reading.{Empty, Let, BuildHead, statement_of, paths_at, paths_behind_bar, paths_behind_bars}
 use Rattle.ninja.specs.Reading.{build_line, BuildLine, State, Manifest, Block, NoBlock, EdgeBlock, file_scope, block_scope}
 use Rattle.ninja.specs.Reading.{expansions, edge_of, reads_from}
 use Rattle.build.specs.declared.edge.rule.EdgeRule.{EdgeRule as RuleName}

@@ -1,6 +1,7 @@
 -- What the Ninja manual makes of some texts, and a POSIX shell of some commands: each worked out by a person.
 use Rattle.std.proofs.Common.{◌≡◌, ℕ, List, [], ◌∷◌, ◌++◌, map, Option, Some, None, codes, refl}
-use Rattle.ninja.specs.Reading.{◌>>=◌, Manifest, BuildEdge, build_line, manifest_of, value_of}
+use Rattle.support.specs.OptionSteps.{◌>>=◌}
+use Rattle.ninja.specs.Reading.{Manifest, BuildEdge, build_line, manifest_of, value_of}
 use Rattle.ninja.specs.Commands.{shell_command}
 
 abbrev value_only : List (List ℕ × List ℕ) → Option Manifest

@@ -5,7 +5,8 @@ use Rattle.std.proofs.lemmas.Bool.{and_parts, or_parts, or_from, cases_Bool}
 use Rattle.ninja.specs.Machine.{before}
 use Rattle.ninja.specs.Pieces.{Piece, Plain, Outside, escapes, pieces_of}
 use Rattle.ninja.specs.Lines.{is_plain, put_in_line, lines_of}
-use Rattle.ninja.specs.Reading.{◌>>=◌, Statement, statement_of, State, after_statement, after_lines, reads_from}
+use Rattle.support.specs.OptionSteps.{◌>>=◌}
+use Rattle.ninja.specs.Reading.{Statement, statement_of, State, after_statement, after_lines, reads_from}
 use Rattle.ninja.specs.Escapes.{wants_dollar}
 use Rattle.build.specs.edge.Holding.{path_byte_held, path_held, is_path, value_byte_held, value_held}
 use Rattle.ninja.proofs.Machines.{Passes, passes_both, passes_on}

@@ -1,8 +1,10 @@
 -- What the writer makes of words, a shell reads as these words.
 use Rattle.std.proofs.Common.{◌≡◌, ℕ, Bool, true, false, cond, eqb, bytes_eq, codes, ◌||◌, ◌&&◌, not, nat_le, arith, List, [], ◌∷◌, ◌++◌}
-use Rattle.std.proofs.Common.{Option, Some, None, refl, sym, ap, ◌∙◌, subst, append_assoc, append-nil, true≢false, inl, inr}
+use Rattle.std.proofs.Common.{Option, Some, None, refl, sym, ap, ◌∙◌, subst, append_assoc, append-nil, true≢false, inl, inr, ◌==◌}
 use Rattle.std.proofs.lemmas.Bool.{and_parts, eqb-true, cases_Bool, false_from_ne_true, not-true}
 use Rattle.std.proofs.lemmas.Slice.Eq.{bytes_eq-Decides}
+use Rattle.std.specs.Char.{is_ascii_alphanumeric, is_ascii_graphic}
+use Rattle.std.specs.List.{list_all, list_any}
 use Rattle.ninja.specs.Machine.{before, output_from}
 use Rattle.ninja.specs.Shell.{is_bare_byte, is_reserved, has_equals, is_no_first_word}
 use Rattle.ninja.specs.Posix.{is_literal, is_reserved_word, is_no_command_name}
@@ -17,8 +19,25 @@ other_than p s b fails passes = false_from_ne_true (eqb b s) (λ e. true≢false
 
 -- ---- what the writer leaves bare, a shell reads as it stands
 
+alphanumeric-visible : (b : ℕ) → is_ascii_alphanumeric b ≡ true → (nat_le 33 b && nat_le b 126) ≡ true
+alphanumeric-visible b e = grind arith
+
+sign-visible : (signs : List ℕ) (b : ℕ) → list_all is_ascii_graphic signs ≡ true → list_any (λ sign. b == sign) signs ≡ true
+    → (nat_le 33 b && nat_le b 126) ≡ true
+sign-visible [] b all e = absurd (true≢false (sym e))
+sign-visible (sign ∷ signs) b all e =
+    let parts = and_parts (is_ascii_graphic sign) (list_all is_ascii_graphic signs) all in
+    elim (cases_Bool (b == sign)) [
+      | inl f ↦ subst (λ c. is_ascii_graphic c ≡ true) (sym (eqb-true b sign f)) parts.0
+      | inr f ↦ sign-visible signs b parts.1 (rw f at e)
+    ]
+
 visible : (b : ℕ) → is_bare_byte b ≡ true → (nat_le 33 b && nat_le b 126) ≡ true
-visible b e = grind arith
+visible b e =
+    elim (cases_Bool (is_ascii_alphanumeric b)) [
+      | inl f ↦ alphanumeric-visible b f
+      | inr f ↦ sign-visible (codes "_@%+=:,./-") b refl (rw f at e)
+    ]
 
 literal : (b : ℕ) → is_bare_byte b ≡ true → is_literal b ≡ true
 literal b e =

@@ -5,7 +5,8 @@ use Rattle.std.proofs.lemmas.Bool.{and_parts, false≢true}
 use Rattle.ninja.specs.Machine.{before}
 use Rattle.ninja.specs.Pieces.{Piece, Outside, escapes, pieces_of}
 use Rattle.ninja.specs.Lines.{lines_of}
-use Rattle.ninja.specs.Reading.{◌>>=◌, State, Manifest, BuildEdge, after_lines, reads_from, nothing_read, manifest_of, value_of}
+use Rattle.support.specs.OptionSteps.{◌>>=◌}
+use Rattle.ninja.specs.Reading.{State, Manifest, BuildEdge, after_lines, reads_from, nothing_read, manifest_of, value_of}
 use Rattle.ninja.specs.Reading.{value_at, rule_named, manifest_after_block}
 use Rattle.ninja.specs.Commands.{shell_command}
 use Rattle.build.specs.declared.edge.rule.EdgeRule.{EdgeRule as RuleName}

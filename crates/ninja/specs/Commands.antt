@@ -1,8 +1,9 @@
 -- Defines the words of a command, as a POSIX shell reads them.
+use Prim.Native.Char.{code}
 use Rattle.std.specs.Prelude.{ℕ, Bool, cond, ◌==◌, ◌||◌, List, [], ◌∷◌, ◌++◌, Option, Some, None}
 use Rattle.ninja.specs.Machine.{Machine, output_from}
 use Rattle.ninja.specs.Posix.{is_literal, is_no_command_name}
-use Rattle.ninja.specs.Reading.{◌>>=◌}
+use Rattle.support.specs.OptionSteps.{◌>>=◌}
 
 -- A part of a command: a word, or the sign `>`.
 pub data ShellToken : Type 0 where
@@ -29,32 +30,32 @@ pub data Quoting : Type 0 where
 
 -- Returns whether the byte has a meaning in double quotes: `$`, the backquote, the backslash.
 abbrev pub is_special_in_double : ℕ → Bool
-is_special_in_double b = (b == 36) || ((b == 96) || (b == 92))
+is_special_in_double b = (b == code "$") || ((b == code "`") || (b == code "\\"))
 
 -- Returns the state after a byte between words.
 abbrev pub next_between : ℕ → Quoting
-next_between b = cond (b == 32) BetweenWords
-    (cond (b == 39) (Single [] []) (cond (b == 34) (Double [] [])
-    (cond (b == 62) Arrow (cond (is_literal b) (Bare (b ∷ []) (b ∷ [])) Unread))))
+next_between b = cond (b == code " ") BetweenWords
+    (cond (b == code "'") (Single [] []) (cond (b == code "\"") (Double [] [])
+    (cond (b == code ">") Arrow (cond (is_literal b) (Bare (b ∷ []) (b ∷ [])) Unread))))
 
 -- Returns the state after a byte.
 abbrev pub next_quoting : Quoting → ℕ → Quoting
 next_quoting BetweenWords b = next_between b
-next_quoting (Bare bare text) b = cond (b == 32) BetweenWords
-    (cond (b == 39) (Single bare text)
-    (cond (b == 34) (Double bare text) (cond (is_literal b) (Bare (bare ++ b ∷ []) (text ++ b ∷ [])) Unread)))
-next_quoting (Single bare text) b = cond (b == 39) (Bare bare text) (Single bare (text ++ b ∷ []))
-next_quoting (Double bare text) b = cond (b == 34) (Bare bare text) (cond (is_special_in_double b) Unread (Double bare (text ++ b ∷ [])))
-next_quoting Arrow b = cond (b == 32) BetweenWords Unread
+next_quoting (Bare bare text) b = cond (b == code " ") BetweenWords
+    (cond (b == code "'") (Single bare text)
+    (cond (b == code "\"") (Double bare text) (cond (is_literal b) (Bare (bare ++ b ∷ []) (text ++ b ∷ [])) Unread)))
+next_quoting (Single bare text) b = cond (b == code "'") (Bare bare text) (Single bare (text ++ b ∷ []))
+next_quoting (Double bare text) b = cond (b == code "\"") (Bare bare text) (cond (is_special_in_double b) Unread (Double bare (text ++ b ∷ [])))
+next_quoting Arrow b = cond (b == code " ") BetweenWords Unread
 next_quoting Unread b = Unread
 
 -- Returns the tokens that a byte completes.
 abbrev pub words_given : Quoting → ℕ → List ShellToken
 words_given BetweenWords b = []
-words_given (Bare bare text) b = cond (b == 32) (Word bare text ∷ []) []
+words_given (Bare bare text) b = cond (b == code " ") (Word bare text ∷ []) []
 words_given (Single bare text) b = []
 words_given (Double bare text) b = []
-words_given Arrow b = cond (b == 32) (Redirect ∷ []) []
+words_given Arrow b = cond (b == code " ") (Redirect ∷ []) []
 words_given Unread b = []
 
 -- Returns the token that the end of the text completes, or `None` if no command ends here.

@@ -1,4 +1,5 @@
 -- Defines the lines of a Ninja file, and the parts of one line.
+use Prim.Native.Char.{code}
 use Rattle.std.specs.Prelude.{ℕ, Bool, false, cond, ◌==◌, ◌||◌, not, List, [], ◌∷◌, ◌++◌, Option, Some, None, codes}
 use Rattle.ninja.specs.Bytes.{same_bytes, is_one_of}
 use Rattle.ninja.specs.Machine.{Machine, output_from}
@@ -19,7 +20,7 @@ onto_line p (line ∷ lines) = (p ∷ line) ∷ lines
 
 -- Returns the lines with a piece before them, which may be a newline.
 abbrev pub put_in_line : Piece → List (List Piece) → List (List Piece)
-put_in_line p lines = cond (is_plain 10 p) ([] ∷ lines) (onto_line p lines)
+put_in_line p lines = cond (is_plain (code "\n") p) ([] ∷ lines) (onto_line p lines)
 
 -- Returns the parts between newlines that are not escaped.
 abbrev pub lines_of : List Piece → List (List Piece)
@@ -30,7 +31,7 @@ lines_of (p ∷ ps) = put_in_line p (lines_of ps)
 
 -- Returns the pieces, or the rest if the first piece is a space.
 abbrev pub without_blanks_step : Piece → List Piece → List Piece → List Piece
-without_blanks_step p ps rest = cond (is_plain 32 p) rest (p ∷ ps)
+without_blanks_step p ps rest = cond (is_plain (code " ") p) rest (p ∷ ps)
 
 -- Removes the leading spaces.
 abbrev pub without_blanks : List Piece → List Piece
@@ -40,7 +41,7 @@ without_blanks (p ∷ ps) = without_blanks_step p ps (without_blanks ps)
 -- Returns whether the first piece is a space.
 abbrev pub begins_blank : List Piece → Bool
 begins_blank [] = false
-begins_blank (p ∷ ps) = is_plain 32 p
+begins_blank (p ∷ ps) = is_plain (code " ") p
 
 -- Returns a name with a piece before it, if a name may have the piece.
 abbrev pub name_step : Piece → List Piece → List ℕ × List Piece → List ℕ × List Piece
@@ -100,7 +101,7 @@ pub data Kind : Type 0 where
 
 -- Returns the kind of a piece. A space, a colon or a bar after a `$` is a part of a path, and so is a variable.
 abbrev pub kind_of : Piece → Kind
-kind_of (Plain b) = cond (b == 32) IsBlank (cond (b == 58) IsColon (cond (b == 124) IsBar IsPart))
+kind_of (Plain b) = cond (b == code " ") IsBlank (cond (b == code ":") IsColon (cond (b == code "|") IsBar IsPart))
 kind_of (Escaped b) = IsPart
 kind_of (Variable name) = IsPart
 

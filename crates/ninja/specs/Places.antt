@@ -1,4 +1,5 @@
 -- Defines the text for a byte, depending on where it is.
+use Prim.Native.Char.{code}
 use Rattle.std.specs.Prelude.{ℕ, Bool, ◌==◌, ◌||◌, not, List}
 use Rattle.ninja.specs.declared.escapes.EscapeMode.{EscapeMode}
 use Rattle.ninja.specs.declared.escapes.EscapeMode.TheVariants.{InPath, InValue, InQuotes}
@@ -14,5 +15,5 @@ byte_text InQuotes b = value_rest_text (quoted_byte b)
 -- Returns whether the byte is written as itself.
 abbrev pub stays : EscapeMode → ℕ → Bool
 stays InPath b = not (wants_dollar b)
-stays InValue b = not (b == 36)
-stays InQuotes b = not ((b == 39) || (b == 36))
+stays InValue b = not (b == code "$")
+stays InQuotes b = not ((b == code "'") || (b == code "$"))

@@ -1,6 +1,8 @@
 -- Defines which characters and words a POSIX shell reads as themselves (POSIX, Shell Command Language, "Quoting", "Reserved Words", "Simple
 -- Commands").
-use Rattle.std.specs.Prelude.{ℕ, Bool, false, ◌==◌, nat_le, ◌||◌, ◌&&◌, not, List, [], ◌∷◌, codes}
+use Prim.Native.Char.{code}
+use Rattle.std.specs.Prelude.{ℕ, Bool, false, ◌==◌, ◌||◌, ◌&&◌, not, List, [], ◌∷◌, codes}
+use Rattle.std.specs.Char.{is_ascii_graphic}
 use Rattle.std.specs.List.{list_any}
 use Rattle.ninja.specs.Bytes.{is_one_of}
 
@@ -19,7 +21,7 @@ may_have_meaning b = stands_in (codes "*?[]^!#~{}") b
 
 -- Returns whether the byte is a visible character of ASCII.
 abbrev pub is_visible : ℕ → Bool
-is_visible b = nat_le 33 b && nat_le b 126
+is_visible b = is_ascii_graphic b
 
 -- Returns whether the byte is always itself outside quotes.
 abbrev pub is_literal : ℕ → Bool
@@ -37,7 +39,7 @@ is_reserved_word word = is_one_of reserved_words word
 
 -- Returns whether a word with these unquoted bytes may be an assignment before the command's name: it has an `=`.
 abbrev pub may_assign : List ℕ → Bool
-may_assign unquoted = list_any (λ b. b == 61) unquoted
+may_assign unquoted = list_any (λ b. b == code "=") unquoted
 
 -- Returns whether a first word with these unquoted bytes may be something other than a command's name.
 abbrev pub is_no_command_name : List ℕ → Bool

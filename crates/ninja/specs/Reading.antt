@@ -1,16 +1,12 @@
 -- Defines what a Ninja file says, by the Ninja manual (“Ninja file reference”).
+use Prim.Native.Char.{code}
 use Rattle.std.specs.Prelude.{ℕ, zero, suc, Bool, true, false, cond, ◌||◌, ◌&&◌, List, [], ◌∷◌, ◌++◌, length, codes, unwrap_or}
 use Rattle.std.specs.Prelude.{Option, Some, None}
+use Rattle.support.specs.OptionSteps.{◌>>=◌}
 use Rattle.ninja.specs.Pieces.{Piece, Plain, Escaped, Variable, Scope, pieces_of, expansion}
 use Rattle.ninja.specs.Bytes.{same_bytes}
 use Rattle.ninja.specs.Lines.{is_plain, lines_of, without_blanks, begins_blank, name_at, plain_name, is_name}
 use Rattle.ninja.specs.Lines.{Token, Path, Colon, Bar, Bars, tokens_of}
-
--- Returns the result of `f` for a value, and none if there is no value.
-infixl 10 ◌>>=◌
-abbrev pub ◌>>=◌ : {A B : Type 0} → Option A → (A → Option B) → Option B
-None >>= f = None
-(Some x) >>= f = f x
 
 -- ---- a build line
 
@@ -111,7 +107,7 @@ pub data Statement : Type 0 where
 abbrev pub let_behind : Bool → List ℕ → List Piece → Option Statement
 let_behind indented name [] = None
 let_behind indented name (p ∷ ps) =
-    cond (is_plain 61 p && is_name name) (Some (Let indented name (without_blanks ps))) None
+    cond (is_plain (code "=") p && is_name name) (Some (Let indented name (without_blanks ps))) None
 
 -- Returns the statement that gives a name a value.
 abbrev pub let_of : Bool → List ℕ × List Piece → Option Statement
@@ -147,7 +143,7 @@ indented_statement (p ∷ ps) = let_of true (name_at (p ∷ ps))
 -- Returns the statement of a line, if it is one.
 abbrev pub statement_of : List Piece → Option Statement
 statement_of [] = Some Empty
-statement_of (p ∷ ps) = elim (is_plain 32 p) [ true ↦ indented_statement (without_blanks ps) | false ↦ named_statement (name_at (p ∷ ps)) ]
+statement_of (p ∷ ps) = elim (is_plain (code " ") p) [ true ↦ indented_statement (without_blanks ps) | false ↦ named_statement (name_at (p ∷ ps)) ]
 
 -- ---- the file
 

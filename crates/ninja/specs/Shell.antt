@@ -1,17 +1,17 @@
 -- Defines which words are written without quotes.
-use Rattle.std.specs.Prelude.{ℕ, Bool, ◌==◌, nat_le, ◌||◌, ◌&&◌, List, [], ◌∷◌, codes}
+use Prim.Native.Char.{code}
+use Rattle.std.specs.Prelude.{ℕ, Bool, ◌==◌, ◌||◌, List, [], ◌∷◌, codes}
+use Rattle.std.specs.Char.{is_ascii_alphanumeric}
 use Rattle.std.specs.List.{list_any}
 use Rattle.ninja.specs.Bytes.{is_one_of}
 
 -- Returns whether the byte is one of `A-Z a-z 0-9 _ @ % + = : , . / -`.
 abbrev pub is_bare_byte : ℕ → Bool
-is_bare_byte b = (nat_le 97 b && nat_le b 122)
-    || ((nat_le 65 b && nat_le b 90)
-    || ((nat_le 45 b && nat_le b 58) || ((b == 95) || ((b == 64) || ((b == 37) || ((b == 43) || ((b == 61) || (b == 44))))))))
+is_bare_byte b = is_ascii_alphanumeric b || list_any (λ sign. b == sign) (codes "_@%+=:,./-")
 
 -- Returns whether a word has an equals sign.
 abbrev pub has_equals : List ℕ → Bool
-has_equals bytes = list_any (λ b. b == 61) bytes
+has_equals bytes = list_any (λ b. b == code "=") bytes
 
 -- Returns whether a word of letters is a reserved word of the shell.
 abbrev pub is_reserved : List ℕ → Bool

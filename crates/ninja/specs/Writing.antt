@@ -9,13 +9,13 @@ use Rattle.ninja.specs.Words.{words_text}
 
 -- Returns a line and what follows.
 abbrev pub line : List ℕ → List ℕ → List ℕ
-line text rest = text ++ 10 ∷ rest
+line text rest = text ++ (codes "\n" ++ rest)
 
 -- ---- the line of an edge
 
 -- Returns a space and the text of a path, with a `$` before each dollar sign, space and colon of the path.
 abbrev pub spaced_path_text : List ℕ → List ℕ
-spaced_path_text path = 32 ∷ path_text path
+spaced_path_text path = codes " " ++ path_text path
 
 -- Returns the text of paths, each after a space.
 abbrev pub paths_text : List (List ℕ) → List ℕ
@@ -49,7 +49,7 @@ build_text rule outputs inputs implicit order_only =
 
 -- Returns an indented line, without its end.
 abbrev pub binding_text : List ℕ → List ℕ → List ℕ
-binding_text name value = 32 ∷ (name ++ (codes " = " ++ value_text value))
+binding_text name value = codes " " ++ (name ++ (codes " = " ++ value_text value))
 
 -- Returns the line that names the depfile, if there is one, and what follows.
 abbrev pub depfile_line : Option (List ℕ) → List ℕ → List ℕ

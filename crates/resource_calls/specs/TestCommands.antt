@@ -3,7 +3,7 @@ use Rattle.std.specs.Prelude.{Bool, true, false, List, [], ◌∷◌, map, Optio
 use Rattle.arguments.specs.Arguments.{ArgumentsData}
 use Rattle.arguments.specs.Given.{argument}
 use Rattle.arguments.specs.Leaves.{leaves_named}
-use Rattle.arguments.specs.Maybe.{◌>>=◌}
+use Rattle.support.specs.OptionSteps.{◌>>=◌}
 use Rattle.values.specs.Data.{Data, text, object}
 use Rattle.values.specs.declared.object.Program.{Program}
 use Rattle.values.specs.declared.object.Program.TheVariants as programs

@@ -3,7 +3,7 @@ use Rattle.std.specs.Prelude.{List, map, Option, Some, option_map, codes}
 use Rattle.arguments.specs.Arguments.{ArgumentsData}
 use Rattle.arguments.specs.Each.{each_or_none}
 use Rattle.arguments.specs.Given.{texts}
-use Rattle.arguments.specs.Maybe.{◌>>=◌}
+use Rattle.support.specs.OptionSteps.{◌>>=◌}
 use Rattle.build.specs.edge.Folders.{build_folder, source_folder}
 use Rattle.build.specs.edge.Paths.{source_root}
 use Rattle.build.specs.edge.Texts.{Path, Text}

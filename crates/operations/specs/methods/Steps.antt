@@ -1,5 +1,6 @@
 -- Chains the steps of a call, each of which may be refused, and relates a call to its definition.
 use Rattle.std.specs.Prelude.{◌≡◌, Option, ok_or, Result, Ok, Err}
+pub use Rattle.support.specs.ResultSteps.{◌>>=◌}
 use Rattle.values.specs.declared.refusal.OperationRefusal.{OperationRefusal}
 use Rattle.values.specs.declared.refusal.OperationRefusal.TheVariants as refusal
 use Rattle.values.specs.declared.value.Value.{Value}
@@ -7,12 +8,6 @@ use Rattle.values.specs.Data.{Data}
 use Rattle.values.specs.View.{data_of}
 use Rattle.operations.specs.declared.methods.stop.MethodStop.{MethodStop}
 use Rattle.operations.specs.declared.methods.stop.MethodStop.TheVariants as stop
-
-infixl 10 ◌>>=◌
--- Runs a step after another, unless that was refused.
-abbrev pub ◌>>=◌ : {A B : Type 0} → Result A OperationRefusal → (A → Result B OperationRefusal) → Result B OperationRefusal
-Ok x >>= f = f x
-Err e >>= f = Err e
 
 -- Returns the result of the method that a name denotes, or the refusal E8 if there is no such method.
 abbrev pub result_of_method : {M : Type 0} → (named : Option M) → (M → Result Data OperationRefusal) → Result Data OperationRefusal

@@ -1,5 +1,6 @@
 -- Defines dictionary literals by their keys and values, in order: "Dictionaries" of the page "Syntax".
 use Rattle.std.specs.Prelude.{◌≡◌, List, [], ◌∷◌, is_some, Result, Ok, Err, if◌then◌else◌}
+use Rattle.support.specs.ResultSteps.{◌>>=◌}
 use Rattle.values.specs.declared.refusal.OperationRefusal.{OperationRefusal}
 use Rattle.values.specs.declared.refusal.OperationRefusal.TheVariants as refusal
 use Rattle.values.specs.Data.{Data, text, dictionary, Entries, no_entries, entries_with, find}
@@ -8,12 +9,6 @@ use Rattle.values.specs.View.{data_of}
 use Rattle.values.specs.declared.value.Value.{Value}
 use Rattle.operations.specs.declared.operators.literal.LiteralRefusal.{LiteralRefusal}
 use Rattle.operations.specs.declared.operators.literal.LiteralRefusal.TheVariants as literals
-
-infixl 10 ◌>>=◌
--- Runs a step after another, unless that was refused.
-abbrev pub ◌>>=◌ : {A B : Type 0} → Result A LiteralRefusal → (A → Result B LiteralRefusal) → Result B LiteralRefusal
-Ok x >>= f = f x
-Err e >>= f = Err e
 
 -- Returns the entries with one more. Its key must be a text that is not yet present.
 abbrev pub with_entry : Entries → Data → Data → Result Entries LiteralRefusal
