@@ -1,7 +1,7 @@
 //! Reads the arguments of `configure_file`.
 ghost use Rattle.std.specs.Prelude.{◌≡◌, IfOk, codes, map, option_map, string_bytes};
-ghost use Rattle.arguments.specs.Refused.{said_data};
 ghost use Rattle.arguments.specs.Said.{found_value};
+ghost use Rattle.arguments.specs.Stops.{Says};
 ghost use Rattle.arguments.specs.declared.rule.Rule.TheVariants.{TakesTreeFile};
 ghost use Rattle.values.specs.Data.{text as text_data};
 ghost use Rattle.world.specs.Prelude.{Does, arguments_data, data_of, here_view, world_of};
@@ -12,7 +12,7 @@ ghost use Rattle.configuration_calls.specs.Inputs.{file_named, input_named, one_
 
 use crate::contents::entries_in;
 use crate::methods::number_in;
-use arguments::{ArgumentError, Arguments, Rule};
+use arguments::{Arguments, CallStop, Rule};
 use ports::{Outputs, Tree};
 use std::alloc::{AllocError, Global};
 use support::paths::tree_path;
@@ -57,65 +57,57 @@ fn tree_file(alloc: Global, object: &Object) -> Result<Option<String>, AllocErro
 }
 
 // Returns the path in the source directory that a text names, or its refusal.
-fn text_named(here: &Here<'_>, text: &str) -> Result<Result<String, ArgumentError>, AllocError>
-    ensures { IfOk result (λ p. said_data string_bytes p
-        ≡ file_named (here_view here.now).source_root (here_view here.now).folder (text_data text.now)) }
+fn text_named(here: &Here<'_>, text: &str) -> Result<String, CallStop>
+    ensures { Says string_bytes (file_named (here_view here.now).source_root (here_view here.now).folder (text_data text.now)) result }
 {
     match tree_path(here.alloc, here.source_root, here.folder, text)? {
-        Some(path) => Ok(Ok(path)),
-        None => Ok(Err(Rule::NamesFile.refuse(here.alloc, text)?)),
+        Some(path) => Ok(path),
+        None => Err(Rule::NamesFile.refuse(here.alloc, text)?.into()),
     }
 }
 
 // Returns the path of a file object in the source directory, or the refusal of any other object.
-fn object_named(alloc: Global, object: &Object) -> Result<Result<String, ArgumentError>, AllocError>
-    ensures { IfOk result (λ p. said_data string_bytes p ≡ found_value (tree_file object.now) TakesTreeFile (codes "input")) }
+fn object_named(alloc: Global, object: &Object) -> Result<String, CallStop>
+    ensures { Says string_bytes (found_value (tree_file object.now) TakesTreeFile (codes "input")) result }
 {
     match tree_file(alloc, object)? {
-        Some(path) => Ok(Ok(path)),
-        None => Ok(Err(Rule::TakesTreeFile.refuse(alloc, "input")?)),
+        Some(path) => Ok(path),
+        None => Err(Rule::TakesTreeFile.refuse(alloc, "input")?.into()),
     }
 }
 
 // Returns the path in the source directory that a value names in the present definition file, or its refusal.
-fn file_named(here: &Here<'_>, value: &Value) -> Result<Result<String, ArgumentError>, AllocError>
-    ensures { IfOk result (λ p. said_data string_bytes p
-        ≡ file_named (here_view here.now).source_root (here_view here.now).folder (data_of value.now)) }
+fn file_named(here: &Here<'_>, value: &Value) -> Result<String, CallStop>
+    ensures { Says string_bytes (file_named (here_view here.now).source_root (here_view here.now).folder (data_of value.now)) result }
 {
     match value {
         Value::Text(text) => text_named(here, text.as_str()),
         Value::Object(object) => object_named(here.alloc, object),
-        _ => Ok(Err(Rule::TakesTreeFile.refuse(here.alloc, "input")?)),
+        _ => Err(Rule::TakesTreeFile.refuse(here.alloc, "input")?.into()),
     }
 }
 
 // Returns the path that exactly one value names, or the refusal.
-fn one_file(here: &Here<'_>, values: &[&Value]) -> Result<Result<String, ArgumentError>, AllocError>
-    ensures { IfOk result (λ p. said_data string_bytes p
-        ≡ one_file (here_view here.now).source_root (here_view here.now).folder (map (λ v. data_of v.now) values.now)) }
+fn one_file(here: &Here<'_>, values: &[&Value]) -> Result<String, CallStop>
+    ensures { Says string_bytes
+        (one_file (here_view here.now).source_root (here_view here.now).folder (map (λ v. data_of v.now) values.now)) result }
 {
     match values {
         [value] => file_named(here, value),
-        _ => Ok(Err(Rule::TakesOneFile.refuse(here.alloc, "input")?)),
+        _ => Err(Rule::TakesOneFile.refuse(here.alloc, "input")?.into()),
     }
 }
 
 // Returns the path that the keyword `input` names, which is optional, or its refusal.
-fn input_named(
-    here: &Here<'_>,
-    arguments: &Arguments,
-) -> Result<Result<Option<String>, ArgumentError>, AllocError>
-    ensures { IfOk result (λ p. said_data (option_map string_bytes) p
-        ≡ input_named (here_view here.now).source_root (here_view here.now).folder (arguments_data arguments.now)) }
+fn input_named(here: &Here<'_>, arguments: &Arguments) -> Result<Option<String>, CallStop>
+    ensures { Says (option_map string_bytes)
+        (input_named (here_view here.now).source_root (here_view here.now).folder (arguments_data arguments.now)) result }
 {
     if arguments.keyword("input").is_none() {
-        return Ok(Ok(None));
+        return Ok(None);
     }
     let values = arguments.leaves(here.alloc, "input")?;
-    match one_file(here, &values)? {
-        Ok(path) => Ok(Ok(Some(path))),
-        Err(refused) => Ok(Err(refused)),
-    }
+    Ok(Some(one_file(here, &values)?))
 }
 
 /// Returns the path of the template, if there is one.
@@ -125,42 +117,31 @@ pub fn input_given<T: Tree, O: Outputs>(
 ) -> Result<Option<String>, Stop>
     ensures { Does T.seen O.seen (option_map string_bytes) (input_given (arguments_data arguments.now)) caller.now result caller.now }
 {
-    let input = input_named(&caller.here(), arguments)?;
-    caller.pass(input)
+    caller.settle(input_named(&caller.here(), arguments))
 }
 
 // Returns the values of a dictionary, or its refusal.
-fn dictionary_given(
-    alloc: Global,
-    value: &Value,
-) -> Result<Result<GivenValues, ArgumentError>, AllocError>
-    ensures { IfOk result (λ g. said_data given_view g ≡ dictionary_given (data_of value.now)) }
+fn dictionary_given(alloc: Global, value: &Value) -> Result<GivenValues, CallStop>
+    ensures { Says given_view (dictionary_given (data_of value.now)) result }
 {
     match value {
-        Value::Dictionary(dictionary) => match entries_in(alloc, dictionary)? {
-            Ok(values) => Ok(Ok(GivenValues {
-                values,
-                number: None,
-            })),
-            Err(refused) => Ok(Err(refused)),
-        },
-        _ => Ok(Err(Rule::IsValueName.refuse(alloc, "")?)),
+        Value::Dictionary(dictionary) => Ok(GivenValues {
+            values: entries_in(alloc, dictionary)?,
+            number: None,
+        }),
+        _ => Err(Rule::IsValueName.refuse(alloc, "")?.into()),
     }
 }
 
 // Returns the values of configuration data or of a dictionary, or the refusal of any other value.
-fn read_given(
-    alloc: Global,
-    store: &Store,
-    value: &Value,
-) -> Result<Result<GivenValues, ArgumentError>, AllocError>
-    ensures { IfOk result (λ g. said_data given_view g ≡ given_by (world_of store.now).facts (data_of value.now)) }
+fn read_given(alloc: Global, store: &Store, value: &Value) -> Result<GivenValues, CallStop>
+    ensures { Says given_view (given_by (world_of store.now).facts (data_of value.now)) result }
 {
     match number_in(value) {
-        Some(number) => Ok(Ok(GivenValues {
+        Some(number) => Ok(GivenValues {
             values: store.copy_of_configuration(alloc, number)?,
             number: Some(number),
-        })),
+        }),
         None => dictionary_given(alloc, value),
     }
 }
@@ -170,13 +151,12 @@ fn configuration_given(
     alloc: Global,
     store: &Store,
     arguments: &Arguments,
-) -> Result<Result<GivenValues, ArgumentError>, AllocError>
-    ensures { IfOk result (λ g. said_data given_view g
-        ≡ configuration_given (world_of store.now).facts (arguments_data arguments.now)) }
+) -> Result<GivenValues, CallStop>
+    ensures { Says given_view (configuration_given (world_of store.now).facts (arguments_data arguments.now)) result }
 {
     match arguments.keyword("configuration") {
         Some(value) => read_given(alloc, store, value),
-        None => Ok(Err(Rule::IsValueName.refuse(alloc, "")?)),
+        None => Err(Rule::IsValueName.refuse(alloc, "")?.into()),
     }
 }
 
@@ -187,6 +167,5 @@ pub fn values_given<T: Tree, O: Outputs>(
 ) -> Result<GivenValues, Stop>
     ensures { Does T.seen O.seen given_view (values_given (arguments_data arguments.now)) caller.now result caller.now }
 {
-    let given = configuration_given(caller.alloc, caller.store, arguments)?;
-    caller.pass(given)
+    caller.settle(configuration_given(caller.alloc, caller.store, arguments))
 }

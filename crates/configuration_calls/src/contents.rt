@@ -1,15 +1,15 @@
 //! Converts values of the language to contents of configuration data, and back.
 ghost use Rattle.std.specs.Prelude.{◌≡◌, [], IfOk, OnOk, option_map};
 ghost use Rattle.std.specs.List.{list_all};
-ghost use Rattle.arguments.specs.Refused.{answer_data, said_data};
+ghost use Rattle.arguments.specs.Stops.{Gives, Says};
 ghost use Rattle.template.specs.Config.{with_value};
 ghost use Rattle.template.specs.ConfigData.{content_of};
 ghost use Rattle.template.specs.Line.{is_placeholder_name, is_name_byte};
-ghost use Rattle.world.specs.Prelude.{Answers, data_of, items_of, within};
+ghost use Rattle.world.specs.Prelude.{data_of, items_of, within};
 ghost use Rattle.configuration_calls.specs.Contents.{all_set, content_at, content_in, data_with, entries_in};
 ghost use Rattle.configuration_calls.specs.Contents.{fallback_given, found_or, value_of_content, given_text, unquoted_text};
 
-use arguments::{ArgumentError, Rule};
+use arguments::{CallStop, Rule};
 use std::alloc::{AllocError, Global};
 use template::{ConfigData, ConfigValue};
 use values::{Dictionary, OperationRefusal, Text, Value};
@@ -51,19 +51,15 @@ pub fn content_in(alloc: Global, value: &Value) -> Result<Option<ConfigValue>, A
 }
 
 // Returns the content of a name, or the refusal of a bad name or of a value of another type.
-fn content_at(
-    alloc: Global,
-    name: &str,
-    value: &Value,
-) -> Result<Result<ConfigValue, ArgumentError>, AllocError>
-    ensures { IfOk result (λ c. said_data content_of c ≡ content_at name.now (data_of value.now)) }
+fn content_at(alloc: Global, name: &str, value: &Value) -> Result<ConfigValue, CallStop>
+    ensures { Says content_of (content_at name.now (data_of value.now)) result }
 {
     if !is_placeholder_name(name) {
-        return Ok(Err(Rule::IsValueName.refuse(alloc, name)?));
+        return Err(Rule::IsValueName.refuse(alloc, name)?.into());
     }
     match content_in(alloc, value)? {
-        Some(content) => Ok(Ok(content)),
-        None => Ok(Err(Rule::IsSetting.refuse(alloc, name)?)),
+        Some(content) => Ok(content),
+        None => Err(Rule::IsSetting.refuse(alloc, name)?.into()),
     }
 }
 
@@ -78,32 +74,23 @@ fn set(held: &mut ConfigData, name: &str, content: ConfigValue) -> Result<(), Al
 }
 
 // Returns data with these values at these names, or the refusal of the first one that cannot be set.
-fn all_set(
-    alloc: Global,
-    names: &[Text],
-    values: &[Value],
-) -> Result<Result<ConfigData, ArgumentError>, AllocError>
-    ensures { IfOk result (λ c. answer_data c ≡ data_with (all_set [] names.now (items_of values.now))) }
+fn all_set(alloc: Global, names: &[Text], values: &[Value]) -> Result<ConfigData, CallStop>
+    ensures { Says (λ c. c) (data_with (all_set [] names.now (items_of values.now))) result }
 {
     let mut held = ConfigData::new(alloc);
     for (i, name) in names.iter().enumerate() {
-        match values.get(i) {
-            Some(value) => match content_at(alloc, name.as_str(), value)? {
-                Ok(content) => set(&mut held, name.as_str(), content)?,
-                Err(refused) => return Ok(Err(refused)),
-            },
-            None => return Ok(Ok(held)),
-        }
+        let Some(value) = values.get(i) else {
+            return Ok(held);
+        };
+        let content = content_at(alloc, name.as_str(), value)?;
+        set(&mut held, name.as_str(), content)?;
     }
-    Ok(Ok(held))
+    Ok(held)
 }
 
 /// Returns a dictionary as configuration data, or the refusal of a key that is no name, or of a value that is no text, integer or boolean.
-pub fn entries_in(
-    alloc: Global,
-    dictionary: &Dictionary,
-) -> Result<Result<ConfigData, ArgumentError>, AllocError>
-    ensures { IfOk result (λ c. answer_data c ≡ data_with (entries_in dictionary.now)) }
+pub fn entries_in(alloc: Global, dictionary: &Dictionary) -> Result<ConfigData, CallStop>
+    ensures { Says (λ c. c) (data_with (entries_in dictionary.now)) result }
 {
     all_set(alloc, dictionary.keys(), dictionary.values())
 }
@@ -138,17 +125,13 @@ fn given_text(quotes: Quotes, text: &str) -> &str
 }
 
 // Returns the value of a content, or `OperationRefusal::Limit` for a text that is too long.
-fn convert_content(
-    alloc: Global,
-    quotes: Quotes,
-    content: &ConfigValue,
-) -> Result<Result<Value, OperationRefusal>, AllocError>
-    ensures { IfOk result (λ r. Answers (within (value_of_content quotes (content_of content.now))) r) }
+fn convert_content(alloc: Global, quotes: Quotes, content: &ConfigValue) -> Result<Value, CallStop>
+    ensures { Gives data_of (within (value_of_content quotes (content_of content.now))) result }
 {
     match content {
-        ConfigValue::Boolean(boolean) => Ok(Ok(Value::Boolean(*boolean))),
-        ConfigValue::Integer(integer) => Ok(Ok(Value::Integer(*integer))),
-        ConfigValue::Text(text) => Value::of_str(alloc, given_text(quotes, text.as_str())),
+        ConfigValue::Boolean(boolean) => Ok(Value::Boolean(*boolean)),
+        ConfigValue::Integer(integer) => Ok(Value::Integer(*integer)),
+        ConfigValue::Text(text) => Ok(Value::of_str(alloc, given_text(quotes, text.as_str()))??),
     }
 }
 
@@ -156,15 +139,17 @@ fn fallback_given(
     alloc: Global,
     quotes: Quotes,
     fallback: Option<&Value>,
-) -> Result<Result<Value, OperationRefusal>, AllocError>
-    ensures { IfOk result (λ r. Answers (fallback_given quotes (option_map (λ v. data_of v.now) fallback.entry)) r) }
+) -> Result<Value, CallStop>
+    ensures { Gives data_of (fallback_given quotes (option_map (λ v. data_of v.now) fallback.entry)) result }
 {
     let Some(value) = fallback else {
-        return Ok(Err(OperationRefusal::Absent));
+        return Err(OperationRefusal::Absent.into());
     };
     match (quotes, value) {
-        (Quotes::Cut, Value::Text(text)) => Value::of_str(alloc, unquoted_text(text.as_str())),
-        _ => Ok(Ok(value.clone()?)),
+        (Quotes::Cut, Value::Text(text)) => {
+            Ok(Value::of_str(alloc, unquoted_text(text.as_str()))??)
+        }
+        _ => Ok(value.clone()?),
     }
 }
 
@@ -174,9 +159,9 @@ pub fn take_or(
     quotes: Quotes,
     content: Option<&ConfigValue>,
     fallback: Option<&Value>,
-) -> Result<Result<Value, OperationRefusal>, AllocError>
-    ensures { IfOk result (λ r. Answers (found_or quotes (option_map (λ c. content_of c.now) content.entry)
-        (option_map (λ v. data_of v.now) fallback.entry)) r) }
+) -> Result<Value, CallStop>
+    ensures { Gives data_of (found_or quotes (option_map (λ c. content_of c.now) content.entry)
+        (option_map (λ v. data_of v.now) fallback.entry)) result }
 {
     match content {
         Some(content) => convert_content(alloc, quotes, content),

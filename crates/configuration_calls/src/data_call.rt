@@ -1,36 +1,33 @@
 //! Implements `configuration_data`.
-ghost use Rattle.std.specs.Prelude.{◌≡◌, IfOk, option_map};
-ghost use Rattle.arguments.specs.Refused.{answer_data};
+ghost use Rattle.std.specs.Prelude.{option_map};
+ghost use Rattle.arguments.specs.Stops.{Says};
 ghost use Rattle.world.specs.Prelude.{Does, arguments_data, data_of};
 ghost use Rattle.configuration_calls.specs.ConfigurationData.{configuration_data, said_data};
 ghost use Rattle.configuration_calls.specs.Given.{data_given, data_in};
 
 use crate::contents::entries_in;
-use arguments::{ArgumentError, Arguments, Rule};
+use arguments::{Arguments, CallStop, Rule};
 use ports::{Outputs, Tree};
-use std::alloc::{AllocError, Global};
+use std::alloc::Global;
 use template::ConfigData;
 use values::{Object, Value};
 use world::{Caller, Stop};
 
-fn data_in(alloc: Global, value: &Value) -> Result<Result<ConfigData, ArgumentError>, AllocError>
-    ensures { IfOk result (λ c. answer_data c ≡ data_in (data_of value.now)) }
+fn data_in(alloc: Global, value: &Value) -> Result<ConfigData, CallStop>
+    ensures { Says (λ c. c) (data_in (data_of value.now)) result }
 {
     match value {
         Value::Dictionary(dictionary) => entries_in(alloc, dictionary),
-        _ => Ok(Err(Rule::IsValueName.refuse(alloc, "")?)),
+        _ => Err(Rule::IsValueName.refuse(alloc, "")?.into()),
     }
 }
 
-fn data_given(
-    alloc: Global,
-    value: Option<&Value>,
-) -> Result<Result<ConfigData, ArgumentError>, AllocError>
-    ensures { IfOk result (λ c. answer_data c ≡ data_given (option_map (λ v. data_of v.now) value.entry)) }
+fn data_given(alloc: Global, value: Option<&Value>) -> Result<ConfigData, CallStop>
+    ensures { Says (λ c. c) (data_given (option_map (λ v. data_of v.now) value.entry)) result }
 {
     match value {
         Some(value) => data_in(alloc, value),
-        None => Ok(Ok(ConfigData::new(alloc))),
+        None => Ok(ConfigData::new(alloc)),
     }
 }
 
@@ -41,8 +38,7 @@ fn said_data<T: Tree, O: Outputs>(
 ) -> Result<ConfigData, Stop>
     ensures { Does T.seen O.seen (λ c. c) (said_data (arguments_data arguments.now)) caller.now result caller.now }
 {
-    let values = data_given(caller.alloc, arguments.argument(0))?;
-    caller.pass(values)
+    caller.settle(data_given(caller.alloc, arguments.argument(0)))
 }
 
 /// Runs `configuration_data(dictionary)`. Refuses with E9 a key that is no name, and a value that is no text, integer or boolean.

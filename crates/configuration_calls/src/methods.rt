@@ -71,8 +71,7 @@ fn get<T: Tree, O: Outputs>(
 {
     let name = name_given(caller, arguments)?;
     let content = content_at(caller.store, number, name);
-    let answer = take_or(caller.alloc, quotes, content, arguments.argument(1))?;
-    let value = caller.answer(answer)?;
+    let value = caller.settle(take_or(caller.alloc, quotes, content, arguments.argument(1)))?;
     Ok(Some(value))
 }
 

@@ -5,11 +5,8 @@ use Rattle.configuration_calls.proofs.contents.all_set.Goals as goal
 pub loop-i-init : goal.loop-i-init
 loop-i-init c = grind (arith, common_steps)
 
-pub returns-in-Err : goal.returns-in-Err
-returns-in-Err c = grind (arith, common_steps)
-
-pub returns-in-None : goal.returns-in-None
-returns-in-None c = grind (arith, common_steps)
+pub returns-in_default : goal.returns-in_default
+returns-in_default c = grind (arith, common_steps)
 
 pub loop-i-preserved : goal.loop-i-preserved
 loop-i-preserved c = grind (arith, common_steps)
