@@ -3,6 +3,9 @@ import dataclasses
 import os
 import sys
 
+# The directives of tests/porting.
+PORTING = ("in", "out", "file", "script", "becomes", "files", "words", "says", "fails", "real", "taken", "machine", "ends")
+
 
 @dataclasses.dataclass
 class Case:

@@ -17,12 +17,13 @@ import time
 from collections.abc import Callable
 
 from tests.attacks import files_below, fresh, is_running, link
+from tests.plain_cases import PORTING, cases_of
 from tests.workshop import CHECKOUT, WORK, check, configured, environment, put, read, run, shell, wait_until
 from tools.asking.sandbox import version_of_landlock
 from tools.ending import Stop, one_line
 from tools.porting import build, journal, trial
 from tools.porting.command import main
-from tools.porting.project import Project
+from tools.porting.project import Project, Unreadable
 from tools.porting.rule_table import RULES
 
 PORT = [os.path.join(CHECKOUT, "tools", "port"), "--no-trial"]
@@ -598,6 +599,27 @@ if grep -q bad meson.build; then echo 'meson.build:2:0: ERROR: it is bad'; exit 
 """
 
 
+def test_names_of_rules() -> None:
+    """A rule finds nothing in a project that has none of the names in its words; tried on the projects of all cases."""
+    cases = [it for path in sorted(os.listdir(f"{CHECKOUT}/tests/porting")) for it in cases_of(f"{CHECKOUT}/tests/porting/{path}", PORTING)]
+    found, skipped = [], 0
+    for case in cases:
+        texts = {path: lines for path, lines in case.all("file")}
+        first = case.all("in")[0][1] if case.all("in") else ""
+        texts["meson.build"] = first if first.startswith("project(") else f"project('p', 'c', version: '1.0')\n{first}"
+        fresh("p")
+        for path, text in texts.items():
+            put(f"p/{path}", text)
+        try:
+            looked = Project(f"{WORK}/p")
+        except Unreadable:
+            continue
+        others = [it for it in RULES if not it.may_change(looked)]
+        skipped += len(others)
+        found += [f"{it.name}: {case.title}" for it in others if list(it.change(looked))]
+    check("meson port: a rule is tried where its names are", not found and skipped > 50 * len(cases), f"{found} {skipped}")
+
+
 def test_real_meson() -> None:
     """The result is tried with the real Meson where commands of the project may run; what it refused before is no fault of the result."""
     put("real/meson", REAL, 0o755)
@@ -642,7 +664,8 @@ def test_machine_file_of_a_trial() -> None:
         came = trial.first_fault("/bin/true", f"{WORK}/p", {"meson.build": NEW}, [], print)
     finally:
         trial.machine_file = own
-    check("meson port: a trial: the machine file is that of the result", came == (None, b"[binaries]\n") and seen == [NEW], f"{came} {seen}")
+    is_good = came == (None, b"[binaries]\n") and seen == [NEW]
+    check("meson port: a trial: the machine file is that of the result", is_good, f"{came} {seen}")
 
 
 def test_what_a_trial_says() -> None:
@@ -672,8 +695,7 @@ def test_what_a_trial_says() -> None:
     says("what a test has", "custom", "touch x", "the result was built", True, env=f"DATA={place}/x")
 
 
-TESTS = (test_rules_by_name, test_real_meson, test_places, test_folders_outside, test_bytes_that_stay, test_what_a_file_is,
-         test_kills, test_full_disk, test_journals_of_strangers, test_trial, test_modules, test_doubts, test_machine_file_of_a_trial,
-         test_what_a_trial_says,
-         test_lines_that_are_forged, test_streams, test_signals, test_signal_in_a_trial, test_early_signals, test_costs, test_growth,
-         test_odd_files, test_installed, test_budget)
+TESTS = (test_rules_by_name, test_names_of_rules, test_real_meson, test_places, test_folders_outside, test_bytes_that_stay,
+         test_what_a_file_is, test_kills, test_full_disk, test_journals_of_strangers, test_trial, test_modules, test_doubts,
+         test_machine_file_of_a_trial, test_what_a_trial_says, test_lines_that_are_forged, test_streams, test_signals,
+         test_signal_in_a_trial, test_early_signals, test_costs, test_growth, test_odd_files, test_installed, test_budget)

@@ -51,7 +51,8 @@ TABLES: dict[str, list[tuple[str, str]]] = {
         ('`summary`, `debug`',
          "`message`; for values that it can't print, keep the call inside `if not is_variable('meson')`"),
         ('`both_libraries`, `default_library=both`',
-         '`shared_library` and `static_library` with the same name and sources'),
+         "`shared_library` and `static_library` with the same name and sources; for a project's default `meson port --also "
+         "both-by-default` writes them"),
         ('`shared_module`',
          '`shared_library`'),
         ('`build_target`',
@@ -93,7 +94,8 @@ TABLES: dict[str, list[tuple[str, str]]] = {
         ('`partial_dependency`, `as_system`',
          'the dependency itself'),
         ('`extract_objects`, `extract_all_objects`',
-         'a static library that both targets link; for all objects of a target, `meson port --also objects` writes it'),
+         'a static library that both targets link; for all objects of a target, `meson port --also objects` writes it, or the sources '
+         'if a target has nothing else'),
         ('`meson.add_install_script`, `add_postconf_script`, `add_dist_script`',
          "a step of the package; to keep the call only for the real Meson, put it inside `if not is_variable('meson')`"),
         ('`meson.override_dependency`, `override_find_program`',

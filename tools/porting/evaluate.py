@@ -446,8 +446,9 @@ class Evaluation:
 
 # What evaluates a node, by its type.
 EVALUATED: dict[type, Callable] = {
-    tree.Text: Evaluation.literal_text, tree.Number: Evaluation.literal_value, tree.Truth: Evaluation.literal_value, tree.Name: Evaluation.variable,
-    tree.Group: Evaluation.inner, tree.List: Evaluation.list_of, tree.Dictionary: Evaluation.dictionary, tree.Index: Evaluation.indexed_value,
+    tree.Text: Evaluation.literal_text, tree.Number: Evaluation.literal_value, tree.Truth: Evaluation.literal_value,
+    tree.Name: Evaluation.variable, tree.Group: Evaluation.inner, tree.List: Evaluation.list_of, tree.Dictionary: Evaluation.dictionary,
+    tree.Index: Evaluation.indexed_value,
     tree.Unary: Evaluation.unary, tree.Binary: Evaluation.binary, tree.Ternary: Evaluation.ternary, tree.Call: Evaluation.call}
 
 

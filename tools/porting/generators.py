@@ -13,6 +13,10 @@ from tools.porting.rule import (assigned_name, before_statement, can_hoist, free
                                 texts_at)
 from tools.porting.values import Many, Thing, choices_of, flat, kind_of
 
+PLACEHOLDER = re.compile("@[A-Z_]+@")
+# Those that mean the same in a custom target of one input.
+OF_TARGETS = {"@INPUT@", "@OUTPUT@", "@BASENAME@", "@PLAINNAME@", "@DEPFILE@"}
+
 
 def generators(project: Project) -> Iterator[Change]:
     """`gen.process(files)`: a custom target for each file."""
@@ -63,18 +67,32 @@ def processed(project: Project, site: Site, maker: Thing, command: str = "") -> 
     made = maker.call.keywords
     outputs, texts = (texts_at(project, made[it].value) if it in made else None for it in ("output", "arguments"))
     inputs = inputs_of(project, site)
-    if outputs is None or texts is None or not inputs:
+    if texts is None and not command:
+        command = kept_command(project, site, maker)
+    if outputs is None or (texts is None and not command) or not inputs:
         return None
     statement = site.statement
     is_all = isinstance(statement, tree.Assignment) and tree.plain(statement.value) is site.call
     name = statement.name if is_all else free_name(project, "generated")
     lines = [*([] if is_all and statement.operator == "+=" else [f"{name} = []"]),
              f"foreach input : [{', '.join(inputs)}]",
-             f"  {name} += {one_target(project, site, maker, name, outputs, command or texts)}", "endforeach"]
+             f"  {name} += {one_target(project, site, maker, name, outputs, command or texts or [])}", "endforeach"]
     what = "generator: a custom_target for each input"
     if is_all:
         return site.change(what, in_place_of_statement(site.file, statement, lines))
     return site.change(what, before_statement(site, lines), replaced(site, site.call, name))
+
+
+def kept_command(project: Project, site: Site, maker: Thing) -> str:
+    """Returns the command of a generator with its arguments as they are written; empty if they mean something else in a custom target."""
+    word = maker.call.keywords.get("arguments") if maker.call else None
+    if maker.call is None or word is None or maker.path != site.file.path:
+        return ""
+    names = project.known.things[site.call][-1].names
+    texts = [it.value for it in flat(project.known.placed(word.value))]
+    is_alike = all(isinstance(it, str) and OF_TARGETS.issuperset(PLACEHOLDER.findall(it)) for it in texts)
+    is_same = all(it in names and names[it] is maker.names.get(it) for it in tree.names_in(maker.call))
+    return f"[{site.file.source(maker.call.arguments[0])}, {site.file.source(word.value)}]" if is_alike and is_same else ""
 
 
 def one_target(project: Project, site: Site, maker: Thing, name: str, outputs: list[str], texts: list[str] | str) -> str:

@@ -396,7 +396,8 @@ def names_of_programs(project: Project) -> Iterator[Change]:
             yield drop_keyword(site, "name_suffix")
         elif word is not None and first is not None and suffix:
             start, end = without_item(site.file.text, site.call, word)
-            shown = escaped(f"{name}.{suffix}") if isinstance(first, tree.Text) and name else f"{grouped(site, first)} + {escaped('.' + suffix)}"
+            is_text = isinstance(first, tree.Text) and name
+            shown = escaped(f"{name}.{suffix}") if is_text else f"{grouped(site, first)} + {escaped('.' + suffix)}"
             yield site.change("executable: `name_suffix:` becomes the end of its name", replaced(site, first, shown), (start, end, ""))
 
 

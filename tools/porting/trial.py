@@ -33,7 +33,8 @@ def machine_file(program: str, root: str, words: list[str]) -> bytes:
     return run(command, seconds=LONGEST, variables=dict(os.environ), most=MOST_TOLD, is_asked_first=True).printed.encode()
 
 
-def first_fault(program: str, root: str, changed: dict[str, str], words: list[str], show: Callable[[str], None]) -> tuple[str | None, bytes]:
+def first_fault(program: str, root: str, changed: dict[str, str], words: list[str],
+                show: Callable[[str], None]) -> tuple[str | None, bytes]:
     """Returns what the program says first of the sources, in which these files are others, or None if it takes them. Also returns the
     machine file that it got."""
     with tempfile.TemporaryDirectory(prefix="meson-port-") as scratch:

@@ -7,7 +7,7 @@ use Rattle.build.specs.edge.Data.{EdgeData}
 
 -- Returns whether the byte is no control character, `#` or `|`.
 abbrev pub path_byte_held : ℕ → Bool
-path_byte_held b = nat_le (code " ") b && not ((b == code "\x7f") || ((b == code "#") || (b == code "|")))
+path_byte_held b = nat_le (code " ") b && not ((b == code "\u{7f}") || ((b == code "#") || (b == code "|")))
 
 -- Returns whether `build.ninja` can hold each byte of the path. This holds of an empty path too.
 abbrev pub path_held : Path → Bool

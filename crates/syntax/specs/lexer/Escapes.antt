@@ -41,12 +41,12 @@ abbrev pub control : ℕ → Option ℕ
 control b =
     if b == backslash then Some backslash
     else (if b == quote then Some quote
-    else (if b == lower_a then Some (code "\x07")
-    else (if b == lower_b then Some (code "\x08")
+    else (if b == lower_a then Some (code "\u{7}")
+    else (if b == lower_b then Some (code "\u{8}")
     else (if b == lower_t then Some (code "\t")
     else (if b == lower_n then Some (code "\n")
-    else (if b == lower_v then Some (code "\x0b")
-    else (if b == lower_f then Some (code "\x0c")
+    else (if b == lower_v then Some (code "\u{b}")
+    else (if b == lower_f then Some (code "\u{c}")
     else (if b == lower_r then Some (code "\r")
     else None))))))))
 
