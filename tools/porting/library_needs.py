@@ -7,7 +7,7 @@ from tools import records as dataclasses
 from tools.porting import tree
 from tools.porting.lexer import escaped
 from tools.porting.project import Project
-from tools.porting.values import Either, Item, Many, Thing, UNKNOWN, flat, kind_of, texts_of
+from tools.porting.values import Either, Item, Many, Table, Thing, UNKNOWN, flat, kind_of, texts_of
 
 # Dependencies that have no .pc file: what compiles and links with them.
 WITHOUT_FILE = {"threads": ("-pthread", "-pthread"), "openmp": ("-fopenmp", "-fopenmp"), "dl": ("", "-ldl"), "m": ("", "-lm"),
@@ -50,6 +50,8 @@ class Needs:
                 for number, item in enumerate(held.items):
                     if item.value is value:
                         return f"{name}[{number}]"
+            if isinstance(held, Table) and (key := next((key for key, it in held.pairs.items() if it is value), None)) is not None:
+                return f"{name}[{escaped(key)}]"
         call = value.call if isinstance(value, Thing) else None
         if call is not None and all(kind_of(self.names.get(it, UNKNOWN)) in ("compiler", "meson") for it in tree.names_in(call)):
             return self.project.files[value.path].source(call)

@@ -93,6 +93,7 @@ class Writer(Needs):
         self.words = site.call.keywords
         super().__init__(project, self.names_at(project.known.things[site.call]))
         self.before: list[str] = []
+        self.perhaps: dict[str, set[Need]] = {}  # by the name of a line: what is there on a condition
         self.is_both = False
         self.is_data = "dataonly" in self.words and self.value(self.words["dataonly"].value) is True
 
@@ -162,6 +163,7 @@ class Writer(Needs):
         if needs[first:]:
             variable = self.free_variable(f"{identifier(self.base_text())}_{name}")
             self.before.append(f"{variable} = []")
+            self.perhaps.setdefault(name, set()).update(needs[first:])
             for need in needs[first:]:
                 added = f"{variable} += {escaped(need.text)}"
                 self.before += [f"if {need.condition}", f"  {added}", "endif"] if need.condition else [added]
@@ -229,7 +231,8 @@ class Writer(Needs):
         requires = merged(requires, requires_private)
         libs = own + self.as_parts("libs", [it for it in public if it.where == "libs"])
         said = {part.text for part in libs} | names_of(requires)
-        hidden = [it for it in private if name_of(it.text) not in said and it.where != "cflags"]
+        perhaps = self.perhaps.get("requires", set()) | self.perhaps.get("libs", set())
+        hidden = [it for it in private if name_of(it.text) not in said and it not in perhaps and it.where != "cflags"]
         requires_private = merged([it for it in requires_private if it.text is None or name_of(it.text) not in said], [])
         # A package that the call names too is wanted once, with the versions of both.
         below = merged(self.as_parts("requires_private", [it for it in hidden if it.where == "requires"]), requires_private)
