@@ -9,6 +9,8 @@ check alone would surely give the same:
 
 Every other check has to run alone.
 """
+from __future__ import annotations
+
 import os
 import re
 from collections.abc import Callable
@@ -17,8 +19,11 @@ from tools import records as dataclasses
 from tools.asking.checks import (BUILTIN_TEST, DECLARED_BEFORE, GREATEST, MAIN_OF, NUMBERS, OF_ARGUMENT, STUB, arguments_of,
                                  names_of_function, words_to_try)
 from tools.asking.compiler import MAIN, Compiler, Flags
+from tools.asking.evidence import at_work
+from tools.asking.stamps import Evidence
 
 DIGITS = 19  # of a number
+WARNS = "-Wl,--warn-unresolved-symbols"
 ROUNDS = 4  # compilations of one bundle: each leaves out what the one before has refused
 # Patterns are texts: each is compiled when it is used first, and a run whose answers are kept uses none.
 WORD = r"[A-Za-z_]\w*"
@@ -179,9 +184,24 @@ class Unit:
         self.flags = dataclasses.replace(flags, args=(*flags.args, *every_error))
         self.missing: list[Check] = []  # refused by an error that names what is missing
         self.has_no_header = False  # a header before all checks is missing
+        self.none = ""  # a function that is nowhere
 
     def name(self, check: Check) -> str:
         return f"{self.mark}_{self.bundle.index(check)}"
+
+    def linked(self, source: Callable[[list[Check], Unit], str]) -> list[Check]:
+        """Returns the checks that are linked together. The linker only warns of what is missing, so it names all at once, and also a
+        function that is surely missing: if it doesn't warn of that one, the link shows nothing."""
+        lenient = Unit(self.compiler, self.bundle, dataclasses.replace(self.flags, link_args=(*self.flags.link_args, WARNS)))
+        lenient.none = f"{lenient.mark}_none"
+        accepted, _ = lenient.accepted("link", lambda left: source(left, lenient))
+        self.missing, self.has_no_header = lenient.missing, lenient.has_no_header
+        if accepted and self.flags == Flags(tuple(self.compiler.standard)):
+            self.compiler.note_trial(at_work() or Evidence())
+        if accepted or len(self.missing) == len(self.bundle):
+            return accepted
+        self.missing = []
+        return self.accepted("link", lambda left: source(left, self))[0]
 
     def accepted(self, mode: str, source: Callable[[list[Check]], str]) -> tuple[list[Check], bytes]:
         """Returns the checks that are accepted together, and what is made of them."""
@@ -191,7 +211,11 @@ class Unit:
                 break
             done = self.compiler.attempt(mode, source(left), self.flags, hears=True, reads=True)
             if done.is_good:
-                return left, done.made
+                warned = set(re.findall(UNDEFINED, done.said))
+                if self.none and self.none not in warned:
+                    break
+                self.missing += [it for it in left if argument_of(it) in warned]
+                return [it for it in left if argument_of(it) not in warned], done.made
             refused = self.refused(done.said)
             if not refused:
                 break
@@ -268,17 +292,20 @@ def ask_numbers(unit: Unit, method: str, before: str) -> Answers:
 def ask_functions(unit: Unit, before: str) -> Answers:
     is_declared = "#include" in before
 
-    def block(check: Check) -> str:
+    def block(part: Unit, check: Check) -> str:
         a = argument_of(check)
         declares = "" if is_declared else f"#undef {a}\nchar {a} (void);"
-        return unit.lines(check, declares + STUB.format(a=a) + f"int {unit.name(check)}(void) {{ {MAIN_OF[is_declared].format(a=a)} }}")
+        return part.lines(check, declares + STUB.format(a=a) + f"int {part.name(check)}(void) {{ {MAIN_OF[is_declared].format(a=a)} }}")
 
-    def source(left: list[Check]) -> str:
+    def source(left: list[Check], part: Unit) -> str:
         hidden = "" if is_declared else "".join(f"#define {argument_of(it)} no_{argument_of(it)}\n" for it in left)
-        called = " + ".join(f"{unit.name(it)}()" for it in left)
-        return hidden + DECLARED_BEFORE.format(prefix=before) + "".join(map(block, left)) + f"int main(void) {{ return {called}; }}"
+        names = [*map(part.name, left), *filter(None, [part.none])]
+        declared = f"int {part.none}(void);\n" if part.none else ""
+        called = " + ".join(f"{it}()" for it in names)
+        blocks = "".join(block(part, it) for it in left)
+        return f"{hidden}{DECLARED_BEFORE.format(prefix=before)}{blocks}{declared}int main(void) {{ return {called}; }}"
 
-    accepted, _ = unit.accepted("link", source)
+    accepted = unit.linked(source)
     if unit.has_no_header:
         return dict.fromkeys(unit.missing, False)
     return {**dict.fromkeys(accepted, True), **(ask_builtins(unit, before) if unit.missing else {})}
