@@ -26,21 +26,15 @@ class Kit:
             words += ["--extern", f"{name}={below.get(name, self.folder / 'rlibs' / f'{name}.rlib')}"]
         return words
 
-    def check(self, crate: Crate, root: str, processors: int, below: dict[str, pathlib.Path] | None = None) -> list[str]:
-        """Returns the command that proves a crate, whose root file this is, by so many processors. `below` has the libraries of this
-        repository by their names, in place of those of LIBRARIES."""
+    def build(self, crate: Crate, processors: int, below: dict[str, pathlib.Path] | None = None) -> list[str]:
+        """Returns the command that proves a crate by so many processors and, if it is proved, writes its statements, or the code of
+        the program or of the library for C. `below` has the libraries of this repository by their names, in place of those of LIBRARIES."""
+        root = "src/main.rt" if crate.name == PROGRAM else "src/lib.rt"
         below = below or {name: LIBRARIES / f"{name}.rlib" for name in sorted(crate.below)}
-        words = [f"{self.folder}/bin/rattle", "check", "--crate-name", crate.name, root, *self.libraries(crate, below)]
+        words = [f"{self.folder}/bin/rattle", "build", "--crate-name", crate.name, root, *self.libraries(crate, below)]
         words += ["--antt-project", f"{self.folder}/rattle/logic/antt-project.json", "--logic-built", f"{self.folder}/logic_built"]
         # No crate has C code.
-        return [*words, "--links", f"{crate.name}=", "--jobs", str(processors)]
-
-    def build(self, crate: Crate, processors: int, below: dict[str, pathlib.Path] | None = None) -> list[str]:
-        """Returns the command that proves a crate and, if it is proved, writes its statements, or the code of the program or of the library
-        for C."""
-        root = "src/main.rt" if crate.name == PROGRAM else "src/lib.rt"
-        words = self.check(crate, root, processors, below)
-        words[1] = "build"
+        words += ["--links", f"{crate.name}=", "--jobs", str(processors)]
         if crate.name not in MADE:
             return [*words, "--statements", "-o", f"{crate.made}"]
         words += ["--toolchain", f"{self.folder}/toolchain", "--backend", "llvm"]
