@@ -1,4 +1,5 @@
 -- Defines which values of the language configuration data can contain.
+use Prim.Native.Char.{code}
 use Rattle.std.specs.Prelude.{ℕ, ◌==◌, List, [], ◌∷◌, Option, Some, None, option_map, unwrap_or, Result, Ok, Err, if◌then◌else◌}
 use Rattle.arguments.specs.Said.{Said, ◌>>=◌, found_value, kept_rule}
 use Rattle.arguments.specs.declared.rule.Rule.TheVariants as rules
@@ -50,13 +51,13 @@ data_with said = do
 -- Returns the text before a quote that is its last byte.
 abbrev pub before_quote : List ℕ → Option (List ℕ)
 before_quote [] = None
-before_quote (b ∷ []) = if b == 34 then Some [] else None
+before_quote (b ∷ []) = if b == code "\"" then Some [] else None
 before_quote (b ∷ c ∷ t) = option_map (λ u. b ∷ u) (before_quote (c ∷ t))
 
 -- Returns a text without its first and last byte if both are quotes, and unchanged otherwise.
 abbrev pub unquoted_text : List ℕ → List ℕ
 unquoted_text [] = []
-unquoted_text (b ∷ t) = if b == 34 then unwrap_or (before_quote t) (b ∷ t) else b ∷ t
+unquoted_text (b ∷ t) = if b == code "\"" then unwrap_or (before_quote t) (b ∷ t) else b ∷ t
 
 -- Returns a text with its quotes kept or removed.
 abbrev pub given_text : Quotes → List ℕ → List ℕ

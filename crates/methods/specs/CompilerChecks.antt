@@ -1,5 +1,6 @@
 -- Defines the checks of the compiler, and `find_library`.
-use Rattle.std.specs.Prelude.{ℕ, Bool, true, false, List, [], ◌∷◌, ◌++◌, Option, Some, None, Result, Ok, Err, option_and_then, codes}
+use Rattle.std.specs.Prelude.{ℕ, Bool, false, List, [], ◌∷◌, ◌++◌, Option, Some, None, Result, Ok, Err, option_and_then, codes}
+use Rattle.std.specs.Prelude.{if◌then◌else◌}
 use Rattle.arguments.specs.Arguments.{ArgumentsData}
 use Rattle.values.specs.Flat.{flat_all}
 use Rattle.arguments.specs.Given.{argument, requirement, text_at}
@@ -52,8 +53,8 @@ library_argument name = codes "-l" ++ name
 
 -- Returns the dependency for a library: it has no version, and one linker argument.
 abbrev pub library : Bool → List ℕ → Result Dependency OperationRefusal
-library true name = found_dependency name (codes "unknown") [] (library_argument name ∷ [])
-library false name = missing_dependency name
+library is_there name =
+    if is_there then found_dependency name (codes "unknown") [] (library_argument name ∷ []) else missing_dependency name
 
 -- Returns a dependency as a value.
 abbrev pub dependency_data : Result Dependency OperationRefusal → Result Data OperationRefusal

@@ -1,5 +1,5 @@
 -- Defines which value a list and a value of a machine file give an option.
-use Rattle.std.specs.Prelude.{ℕ, Bool, true, false, codes, List, [], ◌∷◌, ◌++◌, Option, Some}
+use Rattle.std.specs.Prelude.{ℕ, Bool, true, false, codes, List, [], ◌∷◌, ◌++◌, Option, Some, if◌then◌else◌}
 use Rattle.std.specs.Fmt.{signed_decimal}
 use Rattle.machine_file.specs.Values as machine
 use Rattle.option_values.specs.Kinds as kind
@@ -24,8 +24,7 @@ value_of_items k items = value_of k (printed_list items)
 
 -- Returns the text `true` or `false`, as an option of type `boolean` takes it.
 abbrev pub boolean_text : Bool → List ℕ
-boolean_text true = codes "true"
-boolean_text false = codes "false"
+boolean_text is_so = if is_so then codes "true" else codes "false"
 
 -- Returns the value that a value of a machine file gives an option of this kind: its printed form, except for lists.
 abbrev pub value_of_given : kind.Kind → machine.Value → Option value.Value

@@ -1,4 +1,5 @@
 -- Defines how a text is cut into words, as a shell does.
+use Prim.Native.Char.{code}
 use Rattle.std.specs.Prelude.{ℕ, Bool, ◌||◌, ◌==◌, List, [], ◌∷◌, ◌++◌, Option, Some, None, if◌then◌else◌}
 use Rattle.std.specs.Char.{encode_utf8}
 use Rattle.std.specs.Str.{chars}
@@ -8,7 +9,7 @@ use Rattle.option_values.specs.declared.words.ShellState.TheVariants as place
 
 -- Returns the code point of the double quote.
 abbrev pub double_quote : ℕ
-double_quote = 34
+double_quote = code "\""
 
 -- Returns whether the character separates words: a blank or a newline.
 abbrev pub parts_words : ℕ → Bool

@@ -10,7 +10,8 @@ use Rattle.values.specs.declared.object.Source.{Source}
 use Rattle.values.specs.declared.object.Source.TheVariants as source
 use Rattle.values.specs.declared.refusal.OperationRefusal.{OperationRefusal}
 use Rattle.build.specs.edge.Texts.{Path, Text}
-use Rattle.resources.specs.Found.{◌>>=◌, found_dependency}
+use Rattle.resources.specs.Found.{found_dependency}
+use Rattle.support.specs.ResultSteps.{◌>>=◌}
 use Rattle.values.specs.Copies.{within_texts}
 use Rattle.resources.specs.Joined.{dependencies_in, dependency_with_others}
 use Rattle.sources.specs.Outputs.{outputs_at}

@@ -1,16 +1,11 @@
 -- Defines the objects that `dependency` and `find_program` return.
-use Rattle.std.specs.Prelude.{ℕ, Bool, true, false, ◌&&◌, nat_le, List, [], ◌∷◌, length, Result, Ok, Err, codes, if◌then◌else◌}
+use Rattle.std.specs.Prelude.{ℕ, true, false, List, [], Result, Ok, codes}
+use Rattle.support.specs.ResultSteps.{◌>>=◌}
 use Rattle.values.specs.declared.object.Dependency.{Dependency}
 use Rattle.values.specs.declared.refusal.OperationRefusal.{OperationRefusal}
 use Rattle.values.specs.declared.refusal.OperationRefusal.TheVariants as refusal
 use Rattle.values.specs.Limits.{within_bytes}
-use Rattle.values.specs.Copies.{short_texts, within_texts}
-
-infixl 10 ◌>>=◌
--- Runs a step after another, unless that was refused.
-abbrev pub ◌>>=◌ : {A B : Type 0} → Result A OperationRefusal → (A → Result B OperationRefusal) → Result B OperationRefusal
-Ok x >>= f = f x
-Err e >>= f = Err e
+use Rattle.values.specs.Copies.{within_texts}
 
 -- Returns a dependency that has only arguments for the compiler and the linker.
 abbrev pub of_arguments : List ℕ → List ℕ → List (List ℕ) → List (List ℕ) → Dependency

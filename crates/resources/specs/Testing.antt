@@ -1,4 +1,5 @@
 -- Defines the arguments of `test`.
+use Prim.Native.Char.{code}
 use Rattle.std.specs.Prelude.{ℕ, ◌^◌, ℤ, pos, negsuc, Bool, nat_lt, List, [], ◌∷◌, ◌++◌, ◌==◌, Option, Some, Result, Ok, Err, codes}
 use Rattle.std.specs.Prelude.{if◌then◌else◌}
 use Rattle.std.specs.List.{list_any}
@@ -38,7 +39,7 @@ assigned_behind ts (n ∷ ns) (item d ds) = do
 
 -- Holds if a text has a name and a value, either of which may be empty.
 abbrev pub is_assignment : List ℕ → Bool
-is_assignment text = list_any (λ b. b == 61) text
+is_assignment text = list_any (λ b. b == code "=") text
 
 -- Checks that each text has a name and a value. The first one that has none breaks a rule.
 abbrev pub are_assignments : List (List ℕ) → Said (Unit {0})

@@ -1,4 +1,5 @@
 -- Defines the values of the placeholders of a custom target: `custom_target` of the page "Reference manual".
+use Prim.Native.Char.{code}
 use Rattle.std.specs.Prelude.{nat_lt, nat_eq, Bool, ◌==◌, ◌&&◌, List, [], ◌∷◌, ◌++◌, length, drop, slice_get, bytes_eq, codes}
 use Rattle.std.specs.Prelude.{Option, Some, None, option_map, if◌then◌else◌}
 use Rattle.std.specs.List.{list_all, starts_with, slice_split}
@@ -121,7 +122,7 @@ filled_parts m (p ∷ parts) = behind_text p (filled_behind m parts)
 
 -- Returns a text with its placeholders replaced from the left, without scanning the result again. Returns none if a placeholder is refused.
 abbrev pub filled_text : PlaceholderScope → PlaceData → Text → Option Text
-filled_text scope at text = filled_parts (meaning_of_name scope at) (slice_split (λ b. b == 64) text)
+filled_text scope at text = filled_parts (meaning_of_name scope at) (slice_split (λ b. b == code "@") text)
 
 -- ---- arguments
 

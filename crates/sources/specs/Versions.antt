@@ -1,4 +1,5 @@
 -- Defines the keyword `version` of a shared library: one to three numbers separated by dots.
+use Prim.Native.Char.{code}
 use Rattle.std.specs.Prelude.{ℕ, nat_le, nat_lt, Bool, ◌&&◌, ◌==◌, List, length}
 use Rattle.std.specs.Char.{is_ascii_digit}
 use Rattle.std.specs.List.{list_all, slice_split}
@@ -13,4 +14,4 @@ are_numbers parts = nat_le (length parts) 3 && list_all is_number parts
 
 -- Holds if a text is one to three numbers separated by dots.
 abbrev pub is_library_version : List ℕ → Bool
-is_library_version t = are_numbers (slice_split (λ b. b == 46) t)
+is_library_version t = are_numbers (slice_split (λ b. b == code ".") t)

@@ -1,4 +1,5 @@
 -- Defines how definition files are read: from bytes to statements.
+use Prim.Native.Char.{code}
 use Rattle.std.specs.Prelude.{ℕ, ◌+◌, Bool, true, false, List, [], take, count_by, nat_eq, nat_le, length, Result, Ok, Err, refl}
 use Rattle.std.specs.Str.{is_utf8}
 use Rattle.std.specs.Str.Lossy.{utf8_valid_len}
@@ -19,7 +20,7 @@ most_bytes = text_bytes
 
 -- Returns the line of the byte at an offset.
 abbrev pub line_at : List ℕ → ℕ → ℕ
-line_at bytes at = 1 + count_by (nat_eq 10) (take at bytes)
+line_at bytes at = 1 + count_by (nat_eq (code "\n")) (take at bytes)
 
 -- Returns the refusal for a kind of syntax fault.
 abbrev pub refusal_of : FaultKind → Refusal
