@@ -30,25 +30,6 @@ fn insert_new<'p>(
     Ok(None)
 }
 
-// Inserts the paths of both lists up to the first that is in the set, and returns that one.
-fn insert_both<'p>(
-    paths: &mut SipSet<String>,
-    these: &'p [String],
-    others: &'p [String],
-) -> Result<Option<&'p str>, AllocError>
-    ensures tested { IfOk result (λ taken. option_map (λ p. p.now) taken
-        ≡ first_taken (texts paths.old.keys) (texts these.now ++ texts others.now)) }
-    ensures added { IfOk result (λ taken. taken ≡ None → texts paths.new.keys
-        ≡ texts paths.old.keys ++ (texts these.now ++ texts others.now)) }
-    ensures begins { IsFront paths.old.keys paths.new.keys }
-{
-    match insert_new(paths, these) {
-        Ok(None) => insert_new(paths, others),
-        Ok(Some(path)) => Ok(Some(path)),
-        Err(refused) => Err(refused),
-    }
-}
-
 /// Returns the first path of both lists that is in the set or occurs twice.
 ///
 /// If there is none and `keep` is true, all paths are added. Otherwise the set stays unchanged.
@@ -65,20 +46,14 @@ pub fn claim<'p>(
     ensures err { OnErr result (paths.new.keys ≡ paths.old.keys) }
 {
     let mark = paths.len();
-    match insert_both(paths, these, others) {
-        Ok(None) => {
-            if !keep {
-                paths.truncate(mark);
-            }
-            Ok(None)
-        }
-        Ok(Some(path)) => {
-            paths.truncate(mark);
-            Ok(Some(path))
-        }
-        Err(refused) => {
-            paths.truncate(mark);
-            Err(refused)
-        }
+    let taken = match insert_new(paths, these) {
+        Ok(None) => insert_new(paths, others),
+        Ok(Some(path)) => Ok(Some(path)),
+        Err(refused) => Err(refused),
+    };
+    let is_free = matches!(taken, Ok(None));
+    if !(is_free && keep) {
+        paths.truncate(mark);
     }
+    taken
 }
