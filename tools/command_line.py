@@ -125,7 +125,7 @@ class Parser:
     def store(self, given: Given, option: Option, text: str) -> None:
         if option.action == "help":
             show(help_as_called(self.format_help()))
-            sys.exit(0)
+            raise Stop("", 0)
         try:
             value = True if option.action == "store_true" else option.const if option.action == "append_const" else option.type(text)
         except ValueError:

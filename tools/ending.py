@@ -95,10 +95,15 @@ def let_pass(number: int, frame: FrameType | None) -> None:
     """Does nothing. With SIG_IGN the interpreter would complain of a signal that has come and was not yet handled."""
 
 
+def let_signals_pass() -> None:
+    """Has no signal interrupt what follows: the work is done, or is being cleaned up."""
+    for number in SIGNALS:
+        signal.signal(number, let_pass)
+
+
 def interrupt(number: int, frame: FrameType | None) -> NoReturn:
     """Ends the script; from here on no signal interrupts what is being cleaned up."""
-    for other in SIGNALS:
-        signal.signal(other, let_pass)
+    let_signals_pass()
     raise KeyboardInterrupt
 
 
@@ -115,6 +120,7 @@ def run_script(script: str, main: Callable[[], int], failed: int) -> NoReturn:
     heed_signals()
     try:
         status = main()
+        let_signals_pass()
     except Stop as stop:
         if stop.why:
             say(script, stop.why)
@@ -135,4 +141,5 @@ def run_script(script: str, main: Callable[[], int], failed: int) -> NoReturn:
     except RecursionError:
         say(script, "what it was given is nested too deeply")
         status = failed
+    let_signals_pass()  # the interpreter would print a traceback while it ends
     sys.exit(status)

@@ -1,5 +1,6 @@
 -- Defines the statement trees of a list of nodes, and the file that code means.
-use Rattle.std.specs.Prelude.{ℕ, ◌+◌, Bool, true, false, ◌&&◌, nat_lt, List, [], ◌∷◌, ◌++◌, map, fold, slice_index_or, Option, Some, None}
+use Rattle.std.specs.Prelude.{ℕ, ◌+◌, Bool, true, ◌&&◌, nat_lt, List, [], ◌∷◌, ◌++◌, map, fold, slice_index_or, Option, Some, None}
+use Rattle.std.specs.Prelude.{if◌then◌else◌}
 use Rattle.std.specs.List.{list_all}
 use Rattle.std.specs.Option.{option_map}
 use Rattle.syntax.specs.ExpressionTree.{ExpressionTree}
@@ -45,8 +46,7 @@ statement_trees names ts nodes = fold (with_statement names ts) [] nodes
 
 -- Returns the node that assigns a value to a name, or adds one to its value.
 abbrev pub set_node : Bool → ℕ → ℕ → ℕ → StatementNode
-set_node true name line value = flat.Append name line value
-set_node false name line value = flat.Assign name line value
+set_node appends name line value = if appends then flat.Append name line value else flat.Assign name line value
 
 -- ---- Tests: all parts are among the first n statements, expressions among the first m, and names among the first k.
 
