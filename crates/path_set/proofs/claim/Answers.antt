@@ -26,11 +26,11 @@ returns-then-not-keep-clause-tested c =
     let these = texts c.args.these.now in
     let others = texts c.args.others.now in
     elim c.match-insert_new.branch [
-      in-Ok-None w ↦ tested_then old these others w.taken-is (told_none _ w.in-Ok-None.ensures.tested w.in-Ok-None.field-0-is)
-        (w.in-Ok-None.ensures.added w.in-Ok-None.field-0-is) w.insert_new-taken.ensures.tested
-    | in-Ok-Some w ↦ tested_as (first_taken old (these ++ others)) w.taken-is
-        (sym (taken_first old these others w.in-Ok-Some.path.now (sym (told_path _ w.in-Ok-Some.ensures.tested w.in-Ok-Some.field-0-is))))
-    | in-Err w ↦ tested_as (first_taken old (these ++ others)) w.taken-is tt
+      | in-Ok-None w ↦ tested_then old these others w.taken-is (told_none _ w.in-Ok-None.ensures.tested w.in-Ok-None.field-0-is)
+          (w.in-Ok-None.ensures.added w.in-Ok-None.field-0-is) w.insert_new-taken.ensures.tested
+      | in-Ok-Some w ↦ tested_as (first_taken old (these ++ others)) w.taken-is
+          (sym (taken_first old these others w.in-Ok-Some.path.now (sym (told_path _ w.in-Ok-Some.ensures.tested w.in-Ok-Some.field-0-is))))
+      | in-Err w ↦ tested_as (first_taken old (these ++ others)) w.taken-is tt
     ]
 
 pub returns-else-not-keep-clause-tested : goal.returns-else-not-keep-clause-tested
@@ -39,9 +39,9 @@ returns-else-not-keep-clause-tested c =
     let these = texts c.args.these.now in
     let others = texts c.args.others.now in
     elim c.match-insert_new.branch [
-      in-Ok-None w ↦ tested_then old these others w.taken-is (told_none _ w.in-Ok-None.ensures.tested w.in-Ok-None.field-0-is)
-        (w.in-Ok-None.ensures.added w.in-Ok-None.field-0-is) w.insert_new-taken.ensures.tested
-    | in-Ok-Some w ↦ tested_as (first_taken old (these ++ others)) w.taken-is
-        (sym (taken_first old these others w.in-Ok-Some.path.now (sym (told_path _ w.in-Ok-Some.ensures.tested w.in-Ok-Some.field-0-is))))
-    | in-Err w ↦ tested_as (first_taken old (these ++ others)) w.taken-is tt
+      | in-Ok-None w ↦ tested_then old these others w.taken-is (told_none _ w.in-Ok-None.ensures.tested w.in-Ok-None.field-0-is)
+          (w.in-Ok-None.ensures.added w.in-Ok-None.field-0-is) w.insert_new-taken.ensures.tested
+      | in-Ok-Some w ↦ tested_as (first_taken old (these ++ others)) w.taken-is
+          (sym (taken_first old these others w.in-Ok-Some.path.now (sym (told_path _ w.in-Ok-Some.ensures.tested w.in-Ok-Some.field-0-is))))
+      | in-Err w ↦ tested_as (first_taken old (these ++ others)) w.taken-is tt
     ]
