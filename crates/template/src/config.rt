@@ -45,7 +45,7 @@ impl Clone for ConfigValue {
 #[derive(Clone, Copy, Debug, Error)]
 pub enum SetStop {
     /// E20: the data is frozen, because an output was made with it.
-    #[error("frozen configuration data")]
+    #[error("E20 frozen configuration data")]
     Frozen,
     #[error("out of memory")]
     Memory,

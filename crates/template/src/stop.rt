@@ -9,10 +9,10 @@ use thiserror::Error;
 #[derive(Clone, Copy, Debug, PartialEq, Eq, Error)]
 pub enum PassStop {
     /// E19: the line with this number begins with `#mesondefine` and does not define a name.
-    #[error("template: line {0}")]
+    #[error("E19 template: line {0}")]
     Template(u64),
     /// E22: the line with this number is longer than the limit.
-    #[error("limit: line {0}")]
+    #[error("E22 limit: line {0}")]
     Limit(u64),
     /// The tree or the outputs failed.
     #[error("a device failed")]
