@@ -10,8 +10,10 @@ from collections.abc import Iterator
 
 from tests.workshop import check
 from tools.asking.bundles import Check, ask_together, bundles_of
+from tools.asking.cache import Cache
 from tools.asking.checks import answer
 from tools.asking.compiler import MAIN, Compiler, Flags
+from tools.asking.evidence import gathered
 from tools.asking.links import flags_to_link, link_together
 from tools.asking.processes import end_all
 from tools.parallel import side_by_side
@@ -60,7 +62,7 @@ def compilers(scratch: str) -> Iterator[tuple[str, Compiler]]:
     """Yields each installed compiler with its name."""
     for name in filter(shutil.which, ("gcc", "clang")):
         old, os.environ["CC"] = os.environ.get("CC"), name
-        compiler = Compiler(scratch, scratch)
+        compiler = Compiler(scratch, scratch, Cache(os.path.join(scratch, "answers.json")))
         os.environ.pop("CC")
         if old is not None:
             os.environ["CC"] = old
@@ -74,12 +76,18 @@ def test_both_ways() -> None:
                 ask_both_ways(name, compiler, flags)
 
 
+def together(compiler: Compiler, bundle: list[Check]) -> dict[Check, bool | int]:
+    """Returns what a bundle settles, while it notes what the answers depend on."""
+    with gathered():
+        return ask_together(compiler, bundle)
+
+
 def ask_both_ways(name: str, compiler: Compiler, flags: Flags) -> None:
     of_words = lambda key: key.startswith("has_argument ")
     checks = [Check(key, prefix, Flags() if of_words(key) else flags) for prefix, keys in KEYS.items() for key in dict.fromkeys(keys)
               if flags == Flags() or not of_words(key)]
     bundles, _ = bundles_of(checks)
-    settled = {it: answered for some in side_by_side(lambda it: ask_together(compiler, it), bundles, None, end_all)
+    settled = {it: answered for some in side_by_side(lambda it: together(compiler, it), bundles, None, end_all)
                for it, answered in some.items()}
     alone = side_by_side(lambda it: answer(compiler, it.key, it.prefix, it.flags), list(settled), None, end_all)
     wrong = {it: answered for it, answered in zip(settled, alone) if settled[it] != answered}

@@ -22,6 +22,8 @@ MISSING = r"fatal error: '?([^:'\n]+)'?(?:: No such file or directory| file not 
 OPENED = r"(?m)^attempt to open (/.*) (succeeded|failed)$"
 LINKER_RAN = r"ld returned \d+ exit status|linker command failed"
 BAD_OPTION = r"\bld(?:\.\w+)?: unrecognized option "  # with which it opens no file
+# What GCC adds to the headers: paths, after which the linker may say something.
+UNGUARDED = r"(?m)^Multiple include guards may be useful for:\n(?:[^:\n]*\n)*"
 GATHERS: dict[int, Evidence] = {}  # by thread: the evidence of the question that it answers
 
 
@@ -55,7 +57,7 @@ def add_evidence(other: Evidence) -> None:
 
 def cut_headers(said: str) -> tuple[str, list[tuple[int, str]]]:
     """Returns what the compiler prints apart from the headers that it reads, and these headers with their depths."""
-    said = said.partition("Multiple include guards may be useful for:\n")[0]
+    said = re.sub(UNGUARDED, "", said)
     headers = [(len(dots), path) for dots, path in re.findall(r"^(\.+) (.*)$", said, re.M) if path != os.devnull]
     return re.sub(r"^\.+ .*\n?", "", said, flags=re.M), headers
 
