@@ -1,10 +1,8 @@
 -- Defines which dependency the machine file has.
-use Rattle.std.specs.Prelude.{ℕ, Bool, true, ◌&&◌, List, [], ◌∷◌, Option, Some, None, Result, Ok}
+use Rattle.std.specs.Prelude.{ℕ, Bool, true, ◌&&◌, List, [], ◌∷◌, Option, Some, None, Result}
 use Rattle.std.specs.Prelude.{unwrap_or, option_and_then, option_map, codes, if◌then◌else◌}
-use Rattle.std.specs.Result.{result_map_both}
 use Rattle.values.specs.declared.object.Dependency.{Dependency}
 use Rattle.values.specs.declared.refusal.OperationRefusal.{OperationRefusal}
-use Rattle.values.specs.Copies.{within_texts}
 use Rattle.resources.specs.Found.{found_dependency}
 use Rattle.machine_file.specs.Files.{Entry}
 use Rattle.machine_file.specs.Lookups.{entry_at}
@@ -36,19 +34,9 @@ abbrev pub said_dependency : List ℕ → List Entry → Result Dependency Opera
 said_dependency name entries =
     found_dependency name (said_version entries) (said_texts (codes "compile_args") entries) (said_texts (codes "link_args") entries)
 
--- Returns the dependency that a section describes, and none without a section.
-abbrev pub dependency_of_section : List ℕ → Option (List Entry) → Result (Option Dependency) OperationRefusal
-dependency_of_section name None = Ok None
-dependency_of_section name (Some entries) = result_map_both (λ d. Some d) (λ refusal. refusal) (said_dependency name entries)
-
 -- Returns the dependency with a name if an answer has a section whose version meets all conditions.
-abbrev pub dependency_that_fits : List (List ℕ) → List ℕ → Answer → Result (Option Dependency) OperationRefusal
-dependency_that_fits conditions name answer = dependency_of_section name (kept_if_met conditions (entries_of_answer answer))
-
--- Returns words that are within the limits of a list and of a text, and otherwise the refusal.
-abbrev pub words_within : Option (List (List ℕ)) → Result (Option (List (List ℕ))) OperationRefusal
-words_within None = Ok None
-words_within (Some words) = result_map_both (λ within. Some within) (λ refusal. refusal) (within_texts words)
+abbrev pub dependency_that_fits : List (List ℕ) → List ℕ → Answer → Option (Result Dependency OperationRefusal)
+dependency_that_fits conditions name answer = option_map (said_dependency name) (kept_if_met conditions (entries_of_answer answer))
 
 -- Returns the command of a program in an answer.
 abbrev pub program_words : Answer → Option (List (List ℕ))
