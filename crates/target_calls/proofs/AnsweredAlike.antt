@@ -16,7 +16,7 @@ use Rattle.build.specs.project.Refused.{RefusedData, refusal_for_text}
 use Rattle.build.specs.project.Unheld.{unheld_path, unheld_paths, unheld_source, unheld_sources, unheld_text, unheld_word_if, unheld_words, ◌or◌}
 use Rattle.build.specs.project.World.{WorldData, made_in, taken_in}
 use Rattle.build.specs.target_edges.Parts.{custom_held, depfile_held, source_held}
-use Rattle.build.specs.declared.project.refusal.ProjectRefusal.TheVariants.{Arguments, Missing, Unholdable, Limit}
+use Rattle.support.specs.declared.faults.refusal.Refusal.TheVariants.{Arguments, FileMissing, NinjaName, Limit}
 use Rattle.build.proofs.HoldingCustom.{custom_are_held}
 use Rattle.target_calls.specs.CustomInstalls.{installed_names}
 use Rattle.target_calls.specs.FitBreaches.{fit_breach}
@@ -84,8 +84,8 @@ answer_for w fit present writable within taken unheld =
     if fit then
     (if present then
     (if writable then unless_taken taken (if within then Ok (length w.targets) else Err (refusal_for_text Limit []))
-    else Err (refusal_for_text Unholdable unheld))
-    else Err (refusal_for_text Missing []))
+    else Err (refusal_for_text NinjaName unheld))
+    else Err (refusal_for_text FileMissing []))
     else Err (refusal_for_text Arguments [])
 
 abbrev taken_for : WorldData → CustomData → Option Path
