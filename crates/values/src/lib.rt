@@ -16,6 +16,7 @@ mod flat_texts;
 mod flatten;
 pub mod language_names;
 mod laws;
+mod long_text;
 mod object;
 pub mod printing;
 mod refusal;

@@ -1,9 +1,12 @@
 //! Defines texts, the strings of the language, with their limited length, and lists of texts.
 
-ghost use Rattle.std.specs.Prelude.{◌≡◌, ◌++◌, ◌∷◌, [], ◌≤◌, length, OnOk, OnErr, IfOk, IfSome, string_bytes};
+ghost use Rattle.std.specs.Prelude.{◌≡◌, ◌++◌, ◌∷◌, [], ◌≤◌, length, OnOk, OnErr, IfOk, IfSome, slice_get, string_bytes};
+ghost use Rattle.std.specs.Bool.{OnTrue};
+ghost use Rattle.std.specs.Str.{chars, IsAscii};
 ghost use Rattle.values.specs.Limits.{within_bytes, Appends};
 ghost use Rattle.support.specs.Limits.{text_bytes};
 
+use crate::long_text::{Long, are_ascii, ascii_char_at};
 use crate::refusal::OperationRefusal;
 use crate::short_text::{SHORT_BYTES, Short};
 use std::alloc::{AllocError, Global};
@@ -24,7 +27,7 @@ pub struct Text {
 #[derive(Drop)]
 enum Kept {
     Short(Short),
-    Long(Rc<String>),
+    Long(Rc<Long>),
 }
 
 impl Debug for Text {
@@ -62,7 +65,7 @@ impl Text {
         if string.len() > TEXT_BYTES {
             return Ok(Err(OperationRefusal::Limit));
         }
-        let kept = Kept::Long(Rc::new(alloc, string)?);
+        let kept = Kept::Long(Rc::new(alloc, Long::new(string))?);
         Ok(Ok(Text { kept }))
     }
 
@@ -115,7 +118,41 @@ impl Text {
     {
         match &self.kept {
             Kept::Short(short) => short.as_str(),
-            Kept::Long(string) => string.as_str(),
+            Kept::Long(long) => long.as_str(),
+        }
+    }
+
+    /// Returns the number of characters. It takes one step if all bytes are ASCII, and otherwise reads the text.
+    pub fn char_count(&self) -> usize
+        ensures { result ≡ length (chars self.now) }
+    {
+        let text = self.as_str();
+        if self.is_ascii() {
+            return text.len();
+        }
+        text.chars().count()
+    }
+
+    /// Returns the character at a position that counts characters, and `None` past the end. It takes one step if all bytes are ASCII, and
+    /// otherwise reads the text up to there.
+    pub fn char_at(&self, at: usize) -> Option<char>
+        ensures { result ≡ slice_get (chars self.now) at }
+    {
+        let text = self.as_str();
+        if self.is_ascii() {
+            return ascii_char_at(text, at);
+        }
+        text.chars().nth(at)
+    }
+
+    // Returns whether it is known that all bytes are ASCII.
+    #[inline(always)]
+    pub(crate) fn is_ascii(&self) -> bool
+        ensures { OnTrue result (IsAscii self.now) }
+    {
+        match &self.kept {
+            Kept::Short(short) => are_ascii(short.as_str().as_bytes()),
+            Kept::Long(long) => long.is_ascii(),
         }
     }
 
@@ -161,9 +198,9 @@ impl Text {
         if count > TEXT_BYTES {
             return Ok(Err(OperationRefusal::Limit));
         }
-        if let Kept::Long(string) = &mut self.kept {
-            if let Some(own) = Rc::get_mut(string) {
-                own.push_str(piece)?;
+        if let Kept::Long(long) = &mut self.kept {
+            if let Some(own) = Rc::get_mut(long) {
+                own.push(piece)?;
                 return Ok(Ok(()));
             }
         }
@@ -172,20 +209,20 @@ impl Text {
     }
 }
 
-// Returns a string of two pieces, with capacity for `count` bytes.
-fn joined(alloc: Global, count: usize, first: &str, second: &str) -> Result<Rc<String>, AllocError>
-    ensures { IfOk result (λ s. string_bytes s.value ≡ first.now ++ second.now) }
+// Returns a text of two pieces, with capacity for `count` bytes.
+fn joined(alloc: Global, count: usize, first: &str, second: &str) -> Result<Rc<Long>, AllocError>
+    ensures { IfOk result (λ s. s.value ≡ first.now ++ second.now) }
 {
-    let mut string = String::with_capacity(alloc, count)?;
-    push_both(&mut string, first, second)?;
-    Ok(Rc::new(alloc, string)?)
+    let mut long = Long::new(String::with_capacity(alloc, count)?);
+    push_both(&mut long, first, second)?;
+    Ok(Rc::new(alloc, long)?)
 }
 
-fn push_both(string: &mut String, first: &str, second: &str) -> Result<(), AllocError>
-    ensures { OnOk result (string_bytes string.new ≡ string_bytes string.old ++ (first.now ++ second.now)) }
+fn push_both(long: &mut Long, first: &str, second: &str) -> Result<(), AllocError>
+    ensures { OnOk result (long.new ≡ long.old ++ (first.now ++ second.now)) }
 {
-    string.push_str(first)?;
-    string.push_str(second)
+    long.push(first)?;
+    long.push(second)
 }
 
 impl Clone for Text {
@@ -197,7 +234,7 @@ impl Clone for Text {
     fn clone(&self) -> Result<Text, AllocError> {
         let kept = match &self.kept {
             Kept::Short(short) => Kept::Short(short.copy()),
-            Kept::Long(string) => Kept::Long(string.clone()?),
+            Kept::Long(long) => Kept::Long(long.clone()?),
         };
         Ok(Text { kept })
     }

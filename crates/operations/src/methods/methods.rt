@@ -31,7 +31,7 @@ pub fn method(
         Value::Integer(integer) => integer_method(alloc, *integer, name, arguments),
         Value::List(list) => list_method(list, name, arguments),
         Value::Dictionary(dictionary) => dictionary_method(alloc, dictionary, name, arguments),
-        Value::Text(text) => text_method(alloc, text.as_str(), name, arguments),
+        Value::Text(text) => text_method(alloc, text, name, arguments),
         Value::Object(_) => Err(MethodStop::Refused(OperationRefusal::UnknownMethod)),
     };
     match answer {

@@ -22,29 +22,30 @@ use values::{OperationRefusal, Text, Value};
 /// of the method.
 pub fn text_method(
     alloc: Global,
-    text: &str,
+    text: &Text,
     name: &MethodName,
     arguments: &[Value],
 ) -> Result<Value, MethodStop>
     ensures { Gives (answer text.now name.now (map data_of arguments.now)) result }
 {
     let method = name.of_text().ok_or(OperationRefusal::UnknownMethod)?;
+    let string = text.as_str();
     match method {
-        TextMethod::Contains => contains(text, arguments),
-        TextMethod::StartsWith => starts_with(text, arguments),
-        TextMethod::EndsWith => ends_with(text, arguments),
-        TextMethod::Format => format(alloc, text, arguments),
-        TextMethod::Join => join(alloc, text, arguments),
-        TextMethod::Replace => replace(alloc, text, arguments),
-        TextMethod::Split => split(alloc, text, arguments),
-        TextMethod::SplitLines => split_lines(alloc, text, arguments),
-        TextMethod::Strip => strip(alloc, text, arguments),
+        TextMethod::Contains => contains(string, arguments),
+        TextMethod::StartsWith => starts_with(string, arguments),
+        TextMethod::EndsWith => ends_with(string, arguments),
+        TextMethod::Format => format(alloc, string, arguments),
+        TextMethod::Join => join(alloc, string, arguments),
+        TextMethod::Replace => replace(alloc, string, arguments),
+        TextMethod::Split => split(alloc, string, arguments),
+        TextMethod::SplitLines => split_lines(alloc, string, arguments),
+        TextMethod::Strip => strip(alloc, string, arguments),
         TextMethod::Substring => substring(alloc, text, arguments),
-        TextMethod::ToInt => to_int(text, arguments),
-        TextMethod::ToLower => to_lower(alloc, text, arguments),
-        TextMethod::ToUpper => to_upper(alloc, text, arguments),
-        TextMethod::Underscorify => underscorify(alloc, text, arguments),
-        TextMethod::VersionCompare => version_compare(text, arguments),
+        TextMethod::ToInt => to_int(string, arguments),
+        TextMethod::ToLower => to_lower(alloc, string, arguments),
+        TextMethod::ToUpper => to_upper(alloc, string, arguments),
+        TextMethod::Underscorify => underscorify(alloc, string, arguments),
+        TextMethod::VersionCompare => version_compare(string, arguments),
     }
 }
 
@@ -156,7 +157,7 @@ fn strip(alloc: Global, text: &str, arguments: &[Value]) -> Result<Value, Method
     value_of_slice(alloc, values::texts::strip_of(alloc, text, set.as_str())?)
 }
 
-fn substring(alloc: Global, text: &str, arguments: &[Value]) -> Result<Value, MethodStop>
+fn substring(alloc: Global, text: &Text, arguments: &[Value]) -> Result<Value, MethodStop>
     ensures { Gives (substring text.now (map data_of arguments.now)) result }
 {
     let (from, to) = bounds(arguments)?;

@@ -1,13 +1,12 @@
 //! Evaluates `whole[index]`: returns parts of values by index or key.
 
-ghost use Rattle.std.specs.Prelude.{◌≡◌, IfOk, length, option_map, ok_or, slice_get};
-ghost use Rattle.std.specs.Str.{chars};
+ghost use Rattle.std.specs.Prelude.{◌≡◌, IfOk, option_map, ok_or};
 ghost use Rattle.values.specs.declared.refusal.OperationRefusal.TheVariants as refusal;
 ghost use Rattle.values.specs.Prelude.{Answers, data_of};
 ghost use Rattle.operations.specs.operators.Index.{place, indexed_item, indexed_char, index_answer, char_text, output_outcome};
 
 use std::alloc::{AllocError, Global};
-use values::{List, Object, OperationRefusal, Value};
+use values::{List, Object, OperationRefusal, Text, Value};
 
 /// Returns `whole[index]`: an item of a list, a character of a text as a text, the value of a key of a dictionary, or an output of a custom
 /// target. Negative integers count from the end.
@@ -31,7 +30,7 @@ pub fn index(
         (Value::List(list), Value::Integer(index)) => found_value(indexed_item(list, *index)),
         (Value::Text(text), Value::Integer(index)) => text_of(
             alloc,
-            indexed_char(text.as_str(), *index),
+            indexed_char(text, *index),
         ),
         (Value::Dictionary(dictionary), Value::Text(key)) => found_value(dictionary.get(key)),
         (Value::Object(object), Value::Integer(index)) => match indexed_output(object, *index) {
@@ -63,27 +62,15 @@ pub fn indexed_item(list: &List, index: i128) -> Option<&Value>
     list.items().get(at)
 }
 
-// Returns the character at an index. For an index from the start the text is read only up to it, for any other the whole text.
-fn indexed_char(text: &str, index: i128) -> Option<char>
+// Returns the character at an index. The characters are counted only for a negative index.
+fn indexed_char(text: &Text, index: i128) -> Option<char>
     ensures { result ≡ indexed_char text.now index }
 {
     let at = match usize::try_from(index) {
         Ok(at) => at,
-        Err(_) => place(index, char_count(text))?,
+        Err(_) => place(index, text.char_count())?,
     };
-    char_at(text, at)
-}
-
-fn char_count(text: &str) -> usize
-    ensures { result ≡ length (chars text.now) }
-{
-    text.chars().count()
-}
-
-fn char_at(text: &str, at: usize) -> Option<char>
-    ensures { result ≡ slice_get (chars text.now) at }
-{
-    text.chars().nth(at)
+    text.char_at(at)
 }
 
 fn indexed_output(object: &Object, index: i128) -> Result<Object, OperationRefusal>

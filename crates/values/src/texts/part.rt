@@ -1,14 +1,40 @@
 //! Returns substrings by indexes that count characters.
 
 ghost use Rattle.std.specs.Prelude.{◌≡◌, ◌≤◌, ℕ, IfSome, length, drop, min, take};
-ghost use Rattle.std.specs.Str.{chars, encode_utf8_all};
+ghost use Rattle.std.specs.Str.{chars, encode_utf8_all, IsAscii};
 ghost use Rattle.values.specs.texts.Part.{part, place, place_or};
+
+use crate::text::Text;
 
 /// Returns the part of `text` from the character at `from` up to the one at `to`, without the latter.
 ///
 /// A negative index counts from the end, and both are clamped to the range. Without `from` the part begins at the start, without `to` it
 /// goes to the end. If the end is before the start, the part is empty.
-pub fn substring(text: &str, from: Option<i128>, to: Option<i128>) -> &str
+///
+/// In a text of ASCII bytes both places are found in one step. Another text is read up to them, and to its end for a negative index.
+pub fn substring(text: &Text, from: Option<i128>, to: Option<i128>) -> &str
+    ensures { result.now ≡ part from to text.now }
+{
+    if text.is_ascii() {
+        ascii_part(text.as_str(), from, to)
+    } else {
+        counted_part(text.as_str(), from, to)
+    }
+}
+
+// Returns the part of a text in which each character is one byte.
+fn ascii_part(text: &str, from: Option<i128>, to: Option<i128>) -> &str
+    requires { IsAscii text.now }
+    ensures { result.now ≡ part from to text.now }
+{
+    let count = text.len();
+    let start = place_or(from, count, 0);
+    let end = place_or(to, count, count).max(start);
+    &text[start..end]
+}
+
+// Returns the part of a text whose characters have to be counted.
+fn counted_part(text: &str, from: Option<i128>, to: Option<i128>) -> &str
     ensures { result.now ≡ part from to text.now }
 {
     let count = count_for(text, from, to);
@@ -19,7 +45,8 @@ pub fn substring(text: &str, from: Option<i128>, to: Option<i128>) -> &str
 }
 
 fn place_or(index: Option<i128>, count: usize, other: usize) -> usize
-    ensures { result ≡ place_or index count other }
+    ensures place { result ≡ place_or index count other }
+    ensures within { other ≤ count → result ≤ count }
 {
     match index {
         Some(index) => place(index, count),
@@ -29,7 +56,8 @@ fn place_or(index: Option<i128>, count: usize, other: usize) -> usize
 
 // Returns the position that an index denotes among `count` characters.
 fn place(index: i128, count: usize) -> usize
-    ensures { result ≡ place index count }
+    ensures place { result ≡ place index count }
+    ensures within { result ≤ count }
 {
     let (back, steps) = (index < 0, index.unsigned_abs());
     if steps > count as u128 {

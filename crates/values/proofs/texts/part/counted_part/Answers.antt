@@ -2,7 +2,7 @@ use Rattle.std.proofs.Common.{◌≡◌, ◌-◌, sym, ◌∙◌, ap, take, drop
 use Rattle.std.specs.Str.{chars, encode_utf8_all}
 use Rattle.std.proofs.lemmas.Str.{chars_from_encodes}
 use Rattle.values.specs.texts.Part.{place_or, items_between}
-use Rattle.values.proofs.texts.part.substring.Goals as goal
+use Rattle.values.proofs.texts.part.counted_part.Goals as goal
 
 pub returns : goal.returns
 returns c =
@@ -11,9 +11,9 @@ returns c =
     let middle : chars c.without_chars-rest.result.now ≡ drop start (chars text) = sym
     (chars_from_encodes (drop start (chars text)) c.without_chars-rest.result.now c.without_chars-rest.utf8
     (sym c.without_chars-rest.ensures.text)) in
-    let begins : start ≡ place_or c.args.from (length (chars text)) 0 = c.place_or-start.ensures
+    let begins : start ≡ place_or c.args.from (length (chars text)) 0 = c.place_or-start.ensures.place
     ∙ c.count_for-count.ensures.start in
-    let ends : c.place_or-end.result ≡ place_or c.args.to (length (chars text)) (length (chars text)) = c.place_or-end.ensures
+    let ends : c.place_or-end.result ≡ place_or c.args.to (length (chars text)) (length (chars text)) = c.place_or-end.ensures.place
     ∙ c.count_for-count.ensures.end in
     c.first_chars.ensures
     ∙ ap (λ n. encode_utf8_all (take n (chars c.without_chars-rest.result.now))) c.saturating_sub.ensures
