@@ -262,6 +262,25 @@ def test_calls() -> None:
     check("documents: crates/library_tests calls each call of docs/LIBRARY.md", bool(source) and not missing, missing)
 
 
+def shown_caller(page: str) -> list[str]:
+    """Returns the lines of the first program in Rattle of a page, without its head and its `main`."""
+    code = page.partition("```rust\n")[2].partition("```")[0].partition("fn main(")[0]
+    return [it for it in code.splitlines() if it and not it.startswith(("//!", "#![", "use std::process::"))]
+
+
+def tested_caller(source: str) -> list[str]:
+    """Returns the lines of a file of tests before its first test, without its head."""
+    return [it for it in source.partition("#[test]")[0].splitlines() if it and not it.startswith(("//!", "use std::test::"))]
+
+
+def test_caller() -> None:
+    page = "```rust\n//! A\n#![b]\n\nuse c;\nuse std::process::E;\n\nfn d() {}\n\nfn main() {}\n```\n```rust\nuse f;\n```\n"
+    source = "//! A\nuse c;\nuse std::test::Fail;\n\nfn d() {}\n\n#[test]\nfn e() {}\n"
+    check("documents: the lines of a caller are found", shown_caller(page) == tested_caller(source) == ["use c;", "fn d() {}"])
+    shown, tested = shown_caller(text_of("docs/LIBRARY.md")), tested_caller(text_of("crates/library_tests/src/memory_caller.rt"))
+    check("documents: docs/LIBRARY.md shows the caller in Rattle that is tested", bool(shown) and shown == tested, f"{shown}\n{tested}")
+
+
 def test_toolchain() -> None:
     """The logic that the documents name is that of the toolchain, whatever kit has it."""
     named = {name: set(re.findall(r"`rattle-kit-\w+\s+logic\s+(\w+)`", text_of(name))) for name in ("README.md", "docs/PROVED.md")}
@@ -270,7 +289,7 @@ def test_toolchain() -> None:
     check("documents: the logic of the toolchain", is_good, f"{named} {wanted}")
 
 
-TESTS = [test_counting, test_refusing, test_calls, test_documents, test_toolchain, test_helps, test_helps_of_tests, test_messages]
+TESTS = [test_counting, test_refusing, test_calls, test_caller, test_documents, test_toolchain, test_helps, test_helps_of_tests, test_messages]
 
 
 if __name__ == "__main__":

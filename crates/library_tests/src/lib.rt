@@ -15,6 +15,8 @@ mod failing_templates;
 #[cfg(test)]
 mod language;
 #[cfg(test)]
+mod memory_caller;
+#[cfg(test)]
 mod named_calls;
 #[cfg(test)]
 mod ninja_calls;
