@@ -45,7 +45,7 @@ pub fn measure(rt: &HostRuntime, measure: &str, of: &str) -> Result<Measured, St
 
 // Returns what the statements of an option file declare, none of which may be refused.
 fn declare_all(alloc: Global, file: &File<'_>) -> Result<Declared, Stop> {
-    match declare(alloc, file)? {
+    match declare(alloc, file, "meson.options")? {
         Ok(declared) => Ok(declared),
         Err(_) => Err(Stop("an option is refused")),
     }

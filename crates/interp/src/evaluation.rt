@@ -101,7 +101,7 @@ pub fn read_machine(alloc: Global, bytes: &[u8]) -> Result<Rc<Machine>, Stop>
 {
     match Machine::read(alloc, bytes)? {
         Ok(machine) => Ok(Rc::new(alloc, machine)?),
-        Err(fault) => Err(Stop::Refused(fault.tell(alloc)?)),
+        Err(fault) => Err(Stop::Refused(fault)),
     }
 }
 

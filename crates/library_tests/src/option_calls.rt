@@ -13,9 +13,9 @@ const MODE: &str = "option('mode', type: 'combo', choices: ['fast', 'slow', 'saf
 // The declarations of an option file, or the number and the line of its fault.
 fn declared(alloc: Global, source: &str) -> Result<Result<Declared, (u8, usize)>, Fail> {
     let file = parse(alloc, source).ok().ok_or("a file")?;
-    match declare(alloc, &file)? {
+    match declare(alloc, &file, "meson.options")? {
         Ok(declared) => Ok(Ok(declared)),
-        Err(fault) => Ok(Err((fault.refusal.number(), fault.line))),
+        Err(fault) => Ok(Err((fault.number(), fault.line()))),
     }
 }
 
@@ -52,7 +52,7 @@ fn an_option_file_is_refused_at_its_statement(rt: HostRuntime) -> Result<(), Fai
 fn read(alloc: Global, bytes: &[u8]) -> Result<Result<Machine, (u8, usize)>, Fail> {
     match Machine::read(alloc, bytes)? {
         Ok(machine) => Ok(Ok(machine)),
-        Err(fault) => Ok(Err((fault.refusal.number(), fault.line))),
+        Err(fault) => Ok(Err((fault.number(), fault.line()))),
     }
 }
 

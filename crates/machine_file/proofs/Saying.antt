@@ -6,7 +6,7 @@ use Rattle.std.proofs.lemmas.Str.{IsUtf8-from_is_utf8, is_utf8-from_IsUtf8}
 use Rattle.std.proofs.lemmas.Bool.{false≢true}
 use Rattle.support.specs.declared.faults.refusal.Refusal.{Refusal}
 use Rattle.support.specs.declared.faults.refusal.Refusal.TheVariants as refusals
-use Rattle.machine_file.specs.Answers.{Answers, IsFault, IsSaid, MachineSaid, utf8_line}
+use Rattle.machine_file.specs.Answers.{IsFault, IsSaid, MachineSaid, utf8_line}
 use Rattle.machine_file.specs.Files.{machine_of}
 use Rattle.machine_file.specs.Lines.{file_lines}
 use Rattle.machine_file.specs.View.{read_in}
@@ -77,7 +77,7 @@ abbrev Answer : Type 0
 Answer = Result (Result Machine MachineFault) AllocError
 
 pub read_answers : (bytes text : List ℕ) (r : Answer) → (text ≡ bytes) × IsUtf8 bytes
-    → IfOk r (λ read. read_in read ≡ machine_of (file_lines text)) → IfOk r (Answers bytes)
+    → IfOk r (λ read. read_in read ≡ machine_of (file_lines text)) → IfOk r (λ read. IsSaid bytes (read_in read))
 read_answers bytes text (Ok read) is e =
     subst (IsSaid bytes) (sym (e ∙ ap (λ b. machine_of (file_lines b)) is.0)) (text_says bytes is.1)
 read_answers bytes text (Err none) is e = tt

@@ -5,13 +5,15 @@ use Rattle.std.specs.Str.Lossy.{utf8_valid_len}
 use Rattle.syntax.specs.lexer.Bytes.{newlines}
 use Rattle.support.specs.declared.faults.refusal.Refusal.{Refusal}
 use Rattle.support.specs.declared.faults.refusal.Refusal.TheVariants as refusals
-use Rattle.machine_file.specs.declared.fault.MachineFault.{MachineFault}
+use Rattle.std.specs.Result.{result_map_both}
+use Rattle.support.specs.declared.faults.fault.Fault.{Fault}
+use Rattle.support.specs.Faults.{FaultData}
 use Rattle.machine_file.specs.declared.machine.Machine.{Machine}
-use Rattle.machine_file.specs.Fault.{MachineFaultData}
+use Rattle.machine_file.specs.Fault.{MachineFaultData, fault_of_machine_file}
 use Rattle.machine_file.specs.Files.{Section, Said, nothing_said, after}
 use Rattle.machine_file.specs.Reads.{AreSections, Says}
 use Rattle.machine_file.specs.Lines.{file_lines}
-use Rattle.machine_file.specs.View.{read_in}
+use Rattle.machine_file.specs.View.{answer_in}
 
 -- The line with this number is the first up to which the lines begin no machine file, for this reason.
 pub record IsFirstBad (ls : List (List ℕ)) (line : ℕ) (detail : List ℕ) : Type 0 where
@@ -48,6 +50,10 @@ abbrev pub IsSaid : List ℕ → MachineSaid → Type 0
 IsSaid bytes (Ok sections) = IsUtf8 bytes × AreSections (file_lines bytes) sections
 IsSaid bytes (Err fault) = IsFault fault.refusal bytes fault.line fault.detail
 
--- Holds if the answer is the reading of the bytes.
-abbrev pub Answers : List ℕ → Result Machine MachineFault → Type 0
-Answers bytes answer = IsSaid bytes (read_in answer)
+-- Returns a reading with its fault as a run reports it.
+abbrev pub told : MachineSaid → Result (List Section) FaultData
+told said = result_map_both (λ sections. sections) fault_of_machine_file said
+
+-- Holds if the answer is a reading of the bytes.
+abbrev pub Answers : List ℕ → Result Machine Fault → Type 0
+Answers bytes answer = (said : MachineSaid) × IsSaid bytes said × (answer_in answer ≡ told said)

@@ -14,6 +14,9 @@ use Rattle.machine_file.specs.declared.state.OpenSection.{OpenSection}
 use Rattle.machine_file.specs.declared.state.Reading.{Reading}
 use Rattle.machine_file.specs.declared.line.LineForm.{LineForm}
 use Rattle.machine_file.specs.declared.line.LineForm.TheVariants as form
+use Rattle.support.specs.declared.faults.fault.Fault.{Fault}
+use Rattle.support.specs.Faults.{FaultData}
+use Rattle.support.specs.View.{fault_view}
 use Rattle.machine_file.specs.Fault.{MachineFaultData}
 use Rattle.machine_file.specs.Files as file
 use Rattle.machine_file.specs.Lines as line
@@ -95,3 +98,7 @@ fault_in f = record { refusal = f.refusal; line = f.line; detail = string_bytes 
 -- Returns the result of reading a machine file as plain data: its sections, or its fault.
 abbrev pub read_in : Result Machine MachineFault → Result (List file.Section) MachineFaultData
 read_in read = result_map_both machine_in fault_in read
+
+-- Returns the answer of `Machine::read` as plain data: its sections, or its fault as a run reports it.
+abbrev pub answer_in : Result Machine Fault → Result (List file.Section) FaultData
+answer_in answer = result_map_both machine_in fault_view answer

@@ -19,7 +19,7 @@
 #![tactic(auto)]
 
 mod aside;
-pub mod fault;
+mod fault;
 mod line;
 mod line_problem;
 mod machine;

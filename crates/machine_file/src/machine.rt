@@ -8,7 +8,7 @@ use crate::question::check_key;
 use crate::reader::read_lines;
 use crate::value::MachineValue;
 use std::alloc::{AllocError, Global};
-use support::faults::Refusal;
+use support::faults::{Fault, Refusal};
 use support::tables::{SipMap, new_map};
 use syntax::lexer::newlines;
 
@@ -79,9 +79,9 @@ impl Section {
 }
 
 impl Machine {
-    ghost use Rattle.machine_file.specs.Answers.{Answers, IsSaid, MachineSaid};
+    ghost use Rattle.machine_file.specs.Answers.{Answers, IsSaid, MachineSaid, told};
     ghost use Rattle.machine_file.specs.Lookups.{entries_at, value_at, text_or, dependency_at, check_at};
-    ghost use Rattle.machine_file.specs.View.{value_in, entries_of, machine_in, read_in, shown_section_in};
+    ghost use Rattle.machine_file.specs.View.{answer_in, value_in, entries_of, machine_in, read_in, shown_section_in};
 
     /// Returns a machine file without sections.
     pub fn empty(alloc: Global) -> Machine
@@ -95,13 +95,28 @@ impl Machine {
     /// Returns what these bytes say, or their fault.
     ///
     /// The format is that of the Meson manual's page "Machine files", without sections of constants and paths. This project adds sections
-    /// of its own for what Meson asks the machine.
-    pub fn read(alloc: Global, bytes: &[u8]) -> Result<Result<Machine, MachineFault>, AllocError>
+    /// of its own for what Meson asks the machine. The fault is E1 if the bytes are not UTF-8, and E16 if no machine file begins with the
+    /// lines up to its line. Its file is `<machine file>`.
+    pub fn read(alloc: Global, bytes: &[u8]) -> Result<Result<Machine, Fault>, AllocError>
         // The answer is what the lines say, or a fault at its line.
         ensures answer { IfOk result (Answers bytes.now) }
 
         // They say nothing else: no other sections, and no other fault.
-        ensures only { (said : MachineSaid) → IsSaid bytes.now said → IfOk result (λ answer. read_in answer ≡ said) }
+        ensures only { (said : MachineSaid) → IsSaid bytes.now said → IfOk result (λ answer. answer_in answer ≡ told said) }
+    {
+        match Machine::read_bytes(alloc, bytes)? {
+            Ok(machine) => Ok(Ok(machine)),
+            Err(fault) => Ok(Err(fault.tell(alloc)?)),
+        }
+    }
+
+    // Returns what these bytes say, or their fault without its file.
+    fn read_bytes(
+        alloc: Global,
+        bytes: &[u8],
+    ) -> Result<Result<Machine, MachineFault>, AllocError>
+        ensures answer { IfOk result (λ read. IsSaid bytes.now (read_in read)) }
+        ensures only { (said : MachineSaid) → IsSaid bytes.now said → IfOk result (λ read. read_in read ≡ said) }
     {
         let text = match str::from_utf8(bytes) {
             Ok(text) => text,

@@ -28,10 +28,8 @@ mod state;
 mod value_problem;
 mod verdict;
 
-pub use crate::option_file::fault::DeclareFault;
 pub use crate::option_file::{Declared, declare};
 pub use fault::{OptionFault, Origin};
-pub use machine_file::fault::MachineFault;
 pub use machine_file::{Machine, MachineValue, Section};
 pub use option_values::{FeatureState, OptionType, OptionValue, Options, is_built_in};
 pub use place::ProjectDefault;

@@ -14,7 +14,7 @@
 mod argument_values;
 mod call;
 mod declaration;
-pub mod fault;
+mod fault;
 mod file;
 mod keyword;
 mod names;

@@ -33,11 +33,11 @@ fn collect_in_file<T: Tree, O: Outputs>(
 ) -> Result<Declared, Stop>
     ensures { Does T.seen O.seen options_in (declared_or_fault (file_declares (file_of file.now))) caller.old result caller.new }
 {
-    match declare(caller.alloc, file)? {
+    match declare(caller.alloc, file, caller.store.file())? {
         Ok(declared) => Ok(declared),
         Err(fault) => {
-            caller.store.at(fault.line);
-            caller.refuse(fault.refusal, fault.detail.as_str())
+            caller.store.at(fault.line());
+            caller.refuse(fault.refusal(), fault.detail())
         }
     }
 }

@@ -2,7 +2,9 @@
 use Rattle.std.specs.Prelude.{ℕ, List, [], ◌∷◌, ◌++◌, Result, Ok, Err, codes, bytes_eq, if◌then◌else◌}
 use Rattle.syntax.specs.ExpressionTree.{ExpressionTree, FunctionTree, ArgumentTrees}
 use Rattle.syntax.specs.Tree.{StatementTree, AssignTree, AppendTree, ValueTree, BreakTree, ContinueTree, IfTree, ForeachTree, FileTree}
-use Rattle.options.specs.option_file.Fault.{DeclareFaultData}
+use Rattle.std.specs.Result.{result_map_both}
+use Rattle.support.specs.Faults.{FaultData}
+use Rattle.options.specs.option_file.Fault.{DeclareFaultData, told_in}
 use Rattle.options.specs.option_file.Misfits.{RefusedData, Again, NoCall, refused_as}
 use Rattle.options.specs.option_file.Calls.{call_declares}
 use Rattle.options.specs.option_file.Declarations.{Declaration}
@@ -55,3 +57,7 @@ declares_from (s ∷ ss) options = continue_with (declares_from ss) (line_of s) 
 -- Returns the options that a file declares, in the order of its statements, or its first fault.
 abbrev pub file_declares : FileTree → Result (List Declaration) DeclareFaultData
 file_declares statements = declares_from statements []
+
+-- Returns what the option file at this path declares, or its first fault as a run reports it.
+abbrev pub declares_in : List ℕ → FileTree → Result (List Declaration) FaultData
+declares_in path file = result_map_both (λ options. options) (told_in path) (file_declares file)

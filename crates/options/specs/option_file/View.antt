@@ -2,6 +2,9 @@
 pub use Rattle.options.specs.option_file.Entries.{given_in, option_in, entry_in, shown_in, entries_in}
 use Rattle.std.specs.Prelude.{List, Result, Ok, Err, String}
 use Rattle.std.specs.declared.alloc.Global.{Global}
+use Rattle.support.specs.declared.faults.fault.Fault.{Fault}
+use Rattle.support.specs.Faults.{FaultData}
+use Rattle.support.specs.View.{fault_view}
 use Rattle.options.specs.option_file.Fault.{DeclareFaultData}
 use Rattle.options.specs.option_file.FaultView.{fault_in}
 use Rattle.options.specs.option_file.MisfitView.{refused_in}
@@ -30,3 +33,8 @@ after_in (Err refused) = Err (refused_in refused)
 abbrev pub declared_in : Result Declared DeclareFault → Result (List plain.Declaration) DeclareFaultData
 declared_in (Ok declared) = Ok (options_in declared)
 declared_in (Err fault) = Err (fault_in fault)
+
+-- Returns what is declared, or the fault as a run reports it.
+abbrev pub declared_or_fault_in : Result Declared Fault → Result (List plain.Declaration) FaultData
+declared_or_fault_in (Ok declared) = Ok (options_in declared)
+declared_or_fault_in (Err fault) = Err (fault_view fault)

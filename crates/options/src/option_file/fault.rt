@@ -7,13 +7,11 @@ ghost use Rattle.options.specs.option_file.FaultView.{fault_in};
 
 use std::alloc::{AllocError, Global};
 use support::faults::{Fault, Refusal};
-use thiserror::Error;
 
 /// Holds what is wrong with an option file, and the line of the statement, from 1. It is E15 if the statement declares no option, and E23
 /// if it has a keyword that is left out.
-#[derive(Debug, Drop, Error)]
-#[error("line {line}: {refusal}{}{detail}", if .detail.is_empty() {""} else {": "})]
-pub struct DeclareFault {
+#[derive(Drop)]
+pub(crate) struct DeclareFault {
     pub refusal: Refusal,
     pub line: usize,
     /// The details, in words.
@@ -22,7 +20,7 @@ pub struct DeclareFault {
 
 impl DeclareFault {
     /// Returns the fault in the form that a run reports, in the option file with this path.
-    pub fn tell_in(self, alloc: Global, path: &str) -> Result<Fault, AllocError>
+    pub(crate) fn tell_in(self, alloc: Global, path: &str) -> Result<Fault, AllocError>
         ensures { IfOk result (λ fault. fault_view fault ≡ told_in path.now (fault_in self)) }
     {
         Fault::new(alloc, path, self.line, self.refusal, &self.detail)

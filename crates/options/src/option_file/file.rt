@@ -4,14 +4,15 @@ ghost use Rattle.std.specs.Prelude.{◌≡◌, IfOk};
 ghost use Rattle.syntax.specs.ExpressionTree.{argument_trees, expression_of};
 ghost use Rattle.syntax.specs.Tree.{file_of, statement_of};
 ghost use Rattle.options.specs.option_file.Declares.{line_of, function_declares, expression_declares, statement_declares, after};
-ghost use Rattle.options.specs.option_file.Declares.{file_declares};
-ghost use Rattle.options.specs.option_file.View.{call_in, after_in, options_in, declared_in};
+ghost use Rattle.options.specs.option_file.Declares.{declares_in, file_declares};
+ghost use Rattle.options.specs.option_file.View.{call_in, after_in, options_in, declared_in, declared_or_fault_in};
 
 use crate::option_file::call::call_declares;
 use crate::option_file::declaration::{Declaration, Declared};
 use crate::option_file::fault::DeclareFault;
 use crate::option_file::statement_problem::{StatementError, StatementProblem};
 use std::alloc::{AllocError, Global};
+use support::faults::Fault;
 use syntax::tree::{Argument, Expression, File, Statement};
 
 fn line_of(statement: &Statement<'_>) -> usize
@@ -95,10 +96,11 @@ fn after(
     Ok(Ok(more))
 }
 
-/// Returns what an option file declares, in the order of its statements, or its first fault, at the line of its statement.
-///
-/// Each statement must be a call of `option`, as the Meson manual's page "Build options" describes it.
-pub fn declare(alloc: Global, file: &File<'_>) -> Result<Result<Declared, DeclareFault>, AllocError>
+// Returns what the statements of a file declare, or the first fault, at the line of its statement.
+fn file_declares(
+    alloc: Global,
+    file: &File<'_>,
+) -> Result<Result<Declared, DeclareFault>, AllocError>
     ensures { IfOk result (λ answer. declared_in answer ≡ file_declares (file_of file.now)) }
 {
     let mut declared = Declared::empty(alloc);
@@ -117,4 +119,22 @@ pub fn declare(alloc: Global, file: &File<'_>) -> Result<Result<Declared, Declar
         }
     }
     Ok(Ok(declared))
+}
+
+/// Returns what an option file declares, in the order of its statements, or its first fault, at the line of its statement. `path` is the
+/// path of the file, which the fault names.
+///
+/// Each statement must be a call of `option`, as the Meson manual's page "Build options" describes it. The fault is E15 if a statement
+/// declares no option, and E23 if it has a keyword that is left out.
+pub fn declare(
+    alloc: Global,
+    file: &File<'_>,
+    path: &str,
+) -> Result<Result<Declared, Fault>, AllocError>
+    ensures { IfOk result (λ answer. declared_or_fault_in answer ≡ declares_in path.now (file_of file.now)) }
+{
+    match file_declares(alloc, file)? {
+        Ok(declared) => Ok(Ok(declared)),
+        Err(fault) => Ok(Err(fault.tell_in(alloc, path)?)),
+    }
 }

@@ -1,5 +1,5 @@
 use Rattle.machine_file.proofs.Saying.{read_answers, read_only}
-use Rattle.machine_file.proofs.machine.Machine.read.Goals as goal
+use Rattle.machine_file.proofs.machine.Machine.read_bytes.Goals as goal
 
 pub returns-clause-answer : goal.returns-clause-answer
 returns-clause-answer c =
