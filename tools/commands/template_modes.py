@@ -17,7 +17,7 @@ from tools.files import DEFINITION_FILES, read_text
 from tools.root import Outside, Root, write_file
 from tools.setup_arguments import Setup, is_pipe, machine_path, read_setup
 
-PLACE = "meson-private/executables"
+PLACE, MOST_BYTES = "meson-private/executables", 1 << 24
 TEMPLATE, OUTPUT = "<", ">"
 TEXT = "a text in place of an executable template\n"
 UNKNOWN = "it is not known which outputs come from executable templates, so none is made executable"
@@ -49,7 +49,7 @@ def has_text(path: str) -> bool:
 
 def kept_outputs(folder: str) -> list[str]:
     try:
-        lines = read_text(os.path.join(folder, PLACE)).splitlines()
+        lines = read_text(os.path.join(folder, PLACE), MOST_BYTES).splitlines()
     except OSError:
         return []
     return [it.removeprefix(OUTPUT) for it in lines if it.startswith(OUTPUT)]
