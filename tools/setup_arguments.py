@@ -7,12 +7,15 @@ read it too, so that a folder is configured in one place.
 from __future__ import annotations
 
 import os
-from collections.abc import Iterator
 
-from tools.document import NO_NAME
+from tools.document import is_name
 from tools.ending import CALLED, Stop
 from tools.files import read_text
 from tools.ninja import call
+
+TYPE_CHECKING = False
+if TYPE_CHECKING:
+    from collections.abc import Iterator
 
 PLACE = "meson-private/words"
 MOST_BYTES, MOST_WORDS = 1 << 23, 1 << 16  # of the arguments of a command, with the two lines before them
@@ -87,7 +90,7 @@ def read_setup(folder: str) -> Setup:
         raise Stop(f"{folder}: {why} ({path}: {error.strerror})") from error
     except OSError as error:
         raise Stop(f"{path}: {error.strerror}") from error
-    has_form = 3 < len(fields) <= MOST_WORDS and fields[0] in FORMS and fields[-1] == "" and not any(map(NO_NAME.search, fields))
+    has_form = 3 < len(fields) <= MOST_WORDS and fields[0] in FORMS and fields[-1] == "" and all(map(is_name, fields))
     # The command writes a whole path; any other came with the sources.
     if not has_form or not os.path.isabs(fields[1]):
         raise Stop(f"{path}: doesn't have the arguments of a `meson setup`: run that again")

@@ -15,6 +15,7 @@ from tools.ending import Stop, run_script, say
 from tools.explaining.run import files_below, setup_elsewhere
 from tools.files import DEFINITION_FILES, read_text
 from tools.root import Outside, Root, write_file
+from tools.scratch import ScratchFolder
 from tools.setup_arguments import Setup, is_pipe, machine_path, read_setup
 
 PLACE, MOST_BYTES = "meson-private/executables", 1 << 24
@@ -35,7 +36,8 @@ def outputs_of(program: str, setup: Setup, templates: list[str]) -> list[str]:
     machine = machine_path(setup.words)
     if machine is not None and is_pipe(os.path.join(setup.sources, machine)):
         raise Stop(f"{UNKNOWN}: the machine file was {machine}, which can't be read again")
-    with setup_elsewhere(program, setup.sources, setup.words, dict.fromkeys(templates, TEXT)) as (done, folder):
+    with ScratchFolder() as scratch:
+        done, folder = setup_elsewhere(program, setup.sources, setup.words, dict.fromkeys(templates, TEXT), scratch)
         if not done.is_good:
             said = done.said.strip().split("\n")
             raise Stop(f"{UNKNOWN}: {said[-1]}")

@@ -55,7 +55,7 @@ def of_sources(program: str, root: str, words: list[str], machine: bytes) -> str
     asked = Asked(program, root, [*words, *(["--native-file", "native.ini"] if machine else []), BUILD], machine or None)
     outcome = in_place(asked)
     if outcome.fault is not None:
-        from tools.explaining.command import explained
+        from tools.explaining.faults import explained
         return "\n".join(explained(asked, outcome.fault))
     if outcome.status == 0:
         return None
