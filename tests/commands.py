@@ -340,9 +340,24 @@ esac
 """
 
 
+NAMES_TEMPLATE = "project('p', 'c')\nconfigure_file(input: 'script.in', output: 'script')\n"
+# Files that have an executable file, and none that may be a template.
+NAMES_NO_TEMPLATE = (
+    "configure_file(input: 'plain.in', output: 'plain')\nfind_program('script.in')\n",
+    "configure_file(output: 'a')\ncustom_target(input: 'script.in', output: 'b')\n",
+    "configure_file(\n  output: 'a',  # (\n  input : files('plain.in')\n)\nrun(input: x)\n")
+MAY_NAME_TEMPLATE = (
+    "configure_file(\n  output: 'script', # )\n  input : files('script.in'),\n)\n", "configure_file(output: 's', input: x)\n",
+    "configure_file(output: ')', input:\n  'script.in')\n", "configure_file(input: 'script' + '.in')\n", "configure_file(kwargs: x)\n",
+    "test('x', configure_file(input: 'script.in'))\n", "configure_file(input: './script.in')\n", "configure_file(input: 'a/../script.in')\n",
+    "configure_file(output: '''(\n)''', input: 'script.in')\n", "if configure_file(input: a) == configure_file(input: 'script.in')\n",
+    "configure_file(input: meson.current_source_dir() / 'script.in')\n", "configure_file(input: f'@x@.in')\n",
+    "configure_file(input: 'scr\\x69pt.in')\n", "x = [configure_file(input: ['script.in'])]\n")
+
+
 def test_modes_of_templates() -> None:
     """An output whose template is executable is executable, and no other one."""
-    sources = os.path.realpath(put("modes/meson.build", "project('p', 'c')\n"))
+    sources = os.path.realpath(put("modes/meson.build", NAMES_TEMPLATE))
     sources, output = os.path.dirname(sources), f"{os.path.dirname(sources)}/b/sub"
     put("modes/script.in", "#!/bin/sh\n", 0o755)
     put("modes/plain.in", "plain\n")
@@ -381,6 +396,15 @@ def test_modes_of_templates() -> None:
         make(kept)
         sets_up(f"{name} in the place of what is kept", 2, True)
         check(f"meson setup: modes of outputs: {name} is replaced", os.path.isfile(kept) and not os.path.islink(kept))
+    for text in NAMES_NO_TEMPLATE:
+        shutil.rmtree(f"{sources}/b")
+        put("modes/meson.build", text)
+        sets_up(f"an executable that is no template: {text.splitlines()[-1]}", 1, False)
+        sets_up(f"an executable that is no template, again: {text.splitlines()[-1]}", 1, False)
+    for text in MAY_NAME_TEMPLATE:
+        shutil.rmtree(f"{sources}/b")
+        put("modes/meson.build", text)
+        sets_up(f"what may be a template: {text.splitlines()[-1]}", 2, True)
     put("native.ini", "")
     meson("setup", "--native-file", "../native.ini", "b", cwd=sources)
     got = taken("configured")
@@ -695,6 +719,40 @@ def test_light_start() -> None:
         refuses(f"an interpreter {name!r}", ["env", f"PYTHON=/bin/{name}", MESON, "self-install", "light"], 4, "PYTHON: ", env=with_tools())
 
 
+def test_light_reports() -> None:
+    """What `setup` may have to report is found without Python, whatever other definition files say."""
+    for name in ("asks", "template"):
+        shutil.rmtree(f"{WORK}/{name}", ignore_errors=True)
+    put("asks/meson.build", "project('p', 'c', default_options: ['c_std=c99'])\ntest('a', x, args: [')', '('])\nsubdir('sub')\n")
+    put("asks/sub/meson.build", "test('b', x, is_parallel: true,  # workdir: is for others (\n  args: 'depends:')\n"
+        "custom_target('c', output: 'c', command: 'c', depends: x)\ninclude_directories('.')\nfind_program('own.py')\n")
+    put("asks/sub/own.py", "", 0o755)
+    option = {"name": "c_std", "type": "combo", "value": "c99"}
+    configured("template", buildoptions=[option],
+               buildsystem_files={"absent": [], "present": ["meson.build", "sub/meson.build", "sub/own.py"]})
+    put("template/build.ninja", "build all: phony\n")
+    put("asked", '{"section":"binaries","key":"own.py","answer":null,"file":"sub/meson.build","line":5,"beside":{}}\n')
+    put("questions", f"cat {WORK}/asked\n")
+    taken("started")
+    setup = [f"{WORK}/light/bin/hawkottoman-meson", "setup", "b"]
+    done = run(setup, with_tools(), f"{WORK}/asks")
+    started = taken("started")
+    check("meson setup: no script for what has nothing to report", (done.returncode, done.stderr, started) == (0, "", ""), f"{done} {started}")
+    text = read("asks/sub/meson.build")
+    for change in (("is_parallel: true", "is_parallel: false"), ("args: 'depends:'", "args: 'a', depends: x"),
+                   ("args: 'depends:'", "args: '''a)''', \n workdir: x"), ("is_parallel: true", "is_parallel:\n false"),
+                   ("include_directories('.')", "include_directories('gone')"), ("'own.py'", "'own')\ndependency('y'")):
+        put("asks/sub/meson.build", text.replace(*change))
+        put("asked", '{"section":"dependency y","key":null,"answer":null,"file":"sub/meson.build","line":5,"beside":{}}\n'
+            if "dependency" in change[1] else "")
+        done = run(setup, with_tools(), f"{WORK}/asks")
+        said = taken("loaded")  # the errors of the interpreter go there
+        check(f"meson setup: a script reports {change[1]!r}", done.returncode == 0 and "\n  sub/meson.build:" in said, f"{done} {said}")
+    shutil.rmtree(f"{WORK}/asks/b")
+    put("asks/meson.build", "project('p', 'c')\n")
+    put("questions", NOTHING_ASKED)
+
+
 def test_self_install() -> None:
     done = run(["sh", "-c", 'umask 077; exec "$0" self-install prefix', MESON], with_tools())
     files = [os.path.join(folder, it) for folder, _, names in os.walk(f"{COPY}/tools") for it in names
@@ -788,4 +846,4 @@ TESTS = (test_without_the_program, test_building, test_ending_a_build, test_buil
          test_modes_of_templates, test_questions, test_explain, test_reasons, test_compile, test_compile_that_fails, test_introspect,
          test_progress)
 # The last leaves no program that is built.
-LAST = (test_light_start, test_self_install, test_self_install_that_fails, test_installed_copy, test_build_that_fails)
+LAST = (test_light_start, test_light_reports, test_self_install, test_self_install_that_fails, test_installed_copy, test_build_that_fails)
