@@ -44,26 +44,26 @@ def refuse_lack(lack: str) -> None:
     raise Stop(f"--require-sandbox: {lack}")
 
 
-def try_out(compiler: Compiler, tell: Callable[[str], None]) -> None:
-    """Stops where the compiler doesn't work, and tells what the sandbox can't bound."""
+def try_out(compiler: Compiler, says: Callable[[str], None]) -> None:
+    """Stops where the compiler doesn't work, and reports what the sandbox can't bound."""
     compiler.try_out()
-    tell_lack(compiler, tell)
+    report_lack(compiler, says)
 
 
-def tell_lack(compiler: Compiler, tell: Callable[[str], None]) -> None:
-    """Tells what the sandbox can't bound, if there is anything."""
+def report_lack(compiler: Compiler, says: Callable[[str], None]) -> None:
+    """Reports what the sandbox can't bound, if there is anything."""
     if compiler.sandbox.lack:
-        tell(compiler.sandbox.lack)
+        says(compiler.sandbox.lack)
 
 
-def settle(machine: Machine, tell: Callable[[str], None]) -> bool:
+def settle(machine: Machine, says: Callable[[str], None]) -> bool:
     """Tries out the compiler if no answer has shown that it works, or if pkg-config may not work. Returns whether the answers count: not if
     another sandbox is needed."""
     compiler = machine.compiler
     if compiler.is_tried and not compiler.has_doubt:
         return True
     before = compiler.sandbox
-    try_out(compiler, tell)
+    try_out(compiler, says)
     if compiler.sandbox == before:
         return True
     machine.forget()
@@ -91,7 +91,7 @@ def foreseen(machine: Machine, project: Project, known: Sections, told: Told) ->
     return told.questions
 
 
-def ask_all(machine: Machine, project: Project, tell: Callable[[str], None]) -> tuple[Sections, Told]:
+def ask_all(machine: Machine, project: Project, says: Callable[[str], None]) -> tuple[Sections, Told]:
     """Runs the program and answers its questions until no new one comes. Returns what is known then, and the last run. It begins with
     the last answers, if they are kept. Each run asks at least one more question whose answer is the machine's, so the end is the same
     from any beginning. What was guessed is in no answer: a last run has those of the machine alone."""
@@ -101,7 +101,7 @@ def ask_all(machine: Machine, project: Project, tell: Callable[[str], None]) -> 
         told = project.ask(text_of(known))
         questions = foreseen(machine, project, known, told)
         learned = machine.learn(questions)
-        if not settle(machine, tell):
+        if not settle(machine, says):
             known = machine.learn([])
             continue
         if learned == known and questions is told.questions:
@@ -111,7 +111,7 @@ def ask_all(machine: Machine, project: Project, tell: Callable[[str], None]) -> 
     raise Stop(f"after {ROUNDS} runs there are still new questions")
 
 
-def ask_project(machine: Machine, project: Project, tell: Callable[[str], None]) -> tuple[Sections, Told]:
+def ask_project(machine: Machine, project: Project, says: Callable[[str], None]) -> tuple[Sections, Told]:
     """Runs the program and answers its questions, with the options that the project has in use. Returns what `ask_all` returns, and saves
     the answers."""
     compiler, nothing_known = machine.compiler, text_of(machine.learn([]))
@@ -120,8 +120,8 @@ def ask_project(machine: Machine, project: Project, tell: Callable[[str], None])
     compiler.use(*options_in_use(compiler.cache, project, nothing_known), project.words)
     if not compiler.recall_trial() and not compiler.can_be_tried_later():
         compiler.try_out()
-    tell_lack(compiler, tell)
-    known, told = ask_all(machine, project, tell)
+    report_lack(compiler, says)
+    known, told = ask_all(machine, project, says)
     if told.fault:
         check_tokens(project.sources)
     compiler.cache.save()
@@ -165,15 +165,15 @@ def answer(given: Any, last: LastOutput, scratch: str, cache: Cache) -> int:
     """Carries out the command with these options. Returns its status."""
     question = question_of(given.ask, given.prefix) if given.ask is not None else None
     machine = Machine(Compiler(scratch, given.source, cache), given.source, not given.alone)
-    tell = refuse_lack if given.require_sandbox else report
+    says = refuse_lack if given.require_sandbox else report
     if question is not None:
-        try_out(machine.compiler, tell)
+        try_out(machine.compiler, says)
         return ask_one(machine, question)
     if given.check is not None:
         from tools.asking.compare import read_sections
         read_sections(given.check)  # a file that is not there is reported at once
     project = Project(last.program, given.source, last.words, scratch)
-    known, told = ask_project(machine, project, tell)
+    known, told = ask_project(machine, project, says)
     if given.check is not None:
         return compare(machine, known, told, given.check)
     head, reports = head_and_reports(machine, told.questions)
@@ -191,7 +191,7 @@ def answer(given: Any, last: LastOutput, scratch: str, cache: Cache) -> int:
 def answer_silently(last: LastOutput, source: str, scratch: str, cache: Cache) -> tuple[bytes, bool]:
     """Returns the text of a machine file of sources, and whether a run that has it ends without a fault."""
     machine, project = Machine(Compiler(scratch, source, cache), source), Project(last.program, source, last.words, scratch)
-    known, told = ask_project(machine, project, lambda lack: None)
+    known, told = ask_project(machine, project, lambda _: None)
     head, reports = head_and_reports(machine, told.questions)
     if not told.fault and not reports:
         keep(last, machine, project, told, head)
