@@ -445,6 +445,23 @@ def test_words_without_end() -> None:
     configured("template")
 
 
+def test_words_that_steer() -> None:
+    """Arguments of a `setup` that nobody has given are shown, and neither obeyed by a terminal nor taken for a further line."""
+    fresh("w/b")
+    put("w/meson.build", "project('p', 'c')\n")
+    put("questions", NOTHING_ASKED)
+    configured("template", buildsystem_files={"absent": [], "present": ["meson.build"]})
+    put("template/build.ninja", "build all: phony\n")
+    sources = f"{ROOT}/w"
+    run([MESON, "setup", "b"], with_tools(), sources)
+    for path, shown in (("/dev/\x1b[2J", "/dev/?[2J"), ("/dev/a\tb\x7f", "/dev/a?b?"), ("/dev/\\033[2J\\c", "/dev/\\033[2J\\c")):
+        put("w/b/meson-private/words", f"words-1\0\n{sources}\0\n--native-file\0\n{path}\0\nb\0\n")
+        done = run([MESON, "compile", "-C", "b"], with_tools(), sources)
+        is_shown = done.stderr.startswith(f"meson: b: its machine file was {shown}, which can't be read again")
+        check(f"meson compile: words that have {shown}", is_shown and done.stderr.count("\n") == 2, f"{done}")
+    configured("template")
+
+
 def member(name: str, size: int) -> bytes:
     return f"{name:<16}{0:<12}{0:<6}{0:<6}{644:<8}{size:<10}`\n".encode()
 
@@ -466,7 +483,7 @@ def test_archives_without_end() -> None:
 
 
 # These need the copy of the checkout, with its program, that commands.py makes.
-OF_THE_COMMAND = (test_words_without_end, test_archives_without_end)
+OF_THE_COMMAND = (test_words_without_end, test_words_that_steer, test_archives_without_end)
 TESTS = (test_shown_names, test_own_names, test_destinations, test_links_on_the_way, test_links_that_stay,
          test_links_that_come_late, test_names_for_ninja, test_streams, test_odd_documents, test_odd_files, test_broken_elf,
          test_large_files, test_signals,
