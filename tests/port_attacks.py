@@ -692,7 +692,7 @@ def test_what_a_trial_says() -> None:
         got = build.outcome(built, may_run)
         check(f"meson port: a trial build: {name}", wanted in got[0] and got[1] == is_good, got)
 
-    says("is good", "custom", "touch x", "the result was built", True)
+    says("is good", "custom", f'touch x; test "$$TMPDIR" = {WORK}/scratch', "the result was built", True)
     says("is not made where it runs the project's", "custom", "touch x", "as `touch x`: --run allows that", True, may_run=False)
     says("static libraries out of order", "c_link", "echo undefined reference to x; false",
          "`--also link-order` names static libraries")

@@ -69,8 +69,11 @@ def call(words: list[str], env: dict[str, str] | None = None, shows_output: bool
     try:
         return os.waitstatus_to_exitcode(os.waitpid(number, 0)[1])
     except BaseException:
-        os.kill(number, signal.SIGTERM)
-        os.waitpid(number, 0)
+        try:
+            os.kill(number, signal.SIGTERM)
+            os.waitpid(number, 0)
+        except (ProcessLookupError, ChildProcessError):
+            pass  # it has ended, and was waited for
         raise
 
 
