@@ -247,7 +247,8 @@ def test_commands() -> None:
     listed = lambda text: [line.split()[0] for line in text.splitlines() if line.startswith("  ")]
     done = meson("--help")
     is_good = done.returncode == 0 and done.stdout.startswith("program --help\n") and listed(done.stdout) == FURTHER
-    check("meson: help", is_good and done.stderr == "" and meson("-h").stdout == done.stdout, f"{done}")
+    is_same = meson("-h").stdout == meson("help").stdout == done.stdout
+    check("meson: help", is_good and done.stderr == "" and is_same, f"{done}")
     for words in ([], ["such"], ["build-program"], ["../tools/test"], [""], ["port"], ["-C", "b", "test"], ["--such"]):
         done = meson(*words)
         is_good = done.returncode == 4 and done.stdout == "" and listed(done.stderr) == ["setup", "questions", "fault", *FURTHER]
@@ -272,7 +273,8 @@ def test_commands() -> None:
         shows_help(command, "Exit status:")
     with open(f"{CHECKOUT}/CHANGELOG.md", encoding="utf-8") as it:
         version = re.search(r"^## ([0-9.]+)", it.read(), re.M)[1]
-    check("meson --version: the last one of CHANGELOG.md", meson("--version").stdout == f"Hawkottoman {version}\n", version)
+    is_same = meson("--version").stdout == meson("-v").stdout == f"Hawkottoman {version}\n"
+    check("meson --version: the last one of CHANGELOG.md", is_same, version)
     os.rename(f"{COPY}/crates/hawkottoman/out/hawkottoman", f"{WORK}/kept-program")
     without = {"PATH": only_on_path(*COMMAND, "awk", "cat", "find")}
     ends = {it: run([MESON, it, "--help"], without).returncode for it in FURTHER}
@@ -468,7 +470,32 @@ def test_explain() -> None:
     os.remove(f"{sources}/link")
     explains_what_is_unread(explains, sources)
     explains_odd_files(explains)
+    explains_last_setup(sources)
     put("questions", NOTHING_ASKED)
+
+
+def explains_last_setup(sources: str) -> None:
+    """Tries a folder that is named alone: what is explained is a run with the arguments of its last setup."""
+    put("questions", NOTHING_ASKED)
+    meson("setup", "-Dx=1", "--native-file", "n.ini", "c", cwd=sources)
+    put("questions", """case "$*" in "questions -Dx=1 --native-file "*" c") ;; *"machine.ini -- d"*) ;; *) echo "$*" >&2; exit 2 ;; esac\n""")
+    says = lambda words: f"meson explain: with the arguments of the last setup: {words}\n"
+    saved = says("-Dx=1 --native-file n.ini c")
+    for name, words, wanted in (("its arguments", ["c"], (0, saved)), ("its arguments, if given", ["-Dx=1", "--native-file", "n.ini", "c"], (0, ""))):
+        done = meson("explain", *words, cwd=sources)
+        check(f"meson explain: the last setup: {name}", (done.returncode, done.stderr) == wanted, f"{done}")
+    done = meson("explain", "-Dx=2", "c", cwd=sources)
+    is_other = done.returncode == 2 and "with the arguments" not in done.stderr
+    check("meson explain: the last setup: not with other arguments", is_other, f"{done}")
+    put("explained/d/meson-private/machine.ini", "[binaries]\n")
+    put("questions", """case "$*" in "questions --native-file "*"/native.ini d") ;; *) echo "$*" >&2; exit 2 ;; esac\n""")
+    done = meson("explain", "d", cwd=sources)
+    wanted = (0, says("--native-file d/meson-private/machine.ini d"))
+    check("meson explain: the last setup: the machine file of `configure`", (done.returncode, done.stderr) == wanted, f"{done}")
+    done = meson("explain", "c", cwd=sources)
+    check("meson explain: the last setup: another folder has its own", done.returncode == 2 and saved in done.stderr, f"{done}")
+    for name in "cd":
+        shutil.rmtree(f"{sources}/{name}")
 
 
 def test_reasons() -> None:

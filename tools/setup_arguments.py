@@ -18,6 +18,7 @@ if TYPE_CHECKING:
     from collections.abc import Iterator
 
 PLACE = "meson-private/words"
+MACHINE_FILE = "meson-private/machine.ini"  # the one that `meson configure` makes
 MOST_BYTES, MOST_WORDS = 1 << 23, 1 << 16  # of the arguments of a command, with the two lines before them
 UNREADABLE = 125  # the status of the command `meson` if it leaves it to these scripts to read the arguments
 FORMS = ("words-1", "words-of-lines-1")

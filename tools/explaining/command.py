@@ -5,7 +5,7 @@ import os
 
 from tools.ending import Stop, help_as_called, say, show
 from tools.explaining.run import MOST_BYTES, Asked, Outcome, in_place
-from tools.setup_arguments import machine_path
+from tools.setup_arguments import MACHINE_FILE, cut, is_pipe, machine_path, read_setup
 
 DONE, NOT_READ, BAD_WORDS = 0, 2, 4
 
@@ -16,8 +16,29 @@ def main(told: str, program: str, words: list[str]) -> int:
         subject, usage, more = told.strip().split("\n\n", 2)
         show(help_as_called(f"usage: {usage.strip()}\n\n{subject}\n\n{more}"))
         return DONE
-    asked = Asked(program, os.getcwd(), words, machine_of(words))
+    used = with_saved(words)
+    if used != words:
+        import shlex
+        say("meson explain", f"with the arguments of the last setup: {shlex.join(used)}")
+    asked = Asked(program, os.getcwd(), used, machine_of(used))
     return explain(asked, in_place(asked))
+
+
+def with_saved(words: list[str]) -> list[str]:
+    """Returns the arguments of the run that is explained. If they name a folder alone, these are those of its last setup, or the folder
+    with the machine file that `meson configure` has made in it."""
+    options = [name for name, _ in cut(words)]
+    folder = words[-1] if options == [""] else None
+    if folder is None:
+        return words
+    try:
+        setup = read_setup(folder)
+        if os.path.samefile(setup.sources, ".") and not is_pipe(machine_path(setup.words) or ""):
+            return setup.words
+    except (Stop, OSError, ValueError):
+        pass  # its last setup has failed, or it isn't there
+    made = os.path.join(folder, MACHINE_FILE)
+    return ["--native-file", made, *words] if os.path.isfile(made) else words
 
 
 def machine_of(words: list[str]) -> bytes | None:
