@@ -8,8 +8,10 @@ import resource
 import shutil
 import signal
 import subprocess
+import sys
 import time
 
+from tests.commands import MESON, NOTHING_ASKED, with_tools
 from tests.workshop import CHECKOUT, WORK, check, configured, environment, over, put, read, refuses, run, shell, words_of
 
 ROOT = os.path.realpath(WORK)
@@ -387,6 +389,101 @@ def test_own_names() -> None:
         refuses(f"a target {name}", over("test", "o"), 125, f"the target 't' would be {name}, which this command keeps for itself in o")
 
 
+# files without an end that come with a build directory
+
+def ends(name: str, words: list[str], cwd: str = WORK) -> subprocess.CompletedProcess | None:
+    """Returns how a command ends that may take a minute and a gibibyte; none if it doesn't end."""
+    begins = lambda: (os.setsid(), resource.setrlimit(resource.RLIMIT_AS, (1 << 30, 1 << 30)))
+    process = subprocess.Popen(words, cwd=cwd, env=environment(with_tools()), stdin=subprocess.DEVNULL, stdout=subprocess.PIPE,
+                               stderr=subprocess.PIPE, text=True, preexec_fn=begins)
+    try:
+        out, errors = process.communicate(timeout=60)
+        return subprocess.CompletedProcess(words, process.returncode, out, errors)
+    except subprocess.TimeoutExpired:
+        os.killpg(process.pid, signal.SIGKILL)
+        process.communicate()
+        check(f"{name}: ends", False)
+        return None
+
+
+def hole(path: str, begin: bytes = b"", size: int = 1 << 40) -> None:
+    """Makes a file of this size that takes no place on the disk."""
+    with open(f"{WORK}/{path}", "wb") as it:
+        it.write(begin)
+        it.truncate(size)
+
+
+def test_words_without_end() -> None:
+    """Arguments of a `setup` that nobody has given."""
+    fresh("w", "template")
+    put("w/meson.build", "project('p', 'c')\n")
+    put("questions", NOTHING_ASKED)
+    configured("template", buildsystem_files={"absent": [], "present": ["meson.build"]})
+    put("template/build.ninja", "build all: phony\n")
+    sources, kept = f"{ROOT}/w", "w/b/meson-private/words"
+    run([MESON, "setup", "b"], with_tools(), sources)
+    good = read(kept)
+    many = f"words-1\0\n{sources}\0\n" + "-v\0\n" * 200_000 + "b\0\n"
+    makes = {"a hole": (lambda: hole(kept), "meson-private/words: has more than 8,388,608 bytes"),
+             "a hole after a good beginning": (lambda: hole(kept, good.encode()), "meson-private/words: has more than 8,388,608 bytes"),
+             "more words than a command may have": (lambda: put(kept, many), "doesn't have the arguments of a `meson setup`")}
+    for name, (make, text) in makes.items():
+        for script, status in (("compile", 1), ("test", 126), ("install", 1), ("configure", 1)):
+            make()
+            done = ends(f"meson {script}: words that are {name}", [MESON, script, *([] if script == "configure" else ["-C"]), "b"], sources)
+            if done is not None:
+                is_told = text in done.stderr and done.stderr.count("\n") == 1
+                check(f"meson {script}: words that are {name}", done.returncode == status and is_told, f"{done}")
+        make()
+        done = ends(f"meson setup: words that are {name}", [MESON, "setup", "b"], sources)
+        check(f"meson setup: words that are {name} are replaced", done and done.returncode == 0 and read(kept) == good, f"{done}")
+    words = [f"-Dx={number}" for number in range(5000)]
+    run([MESON, "setup", *words, "b"], with_tools(), sources)
+    done = ends("meson compile: 5,000 arguments", [MESON, "compile", "-C", "b"], sources)
+    is_good = done and done.returncode == 0 and read(kept).split("\0\n")[2:-1] == [*words, "b"] and words[-1] in done.stdout
+    check("meson compile: 5,000 arguments", is_good, done and (done.returncode, done.stderr))
+    configured("template")
+
+
+def test_words_that_steer() -> None:
+    """Arguments of a `setup` that nobody has given are shown, and neither obeyed by a terminal nor taken for a further line."""
+    fresh("w/b")
+    put("w/meson.build", "project('p', 'c')\n")
+    put("questions", NOTHING_ASKED)
+    configured("template", buildsystem_files={"absent": [], "present": ["meson.build"]})
+    put("template/build.ninja", "build all: phony\n")
+    sources = f"{ROOT}/w"
+    run([MESON, "setup", "b"], with_tools(), sources)
+    for path, shown in (("/dev/\x1b[2J", "/dev/?[2J"), ("/dev/a\tb\x7f", "/dev/a?b?"), ("/dev/\\033[2J\\c", "/dev/\\033[2J\\c")):
+        put("w/b/meson-private/words", f"words-1\0\n{sources}\0\n--native-file\0\n{path}\0\nb\0\n")
+        done = run([MESON, "compile", "-C", "b"], with_tools(), sources)
+        is_shown = done.stderr.startswith(f"meson: b: its machine file was {shown}, which can't be read again")
+        check(f"meson compile: words that have {shown}", is_shown and done.stderr.count("\n") == 2, f"{done}")
+    configured("template")
+
+
+def member(name: str, size: int) -> bytes:
+    return f"{name:<16}{0:<12}{0:<6}{0:<6}{644:<8}{size:<10}`\n".encode()
+
+
+def test_archives_without_end() -> None:
+    """An archive that comes with a build directory: its members are not read, and none leads back to one before it."""
+    fresh("a")
+    put("a/build.ninja", "build lib.a: ar one.o\n")
+    drop = [sys.executable, os.path.join(CHECKOUT, "tools", "command"), "drop-archives", "a"]
+    for name, begin, is_kept in (("a member of ten gigabytes", member("one.o/", 9_999_999_998), True),
+                                 ("a member of ten gigabytes that is gone", member("two.o/", 9_999_999_998), False),
+                                 ("a list of names of ten gigabytes", member("//", 9_999_999_998), True),
+                                 ("a member of a size below zero", member("one.o/", -60), False), ("a hole", b"", False)):
+        hole("a/lib.a", b"!<arch>\n" + begin if begin else b"", 10_000_000_066)
+        done = ends(f"archives: {name}", drop)
+        is_good = done is not None and (done.returncode, done.stderr) == (0, "") and os.path.exists(f"{WORK}/a/lib.a") == is_kept
+        check(f"archives: {name}: is {'kept' if is_kept else 'removed'}", is_good, f"{done}")
+    shutil.rmtree(f"{WORK}/a")
+
+
+# These need the copy of the checkout, with its program, that commands.py makes.
+OF_THE_COMMAND = (test_words_without_end, test_words_that_steer, test_archives_without_end)
 TESTS = (test_shown_names, test_own_names, test_destinations, test_links_on_the_way, test_links_that_stay,
          test_links_that_come_late, test_names_for_ninja, test_streams, test_odd_documents, test_odd_files, test_broken_elf,
          test_large_files, test_signals,

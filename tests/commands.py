@@ -247,7 +247,8 @@ def test_commands() -> None:
     listed = lambda text: [line.split()[0] for line in text.splitlines() if line.startswith("  ")]
     done = meson("--help")
     is_good = done.returncode == 0 and done.stdout.startswith("program --help\n") and listed(done.stdout) == FURTHER
-    check("meson: help", is_good and done.stderr == "" and meson("-h").stdout == done.stdout, f"{done}")
+    is_same = meson("-h").stdout == meson("help").stdout == done.stdout
+    check("meson: help", is_good and done.stderr == "" and is_same, f"{done}")
     for words in ([], ["such"], ["build-program"], ["../tools/test"], [""], ["port"], ["-C", "b", "test"], ["--such"]):
         done = meson(*words)
         is_good = done.returncode == 4 and done.stdout == "" and listed(done.stderr) == ["setup", "questions", "fault", *FURTHER]
@@ -272,7 +273,8 @@ def test_commands() -> None:
         shows_help(command, "Exit status:")
     with open(f"{CHECKOUT}/CHANGELOG.md", encoding="utf-8") as it:
         version = re.search(r"^## ([0-9.]+)", it.read(), re.M)[1]
-    check("meson --version: the last one of CHANGELOG.md", meson("--version").stdout == f"Hawkottoman {version}\n", version)
+    is_same = meson("--version").stdout == meson("-v").stdout == f"Hawkottoman {version}\n"
+    check("meson --version: the last one of CHANGELOG.md", is_same, version)
     os.rename(f"{COPY}/crates/hawkottoman/out/hawkottoman", f"{WORK}/kept-program")
     without = {"PATH": only_on_path(*COMMAND, "awk", "cat", "find")}
     ends = {it: run([MESON, it, "--help"], without).returncode for it in FURTHER}
@@ -340,9 +342,24 @@ esac
 """
 
 
+NAMES_TEMPLATE = "project('p', 'c')\nconfigure_file(input: 'script.in', output: 'script')\n"
+# Files that have an executable file, and none that may be a template.
+NAMES_NO_TEMPLATE = (
+    "configure_file(input: 'plain.in', output: 'plain')\nfind_program('script.in')\n",
+    "configure_file(output: 'a')\ncustom_target(input: 'script.in', output: 'b')\n",
+    "configure_file(\n  output: 'a',  # (\n  input : files('plain.in')\n)\nrun(input: x)\n")
+MAY_NAME_TEMPLATE = (
+    "configure_file(\n  output: 'script', # )\n  input : files('script.in'),\n)\n", "configure_file(output: 's', input: x)\n",
+    "configure_file(output: ')', input:\n  'script.in')\n", "configure_file(input: 'script' + '.in')\n", "configure_file(kwargs: x)\n",
+    "test('x', configure_file(input: 'script.in'))\n", "configure_file(input: './script.in')\n", "configure_file(input: 'a/../script.in')\n",
+    "configure_file(output: '''(\n)''', input: 'script.in')\n", "if configure_file(input: a) == configure_file(input: 'script.in')\n",
+    "configure_file(input: meson.current_source_dir() / 'script.in')\n", "configure_file(input: f'@x@.in')\n",
+    "configure_file(input: 'scr\\x69pt.in')\n", "x = [configure_file(input: ['script.in'])]\n")
+
+
 def test_modes_of_templates() -> None:
     """An output whose template is executable is executable, and no other one."""
-    sources = os.path.realpath(put("modes/meson.build", "project('p', 'c')\n"))
+    sources = os.path.realpath(put("modes/meson.build", NAMES_TEMPLATE))
     sources, output = os.path.dirname(sources), f"{os.path.dirname(sources)}/b/sub"
     put("modes/script.in", "#!/bin/sh\n", 0o755)
     put("modes/plain.in", "plain\n")
@@ -381,6 +398,15 @@ def test_modes_of_templates() -> None:
         make(kept)
         sets_up(f"{name} in the place of what is kept", 2, True)
         check(f"meson setup: modes of outputs: {name} is replaced", os.path.isfile(kept) and not os.path.islink(kept))
+    for text in NAMES_NO_TEMPLATE:
+        shutil.rmtree(f"{sources}/b")
+        put("modes/meson.build", text)
+        sets_up(f"an executable that is no template: {text.splitlines()[-1]}", 1, False)
+        sets_up(f"an executable that is no template, again: {text.splitlines()[-1]}", 1, False)
+    for text in MAY_NAME_TEMPLATE:
+        shutil.rmtree(f"{sources}/b")
+        put("modes/meson.build", text)
+        sets_up(f"what may be a template: {text.splitlines()[-1]}", 2, True)
     put("native.ini", "")
     meson("setup", "--native-file", "../native.ini", "b", cwd=sources)
     got = taken("configured")
@@ -444,7 +470,32 @@ def test_explain() -> None:
     os.remove(f"{sources}/link")
     explains_what_is_unread(explains, sources)
     explains_odd_files(explains)
+    explains_last_setup(sources)
     put("questions", NOTHING_ASKED)
+
+
+def explains_last_setup(sources: str) -> None:
+    """Tries a folder that is named alone: what is explained is a run with the arguments of its last setup."""
+    put("questions", NOTHING_ASKED)
+    meson("setup", "-Dx=1", "--native-file", "n.ini", "c", cwd=sources)
+    put("questions", """case "$*" in "questions -Dx=1 --native-file "*" c") ;; *"machine.ini -- d"*) ;; *) echo "$*" >&2; exit 2 ;; esac\n""")
+    says = lambda words: f"meson explain: with the arguments of the last setup: {words}\n"
+    saved = says("-Dx=1 --native-file n.ini c")
+    for name, words, wanted in (("its arguments", ["c"], (0, saved)), ("its arguments, if given", ["-Dx=1", "--native-file", "n.ini", "c"], (0, ""))):
+        done = meson("explain", *words, cwd=sources)
+        check(f"meson explain: the last setup: {name}", (done.returncode, done.stderr) == wanted, f"{done}")
+    done = meson("explain", "-Dx=2", "c", cwd=sources)
+    is_other = done.returncode == 2 and "with the arguments" not in done.stderr
+    check("meson explain: the last setup: not with other arguments", is_other, f"{done}")
+    put("explained/d/meson-private/machine.ini", "[binaries]\n")
+    put("questions", """case "$*" in "questions --native-file "*"/native.ini d") ;; *) echo "$*" >&2; exit 2 ;; esac\n""")
+    done = meson("explain", "d", cwd=sources)
+    wanted = (0, says("--native-file d/meson-private/machine.ini d"))
+    check("meson explain: the last setup: the machine file of `configure`", (done.returncode, done.stderr) == wanted, f"{done}")
+    done = meson("explain", "c", cwd=sources)
+    check("meson explain: the last setup: another folder has its own", done.returncode == 2 and saved in done.stderr, f"{done}")
+    for name in "cd":
+        shutil.rmtree(f"{sources}/{name}")
 
 
 def test_reasons() -> None:
@@ -695,6 +746,40 @@ def test_light_start() -> None:
         refuses(f"an interpreter {name!r}", ["env", f"PYTHON=/bin/{name}", MESON, "self-install", "light"], 4, "PYTHON: ", env=with_tools())
 
 
+def test_light_reports() -> None:
+    """What `setup` may have to report is found without Python, whatever other definition files say."""
+    for name in ("asks", "template"):
+        shutil.rmtree(f"{WORK}/{name}", ignore_errors=True)
+    put("asks/meson.build", "project('p', 'c', default_options: ['c_std=c99'])\ntest('a', x, args: [')', '('])\nsubdir('sub')\n")
+    put("asks/sub/meson.build", "test('b', x, is_parallel: true,  # workdir: is for others (\n  args: 'depends:')\n"
+        "custom_target('c', output: 'c', command: 'c', depends: x)\ninclude_directories('.')\nfind_program('own.py')\n")
+    put("asks/sub/own.py", "", 0o755)
+    option = {"name": "c_std", "type": "combo", "value": "c99"}
+    configured("template", buildoptions=[option],
+               buildsystem_files={"absent": [], "present": ["meson.build", "sub/meson.build", "sub/own.py"]})
+    put("template/build.ninja", "build all: phony\n")
+    put("asked", '{"section":"binaries","key":"own.py","answer":null,"file":"sub/meson.build","line":5,"beside":{}}\n')
+    put("questions", f"cat {WORK}/asked\n")
+    taken("started")
+    setup = [f"{WORK}/light/bin/hawkottoman-meson", "setup", "b"]
+    done = run(setup, with_tools(), f"{WORK}/asks")
+    started = taken("started")
+    check("meson setup: no script for what has nothing to report", (done.returncode, done.stderr, started) == (0, "", ""), f"{done} {started}")
+    text = read("asks/sub/meson.build")
+    for change in (("is_parallel: true", "is_parallel: false"), ("args: 'depends:'", "args: 'a', depends: x"),
+                   ("args: 'depends:'", "args: '''a)''', \n workdir: x"), ("is_parallel: true", "is_parallel:\n false"),
+                   ("include_directories('.')", "include_directories('gone')"), ("'own.py'", "'own')\ndependency('y'")):
+        put("asks/sub/meson.build", text.replace(*change))
+        put("asked", '{"section":"dependency y","key":null,"answer":null,"file":"sub/meson.build","line":5,"beside":{}}\n'
+            if "dependency" in change[1] else "")
+        done = run(setup, with_tools(), f"{WORK}/asks")
+        said = taken("loaded")  # the errors of the interpreter go there
+        check(f"meson setup: a script reports {change[1]!r}", done.returncode == 0 and "\n  sub/meson.build:" in said, f"{done} {said}")
+    shutil.rmtree(f"{WORK}/asks/b")
+    put("asks/meson.build", "project('p', 'c')\n")
+    put("questions", NOTHING_ASKED)
+
+
 def test_self_install() -> None:
     done = run(["sh", "-c", 'umask 077; exec "$0" self-install prefix', MESON], with_tools())
     files = [os.path.join(folder, it) for folder, _, names in os.walk(f"{COPY}/tools") for it in names
@@ -788,4 +873,4 @@ TESTS = (test_without_the_program, test_building, test_ending_a_build, test_buil
          test_modes_of_templates, test_questions, test_explain, test_reasons, test_compile, test_compile_that_fails, test_introspect,
          test_progress)
 # The last leaves no program that is built.
-LAST = (test_light_start, test_self_install, test_self_install_that_fails, test_installed_copy, test_build_that_fails)
+LAST = (test_light_start, test_light_reports, test_self_install, test_self_install_that_fails, test_installed_copy, test_build_that_fails)

@@ -1,6 +1,10 @@
 """Tests the replacements of slower parts of the standard library: the arguments of a command, and records. tests/scripts runs this too."""
 
-from tests.workshop import check
+import os
+import subprocess
+import sys
+
+from tests.workshop import CHECKOUT, WORK, check
 from tools import records
 from tools.command_line import Parser
 from tools.ending import Stop
@@ -81,4 +85,38 @@ def test_records() -> None:
         check("records: a frozen one is not changed", True)
 
 
-TESTS = (test_words, test_records)
+
+# Makes a temporary folder with many files, and gets a signal while it is removed; then at each call of the system that begins a command.
+REMOVES = """import os, signal, sys
+sys.path.insert(0, sys.argv[1])
+from tools.ending import run_script
+from tools.scratch import ScratchFolder
+def main():
+    with ScratchFolder(sys.argv[2]) as folder:
+        for number in range(20):
+            open(os.path.join(folder, str(number)), "w").close()
+        unlink, os.unlink = os.unlink, lambda *words, **how: (unlink(*words, **how), os.kill(os.getpid(), signal.SIGTERM))
+    return 0
+run_script("meson x", main, 1)
+"""
+WAITS = """import os, signal, sys
+sys.path.insert(0, sys.argv[1])
+from tools.ending import run_script
+from tools.ninja import call
+waitpid = os.waitpid
+os.waitpid = lambda *words: (waitpid(*words), os.kill(os.getpid(), signal.SIGTERM))[0]
+run_script("meson x", lambda: call(["true"]), 1)
+"""
+
+
+def test_signals() -> None:
+    """A signal that comes while a folder is removed, or when a command has ended, changes nothing of how a script ends."""
+    folder = os.path.join(WORK, "removed")
+    os.mkdir(folder)
+    for name, text in (("while a folder is removed", REMOVES), ("when a command has ended", WAITS)):
+        done = subprocess.run([sys.executable, "-c", text, CHECKOUT, folder], capture_output=True, text=True, timeout=60)
+        is_good = (done.returncode, done.stderr, os.listdir(folder)) == (130, "meson x: interrupted\n", [])
+        check(f"a signal {name}", is_good, f"{done} {os.listdir(folder)}")
+
+
+TESTS = (test_words, test_records, test_signals)

@@ -401,8 +401,13 @@ def test_streams_of_setup() -> None:
             done = run(["sh", "-c", f"{MESON} {words} >{stream}"], cwd=SOURCES)
             check(f"meson {words} >{stream}", (done.returncode, done.stderr) == wanted, f"{done}")
     ask(("checks", '"has_function f"', "null", 2))
-    done = run(["sh", "-c", 'echo "[checks]" | "$0" setup --native-file /dev/stdin b', MESON], cwd=SOURCES)
-    check("meson setup: a machine file that is a pipe", done.returncode == 0 and done.stderr == "", f"{done}")
+    line = "meson: the machine file was /dev/stdin, which can't be read again, so what has no answer isn't listed\n"
+    put("silent/n.ini", "[checks]\n")
+    for name, words in (("is a pipe", 'cat n.ini | "$0" setup {} --native-file /dev/stdin b'),
+                        ("comes through a redirection", '"$0" setup {} --native-file=/dev/stdin b <n.ini')):
+        for strict, status in (("", 0), ("--strict", 1)):
+            done = run(["sh", "-c", words.format(strict), MESON], cwd=SOURCES)
+            check(f"meson setup {strict}: a machine file that {name}", (done.returncode, done.stderr) == (status, line), f"{done}")
     taken("configured")
     told = "b: its machine file was /dev/stdin, which can't be read again: run `meson setup` again, with a file"
     for command, words, status in (("compile", ["-C", "b"], 1), ("test", ["-C", "b"], 125), ("install", ["-C", "b"], 1),

@@ -19,6 +19,7 @@ from collections.abc import Callable
 from tests.attacks import files_below, fresh, is_running, link
 from tests.plain_cases import PORTING, cases_of
 from tests.workshop import CHECKOUT, WORK, check, configured, environment, put, read, run, shell, wait_until
+from tools.asking import processes
 from tools.asking.sandbox import version_of_landlock
 from tools.ending import Stop, one_line
 from tools.porting import build, journal, trial
@@ -655,9 +656,9 @@ def test_machine_file_of_a_trial() -> None:
     project("project('p', 'c')\n")
     own, seen = trial.machine_file, []
 
-    def machine_file(program: str, root: str, words: list[str]) -> bytes:
+    def machine_file(program: str, root: str, words: list[str]) -> tuple[bytes, bool]:
         seen.append(read(os.path.relpath(f"{root}/meson.build", WORK)))
-        return b"[binaries]\n"
+        return b"[binaries]\n", False
 
     trial.machine_file = machine_file
     try:
@@ -666,6 +667,14 @@ def test_machine_file_of_a_trial() -> None:
         trial.machine_file = own
     is_good = came == (None, b"[binaries]\n") and seen == [NEW]
     check("meson port: a trial: the machine file is that of the result", is_good, f"{came} {seen}")
+    begun, begin = [], processes.Command.begin
+    processes.Command.begin = lambda self, *words: (begun.append(self.words), begin(self, *words))[1]
+    try:
+        came = trial.first_fault("/bin/true", f"{WORK}/p", {}, [], print)
+    finally:
+        processes.Command.begin = begin
+    names = {os.path.basename(it[0]) for it in begun}
+    check("meson port: a trial: no other script makes the machine file", names == {"cc", "meson"} and came[0] is None, f"{came} {begun}")
 
 
 def test_what_a_trial_says() -> None:
@@ -683,7 +692,7 @@ def test_what_a_trial_says() -> None:
         got = build.outcome(built, may_run)
         check(f"meson port: a trial build: {name}", wanted in got[0] and got[1] == is_good, got)
 
-    says("is good", "custom", "touch x", "the result was built", True)
+    says("is good", "custom", f'touch x; test "$$TMPDIR" = {WORK}/scratch', "the result was built", True)
     says("is not made where it runs the project's", "custom", "touch x", "as `touch x`: --run allows that", True, may_run=False)
     says("static libraries out of order", "c_link", "echo undefined reference to x; false",
          "`--also link-order` names static libraries")

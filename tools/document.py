@@ -1,17 +1,16 @@
 """Reads what `meson setup` says of a configured folder to other programs: meson-info/introspect.json."""
 from __future__ import annotations
 
-import json
 import os
 import posixpath
-import re
-from collections.abc import Iterable
 
 from tools.ending import Stop
 from tools.files import read_text
+from tools.light_json import loads
 
 TYPE_CHECKING = False
 if TYPE_CHECKING:
+    from collections.abc import Iterable
     from typing import Any
 
     Target = dict[str, Any]
@@ -26,8 +25,6 @@ TEST = {"cmd": list, "env": list, "name": str, "should_fail": bool, "suite": lis
 # What the commands keep in a build directory for themselves.
 OWN = {"meson-private", "meson-info", "meson-logs", "meson-private/words", "meson-private/machine.ini", "meson-private/executables",
        "meson-info/introspect.json", "meson-logs/testlog.txt", "meson-logs/install-log.txt", "compile_commands.json", ".gitignore"}
-# A NUL ends a path that the system gets, and half a pair of surrogates is no character.
-NO_NAME = re.compile("[\0\ud800-\udfff]")
 
 
 class Document:
@@ -37,6 +34,15 @@ class Document:
     def __init__(self, project: str, targets: list[Target], tests: list[Test], installed: dict[str, str],
                  made_from: dict[str, list[str]]) -> None:
         self.project, self.targets, self.tests, self.installed, self.made_from = project, targets, tests, installed, made_from
+
+
+def is_name(text: str) -> bool:
+    """Returns whether a text can be a name or an argument: a NUL ends what the system gets, and half a pair of surrogates is no
+    character."""
+    try:
+        return "\0" not in text and bool(text.isascii() or text.encode() is not None)
+    except UnicodeEncodeError:
+        return False
 
 
 def document_path(folder: str) -> str:
@@ -49,7 +55,7 @@ def read_content(folder: str) -> dict[str, Any]:
     if not os.path.isdir(folder):
         raise Stop(f"{folder}: there is no such folder")
     try:
-        content = json.loads(read_text(path))
+        content = loads(read_text(path))
     except OSError as error:
         raise Stop(f"{folder}: is no configured folder: {path}: {error.strerror}") from error
     except RecursionError as error:
@@ -85,7 +91,7 @@ def read_document(folder: str) -> Document:
         raise Stop(f"{path}: its tests are not of the form that `meson setup` writes")
     document = Document(project, targets, tests, installed, content["buildsystem_files"])
     for text in texts_of(document):
-        if NO_NAME.search(text):
+        if not is_name(text):
             raise Stop(f"{path}: has a text that can be neither a name nor an argument: {text!r}")
     return document
 

@@ -20,14 +20,15 @@ if TYPE_CHECKING:
     from types import FrameType
     from typing import NoReturn
 
+# The name by which the command was called, which is none of what it runs.
+CALLED = os.environ.pop("HAWKOTTOMAN_CALLED", "meson")
 SIGNALS = (signal.SIGINT, signal.SIGTERM, signal.SIGHUP)
 INTERRUPTED = 130
 
 
 def end_at_once(number: int, frame: FrameType | None) -> NoReturn:
     try:
-        called = os.environ.get("HAWKOTTOMAN_CALLED", "meson")
-        os.write(2, f"{called} {os.path.basename(sys.argv[0])}: interrupted\n".encode(errors="backslashreplace"))
+        os.write(2, f"{CALLED} {os.path.basename(sys.argv[0])}: interrupted\n".encode(errors="backslashreplace"))
     except OSError:
         pass  # nobody can read it
     os._exit(INTERRUPTED)

@@ -1,6 +1,11 @@
 """Reads the dynamic section of an ELF file, which says where a program looks for its libraries."""
+from __future__ import annotations
+
 import struct
-from collections.abc import Iterator
+
+TYPE_CHECKING = False
+if TYPE_CHECKING:
+    from collections.abc import Iterator
 
 MAGIC = b"\x7fELF"
 LOAD, DYNAMIC = 1, 2

@@ -14,10 +14,7 @@ if TYPE_CHECKING:
     from types import FrameType
     from typing import NoReturn
 
-from tools.early_signals import INTERRUPTED, SIGNALS, signal
-
-# The name by which the command was called, which is none of what it runs.
-CALLED = os.environ.pop("HAWKOTTOMAN_CALLED", "meson")
+from tools.early_signals import CALLED, INTERRUPTED, SIGNALS, signal
 
 
 def as_called(text: str) -> str:

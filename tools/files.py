@@ -36,10 +36,13 @@ def open_file(path: str) -> BinaryIO:
 
 
 def read_bytes(path: str, most: int = MOST_BYTES) -> bytes:
-    """Returns the bytes of a file that has no more than `most`."""
+    """Returns the bytes of a file that has no more than `most`; nothing is read of one that says that it has."""
     with open_file(path) as it:
-        data = it.read(most + 1)
-    if len(data) > most:
+        size = os.fstat(it.fileno()).st_size
+        data = it.read(size + 1) if size <= most else None
+        if data is not None and len(data) > size:  # it grows, or is one of those files of the system that have no size
+            data += it.read(most + 1 - len(data))
+    if data is None or len(data) > most:
         raise OSError(errno.EFBIG, f"has more than {most:,} bytes", path)
     return data
 

@@ -12,8 +12,8 @@ except ImportError:
 
     loads = json.loads
 
-    def dumps(value: object) -> str:
-        return json.dumps(value, separators=(",", ":"))
+    def dumps(value: object, has_blanks: bool = False) -> str:
+        return json.dumps(value, separators=(", ", ": ") if has_blanks else (",", ":"))
 else:
     class Plain:
         """Holds how values are read: each as `json` does it without further words."""
@@ -27,7 +27,8 @@ else:
         raise TypeError(f"{type(value).__name__} is no value of JSON")
 
     SCAN = make_scanner(Plain)
-    ENCODE = make_encoder(None, refuse, encode_basestring_ascii, None, ":", ",", False, False, False)
+    ENCODE, ENCODE_WITH_BLANKS = (make_encoder(None, refuse, encode_basestring_ascii, None, colon, comma, False, False, False)
+                                  for colon, comma in ((":", ","), (": ", ", ")))
 
     def loads(text: str | bytes) -> Any:
         """Returns the value of a text. A ValueError says that it has none."""
@@ -35,11 +36,13 @@ else:
         try:
             value, end = SCAN(plain, 0)
         except (StopIteration, SystemError):  # the latter where `json` isn't loaded, which has the exception to be raised
-            raise ValueError("no value") from None
+            end = -1
         if end != len(plain):
-            raise ValueError("more than one value")
+            import json
+            json.loads(text)
+            raise ValueError("no value")
         return value
 
-    def dumps(value: object) -> str:
-        """Returns the text of a value, without blanks."""
-        return "".join(ENCODE(value, 0))
+    def dumps(value: object, has_blanks: bool = False) -> str:
+        """Returns the text of a value; with blanks it is as that of `json`."""
+        return "".join((ENCODE_WITH_BLANKS if has_blanks else ENCODE)(value, 0))

@@ -2,13 +2,16 @@
 from __future__ import annotations
 
 import os
-from collections.abc import Iterator
 
 from tools.document import read_content
 from tools.files import DEFINITION, read_text
 from tools.porting import tree
 from tools.porting.lexer import Lines, SyntaxFault
 from tools.porting.parser import parse
+
+TYPE_CHECKING = False
+if TYPE_CHECKING:
+    from collections.abc import Iterator
 
 SERIAL = "serial"
 

@@ -6,18 +6,17 @@ output of that name.
 from __future__ import annotations
 
 import os
-import re
-import signal
 
 from tools.document import refuse_own_names
+from tools.early_signals import signal
 from tools.ending import Stop
 from tools.files import read_text
 
 # No output of `meson setup` has this name: it refuses a `#`.
 WANTED = "wanted#"
-NO_PATH = re.compile(r"[\x00-\x1f\x7f|]")
-# What a shell would not take as part of one word.
-NO_WORD = re.compile(r"[^\w./+-]", re.A)
+# The characters that a shell takes as part of one word.
+OF_A_WORD = "abcdefghijklmnopqrstuvwxyzABCDEFGHIJKLMNOPQRSTUVWXYZ0123456789_./+-"
+ESCAPES = str.maketrans({it: "$" + it for it in "$ :"})
 
 
 def is_on_path(name: str) -> bool:
@@ -28,7 +27,7 @@ def is_on_path(name: str) -> bool:
 def find_ninja() -> list[str]:
     """Returns the words of the command; the variable NINJA names another."""
     named = os.environ.get("NINJA", "")
-    if NO_WORD.search(named):
+    if named.strip(OF_A_WORD):
         from tools.variables import words_of
         return words_of("NINJA")
     found = named or next(filter(is_on_path, ("ninja", "ninja-build", "samu")), None)
@@ -39,18 +38,24 @@ def find_ninja() -> list[str]:
 
 def escaped(path: str) -> str:
     """Returns a path as Ninja's files have it."""
-    if NO_PATH.search(path):
+    if any(it < " " or it in "\x7f|" for it in path):
         raise Stop(f"{path}: no file of Ninja's can have this name")
-    return re.sub(r"[$ :]", r"$\g<0>", path)
+    return path.translate(ESCAPES)
 
 
 def plain(path: str) -> str:
     """Returns a path of Ninja's files as it is."""
+    if "$" not in path:
+        return path
+    import re
     return re.sub(r"\$(.)", r"\1", path)
 
 
 def paths_in(text: str) -> list[str]:
     """Returns the paths that are in a line of Ninja's files."""
+    if "$" not in text:
+        return [it for it in text.split(" ") if it]
+    import re
     return list(map(plain, re.findall(r"(?:[^$ ]|\$.)+", text)))
 
 
@@ -64,13 +69,17 @@ def call(words: list[str], env: dict[str, str] | None = None, shows_output: bool
     try:
         return os.waitstatus_to_exitcode(os.waitpid(number, 0)[1])
     except BaseException:
-        os.kill(number, signal.SIGTERM)
-        os.waitpid(number, 0)
+        try:
+            os.kill(number, signal.SIGTERM)
+            os.waitpid(number, 0)
+        except (ProcessLookupError, ChildProcessError):
+            pass  # it has ended, and was waited for
         raise
 
 
 def with_links(folder: str, outputs: list[str]) -> list[str]:
     """Returns the outputs of a folder, and the names of those that are shared libraries, which are links to them."""
+    import re
     text = read_text(os.path.join(folder, "build.ninja"))
     edges = re.findall(r"^build ((?:[^$ :|\n]|\$.)+): symlink (.+)$", text, re.M)
     wanted = set(outputs)

@@ -3,10 +3,10 @@ from __future__ import annotations
 
 import _thread
 import os
-from collections.abc import Callable
 
 TYPE_CHECKING = False
 if TYPE_CHECKING:
+    from collections.abc import Callable
     from typing import Any
 
 SPELL = 0.5  # of waiting, in seconds

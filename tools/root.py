@@ -4,10 +4,16 @@ A destination is an absolute path whose root this folder is. Its `.` and `..` ar
 folder is opened in the one above it; a link there is read, and its text followed by the same rules: one that leads out of the root is
 refused. So no place is reached by a path that could change after the check.
 """
+from __future__ import annotations
+
 import errno
 import os
 import stat
-from collections.abc import Callable, Iterable
+
+TYPE_CHECKING = False
+if TYPE_CHECKING:
+    from collections.abc import Callable, Iterable
+    from typing import BinaryIO
 
 FOLDER = os.O_PATH | os.O_DIRECTORY | os.O_CLOEXEC
 LINKS = 40  # that one way may lead over, as the system has it
@@ -74,15 +80,14 @@ class Root:
         finally:
             close(opened)
 
-    def read(self, destination: str) -> bytes | None:
-        """Returns the bytes of a file that is no link, reached without leaving the root, or None if it is not there."""
+    def open(self, destination: str) -> BinaryIO | None:
+        """Returns a file that is no link, to be read, reached without leaving the root, or None if it is not there."""
         *folders, name = parts_of(destination)
         opened = self.descend(folders, makes=False)
         try:
             if opened[-1] is None:
                 return None
-            with open(os.open(name, os.O_RDONLY | os.O_NOFOLLOW | os.O_NONBLOCK | os.O_CLOEXEC, dir_fd=opened[-1]), "rb") as it:
-                return it.read()
+            return open(os.open(name, os.O_RDONLY | os.O_NOFOLLOW | os.O_NONBLOCK | os.O_CLOEXEC, dir_fd=opened[-1]), "rb")
         except FileNotFoundError:
             return None
         finally:

@@ -19,13 +19,12 @@ from tools.commands.open_questions import open_questions
 from tools.ending import CALLED, Stop
 from tools.files import read_text
 from tools.root import Outside, Root, write_file
-from tools.setup_arguments import MESON
+from tools.setup_arguments import MACHINE_FILE, MESON
 
 TYPE_CHECKING = False
 if TYPE_CHECKING:
     from tools.asking.text import Sections
 
-PLACE = "meson-private/machine.ini"
 # What the environment says of a machine file, by section and key: the variables.
 MADE_WITH = {("binaries", "c"): ("CC",), ("binaries", "ar"): ("AR",), ("built-in options", "c_args"): ("CFLAGS", "CPPFLAGS"),
              ("built-in options", "c_link_args"): ("CFLAGS", "LDFLAGS")}
@@ -43,7 +42,7 @@ class SavedMachineFile:
 
     def __init__(self, program: str, sources: str, folder: str, settings: list[str]) -> None:
         self.program, self.sources, self.folder, self.settings = program, sources, folder, settings
-        self.path = os.path.join(folder, PLACE)
+        self.path = os.path.join(folder, MACHINE_FILE)
 
     def refresh(self) -> bool:
         """Writes the file if it is absent or would change, and says what can't be answered. Returns whether there is a file."""

@@ -18,15 +18,28 @@ class ScratchFolder:
         self.path = os.path.join(place_of_folders() if above is None else above, "tmp" + os.urandom(8).hex())
 
     def __enter__(self) -> str:
-        os.mkdir(self.path, 0o700)
-        return self.path
+        try:
+            os.mkdir(self.path, 0o700)
+            return self.path
+        except OSError:
+            raise
+        except BaseException:  # of a signal that came since it was made
+            self.remove()
+            raise
 
     def __exit__(self, kind: type[BaseException] | None, fault: BaseException | None, trace: TracebackType | None) -> None:
         try:
             remove_folder(self.path)
         except OSError:
-            import shutil
-            shutil.rmtree(self.path, ignore_errors=True)
+            self.remove()
+        except BaseException:  # of a signal; no second one is heeded
+            self.remove()
+            raise
+
+    def remove(self) -> None:
+        """Removes what can be removed."""
+        import shutil
+        shutil.rmtree(self.path, ignore_errors=True)
 
 
 def place_of_folders() -> str:

@@ -7,14 +7,20 @@ read it too, so that a folder is configured in one place.
 from __future__ import annotations
 
 import os
-from collections.abc import Iterator
 
-from tools.document import NO_NAME
+from tools.document import is_name
 from tools.ending import CALLED, Stop
 from tools.files import read_text
 from tools.ninja import call
 
+TYPE_CHECKING = False
+if TYPE_CHECKING:
+    from collections.abc import Iterator
+
 PLACE = "meson-private/words"
+MACHINE_FILE = "meson-private/machine.ini"  # the one that `meson configure` makes
+MOST_BYTES, MOST_WORDS = 1 << 23, 1 << 16  # of the arguments of a command, with the two lines before them
+UNREADABLE = 125  # the status of the command `meson` if it leaves it to these scripts to read the arguments
 FORMS = ("words-1", "words-of-lines-1")
 MESON = os.path.join(os.path.dirname(os.path.dirname(os.path.realpath(__file__))), "meson")
 
@@ -78,14 +84,14 @@ def read_setup(folder: str) -> Setup:
     """Returns what was saved for a folder. Stops if the folder was moved."""
     path = os.path.join(folder, PLACE)
     try:
-        fields = read_text(path).split("\0\n")
+        fields = read_text(path, MOST_BYTES).split("\0\n")
     except FileNotFoundError as error:
         is_configured = os.path.exists(os.path.join(folder, "meson-info"))
         why = "has no arguments of a `meson setup`: run that again" if is_configured else "is no configured folder: `meson setup` makes one"
         raise Stop(f"{folder}: {why} ({path}: {error.strerror})") from error
     except OSError as error:
         raise Stop(f"{path}: {error.strerror}") from error
-    has_form = len(fields) > 3 and fields[0] in FORMS and fields[-1] == "" and not any(map(NO_NAME.search, fields))
+    has_form = 3 < len(fields) <= MOST_WORDS and fields[0] in FORMS and fields[-1] == "" and all(map(is_name, fields))
     # The command writes a whole path; any other came with the sources.
     if not has_form or not os.path.isabs(fields[1]):
         raise Stop(f"{path}: doesn't have the arguments of a `meson setup`: run that again")
@@ -111,10 +117,11 @@ def configure_again(folder: str, otherwise: str, failed: int | None = None, show
     machine = machine_path(setup.words)
     if machine is not None and is_pipe(os.path.join(setup.sources, machine)):
         raise Stop(f"{folder}: its machine file was {machine}, which can't be read again: run `meson setup` again, with a file", failed)
-    words, how = [MESON, ":again", folder], {}
-    if "\n" in "".join([setup.sources, *setup.words]):
-        words, how = [MESON, "setup", *setup.words], {"cwd": setup.sources}
-    status = call(words, {**os.environ, "HAWKOTTOMAN_CALLED": CALLED}, shows_log, **how)
+    variables, status = {**os.environ, "HAWKOTTOMAN_CALLED": CALLED}, UNREADABLE
+    if "\n" not in "".join([setup.sources, *setup.words]):
+        status = call([MESON, ":again", folder], variables, shows_log)
+    if status == UNREADABLE:
+        status = call([MESON, "setup", *setup.words], variables, shows_log, cwd=setup.sources)
     if status != 0:
         raise Stop(f"`meson setup` ended with status {status}, so {otherwise}", failed or (status if status > 0 else 1))
 

@@ -1,11 +1,11 @@
 """Limits the processor's time for what is not worth more: sources can be made so that they are dear to look at."""
 from __future__ import annotations
 
-import signal
-from collections.abc import Callable
+from tools.early_signals import signal
 
 TYPE_CHECKING = False
 if TYPE_CHECKING:
+    from collections.abc import Callable
     from types import FrameType
     from typing import NoReturn
 

@@ -17,6 +17,7 @@ from tools.files import DEFINITION_FILES
 
 TYPE_CHECKING = False
 if TYPE_CHECKING:
+    from collections.abc import Callable
     from typing import Any
 
 ROUNDS = 1000  # the most runs of the program
@@ -38,28 +39,31 @@ def question_of(word: str, prefix: str) -> Question:
     return Question(*sections[kind], "--ask", 1, {"prefix": [prefix]})
 
 
-def try_out(compiler: Compiler, is_sandbox_required: bool) -> None:
-    """Stops where the compiler doesn't work, and says or refuses what the sandbox can't bound."""
+def refuse_lack(lack: str) -> None:
+    """Refuses a sandbox that can't bound the compiler."""
+    raise Stop(f"--require-sandbox: {lack}")
+
+
+def try_out(compiler: Compiler, says: Callable[[str], None]) -> None:
+    """Stops where the compiler doesn't work, and reports what the sandbox can't bound."""
     compiler.try_out()
-    report_lack(compiler, is_sandbox_required)
+    report_lack(compiler, says)
 
 
-def report_lack(compiler: Compiler, is_sandbox_required: bool) -> None:
-    """Says or refuses what the sandbox can't bound."""
-    if compiler.sandbox.lack and is_sandbox_required:
-        raise Stop(f"--require-sandbox: {compiler.sandbox.lack}")
+def report_lack(compiler: Compiler, says: Callable[[str], None]) -> None:
+    """Reports what the sandbox can't bound, if there is anything."""
     if compiler.sandbox.lack:
-        report(compiler.sandbox.lack)
+        says(compiler.sandbox.lack)
 
 
-def settle(machine: Machine, is_sandbox_required: bool) -> bool:
+def settle(machine: Machine, says: Callable[[str], None]) -> bool:
     """Tries out the compiler if no answer has shown that it works, or if pkg-config may not work. Returns whether the answers count: not if
     another sandbox is needed."""
     compiler = machine.compiler
     if compiler.is_tried and not compiler.has_doubt:
         return True
     before = compiler.sandbox
-    try_out(compiler, is_sandbox_required)
+    try_out(compiler, says)
     if compiler.sandbox == before:
         return True
     machine.forget()
@@ -71,7 +75,8 @@ def ask_one(machine: Machine, question: Question) -> int:
     known = machine.learn([question]).get(question.section, {})
     values = {key: it for key, it in known.items() if question.key in (None, key)}
     write(text_of({question.section: values}).lstrip().encode())
-    report_rest(machine, [question])
+    for it in head_and_reports(machine, [question])[1]:
+        report(it)
     lack = machine.lack(question) if not values else ""
     if lack:
         report(lack)
@@ -86,7 +91,7 @@ def foreseen(machine: Machine, project: Project, known: Sections, told: Told) ->
     return told.questions
 
 
-def ask_all(machine: Machine, project: Project, is_sandbox_required: bool) -> tuple[Sections, Told]:
+def ask_all(machine: Machine, project: Project, says: Callable[[str], None]) -> tuple[Sections, Told]:
     """Runs the program and answers its questions until no new one comes. Returns what is known then, and the last run. It begins with
     the last answers, if they are kept. Each run asks at least one more question whose answer is the machine's, so the end is the same
     from any beginning. What was guessed is in no answer: a last run has those of the machine alone."""
@@ -96,7 +101,7 @@ def ask_all(machine: Machine, project: Project, is_sandbox_required: bool) -> tu
         told = project.ask(text_of(known))
         questions = foreseen(machine, project, known, told)
         learned = machine.learn(questions)
-        if not settle(machine, is_sandbox_required):
+        if not settle(machine, says):
             known = machine.learn([])
             continue
         if learned == known and questions is told.questions:
@@ -106,12 +111,27 @@ def ask_all(machine: Machine, project: Project, is_sandbox_required: bool) -> tu
     raise Stop(f"after {ROUNDS} runs there are still new questions")
 
 
-def report_rest(machine: Machine, questions: list[Question]) -> list[str]:
-    """Says what isn't answered and what has two answers; the comments of the machine file."""
+def ask_project(machine: Machine, project: Project, says: Callable[[str], None]) -> tuple[Sections, Told]:
+    """Runs the program and answers its questions, with the options that the project has in use. Returns what `ask_all` returns, and saves
+    the answers."""
+    compiler, nothing_known = machine.compiler, text_of(machine.learn([]))
+    if not compiler.cache.kept.answers:
+        project.begin(nothing_known)
+    compiler.use(*options_in_use(compiler.cache, project, nothing_known), project.words)
+    if not compiler.recall_trial() and not compiler.can_be_tried_later():
+        compiler.try_out()
+    report_lack(compiler, says)
+    known, told = ask_all(machine, project, says)
+    if told.fault:
+        check_tokens(project.sources)
+    compiler.cache.save()
+    return known, told
+
+
+def head_and_reports(machine: Machine, questions: list[Question]) -> tuple[str, list[str]]:
+    """Returns the comments at the beginning of a machine file, and what is reported: what isn't answered, and what has two answers."""
     remarks = dict(machine.remarks(questions))
-    for told in filter(None, remarks.values()):
-        report(told)
-    return [f"# {one_line(it)}\n" for it in remarks]
+    return "".join([FIRST, *(f"# {one_line(it)}\n" for it in remarks)]), list(filter(None, remarks.values()))
 
 
 def report_fault(machine: Machine, told: Told) -> None:
@@ -145,30 +165,34 @@ def answer(given: Any, last: LastOutput, scratch: str, cache: Cache) -> int:
     """Carries out the command with these options. Returns its status."""
     question = question_of(given.ask, given.prefix) if given.ask is not None else None
     machine = Machine(Compiler(scratch, given.source, cache), given.source, not given.alone)
+    says = refuse_lack if given.require_sandbox else report
     if question is not None:
-        try_out(machine.compiler, given.require_sandbox)
+        try_out(machine.compiler, says)
         return ask_one(machine, question)
     if given.check is not None:
         from tools.asking.compare import read_sections
         read_sections(given.check)  # a file that is not there is reported at once
     project = Project(last.program, given.source, last.words, scratch)
-    nothing_known = text_of(machine.learn([]))
-    if not cache.kept.answers:
-        project.begin(nothing_known)
-    machine.compiler.use(*options_in_use(cache, project, nothing_known), project.words)
-    if not machine.compiler.recall_trial() and not machine.compiler.can_be_tried_later():
-        machine.compiler.try_out()
-    report_lack(machine.compiler, given.require_sandbox)
-    known, told = ask_all(machine, project, given.require_sandbox)
-    if told.fault:
-        check_tokens(given.source)
-    cache.save()
+    known, told = ask_project(machine, project, says)
     if given.check is not None:
         return compare(machine, known, told, given.check)
-    head = "".join([FIRST, *report_rest(machine, told.questions)])
+    head, reports = head_and_reports(machine, told.questions)
+    for it in reports:
+        report(it)
     write((head + text_of(known)).encode())
-    if not told.fault and not any(said for _, said in machine.remarks(told.questions)):
-        keep(last, machine, project, told, head)
     if told.fault:
         report_fault(machine, told)
-    return FAILED if told.fault else 0
+        return FAILED
+    if not reports:
+        keep(last, machine, project, told, head)
+    return 0
+
+
+def answer_silently(last: LastOutput, source: str, scratch: str, cache: Cache) -> tuple[bytes, bool]:
+    """Returns the text of a machine file of sources, and whether a run that has it ends without a fault."""
+    machine, project = Machine(Compiler(scratch, source, cache), source), Project(last.program, source, last.words, scratch)
+    known, told = ask_project(machine, project, lambda _: None)
+    head, reports = head_and_reports(machine, told.questions)
+    if not told.fault and not reports:
+        keep(last, machine, project, told, head)
+    return (head + text_of(known)).encode(), not told.fault

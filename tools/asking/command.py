@@ -70,7 +70,7 @@ def main() -> int:
             if printed is not None:
                 write(printed)
                 return 0
-            begin_compiler(scratch, path is None or not os.path.exists(path))
+            begin_compiler(scratch, path)
             from tools.asking.answers import answer
             return answer(given, last, scratch, Cache(path))
         finally:

@@ -25,10 +25,10 @@ def after_launchers(words: list[str]) -> list[str]:
     return words
 
 
-def begin_compiler(scratch: str, is_new: bool) -> None:
-    """Begins the commands that say which compiler this is: of one that is new, also what it defines. One runs in an empty folder."""
+def begin_compiler(scratch: str, cache: str | None) -> None:
+    """Begins the commands that say which compiler this is; if no answers are kept, also what it defines. One runs in an empty folder."""
     own = after_launchers(compiler_words())
-    if is_new:
+    if cache is None or not os.path.exists(cache):
         begin_early([*own, *DEFINED])
     begin_early([*own, *VERSION])
     begin_early([*own, *FOLDERS], scratch)

@@ -256,6 +256,12 @@ def end_all() -> None:
             kill(group)
 
 
+def begin_again() -> None:
+    """Lets commands begin again after all that ran were ended."""
+    with BEGINS:
+        ENDED.clear()
+
+
 def kill(group: int) -> None:
     try:
         os.killpg(group, signal.SIGKILL)

@@ -23,8 +23,8 @@ from tools.command_line import Parser
 from tools.ending import CALLED, Stop, run_script, say
 from tools.meson_arguments import FLAGS, NO_EFFECT, NO_EFFECT_FLAGS, OPTIONS
 from tools.ninja import call
-from tools.saved_machine_file import PLACE, SavedMachineFile
-from tools.setup_arguments import MESON, build_folder_of, has_words, is_pipe, machine_path, read_setup, settings_of
+from tools.saved_machine_file import SavedMachineFile
+from tools.setup_arguments import MACHINE_FILE, MESON, build_folder_of, has_words, is_pipe, machine_path, read_setup, settings_of
 
 TYPE_CHECKING = False
 if TYPE_CHECKING:
@@ -83,8 +83,8 @@ def still_known(sources: str, settings: list[str]) -> list[str]:
 def take_away(sources: str, folder: str) -> None:
     """Removes a folder that was made for a setup that failed."""
     try:
-        os.unlink(os.path.join(sources, folder, PLACE))
-        os.rmdir(os.path.join(sources, folder, os.path.dirname(PLACE)))
+        os.unlink(os.path.join(sources, folder, MACHINE_FILE))
+        os.rmdir(os.path.join(sources, folder, os.path.dirname(MACHINE_FILE)))
         os.rmdir(os.path.join(sources, folder))
     except OSError:
         pass  # something else is there

@@ -15,7 +15,12 @@ from tools.files import read_text
 from tools.ninja import paths_in, plain
 from tools.root import Outside, Root
 
+TYPE_CHECKING = False
+if TYPE_CHECKING:
+    from typing import BinaryIO
+
 MAGIC, HEADER, END = b"!<arch>\n", 60, b"`\n"
+MOST_BYTES = 1 << 24  # of long names
 EDGE = re.compile(r"^build ((?:[^$ :|\n]|\$.)+): ar((?: (?:[^$ :|\n]|\$.)+)*)", re.M)
 
 
@@ -25,30 +30,33 @@ def archives_of(text: str) -> Iterator[tuple[str, set[str]]]:
         yield plain(output), set(map(os.path.basename, paths_in(inputs)))
 
 
-def members_of(data: bytes) -> set[str]:
-    """Returns the names of an archive's members; raises ValueError if it is no archive."""
-    if not data.startswith(MAGIC):
+def members_of(archive: BinaryIO) -> Iterator[str]:
+    """Yields the names of an archive's members; raises ValueError if it is no archive. Reads nothing of what the members are."""
+    if archive.read(len(MAGIC)) != MAGIC:
         raise ValueError("no archive")
-    at, names, long_names = len(MAGIC), set(), b""
-    while at + HEADER <= len(data):
-        name, size = data[at:at + 16].rstrip(b" "), int(data[at + 48:at + 58])
-        content = data[at + HEADER:at + HEADER + size]
-        if data[at + 58:at + 60] != END:
+    at, long_names = len(MAGIC), b""
+    while len(header := archive.read(HEADER)) == HEADER:
+        name, size = header[:16].rstrip(b" "), int(header[48:58])
+        if header[58:] != END or size < 0:
             raise ValueError("no member")
         if name == b"//":
-            long_names = content
+            long_names = archive.read(min(size, MOST_BYTES))
         elif name not in (b"/", b"/SYM64/"):
-            is_long = name.startswith(b"/")
-            names.add(long_names[int(name[1:]):].split(b"/\n")[0] if is_long else name.removesuffix(b"/"))
+            yield os.fsdecode(named_at(long_names, int(name[1:])) if name.startswith(b"/") else name.removesuffix(b"/"))
         at += HEADER + size + size % 2
-    return {os.fsdecode(it) for it in names}
+        archive.seek(at)
 
 
-def is_left_over(data: bytes, wanted: set[str]) -> bool:
+def named_at(names: bytes, place: int) -> bytes:
+    """Returns the name at a place of the list of long names."""
+    return names[place:names.find(b"/\n", place)]
+
+
+def is_left_over(archive: BinaryIO, wanted: set[str]) -> bool:
     """Returns whether an archive has a member that it shouldn't have. One that can't be read is made again too."""
     try:
-        return not members_of(data) <= wanted
-    except ValueError:
+        return not all(it in wanted for it in members_of(archive))
+    except (ValueError, OverflowError):
         return True
 
 
@@ -56,8 +64,8 @@ def main() -> int:
     root = Root(sys.argv[1])
     for path, wanted in archives_of(read_text(os.path.join(root.path, "build.ninja"))):
         try:
-            data = root.read("/" + path)
-            if data is not None and is_left_over(data, wanted):
+            archive = root.open("/" + path)
+            if archive is not None and is_left_over(archive, wanted):
                 root.remove("/" + path)
         except (Outside, OSError) as error:
             say("meson setup", f"{path}: {getattr(error, 'strerror', None) or error}: it may keep members that are gone")

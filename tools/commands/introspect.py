@@ -8,14 +8,21 @@ interrupted.
 """
 from __future__ import annotations
 
-import json
-
 from tools.command_line import Parser
 from tools.document import PARTS, read_content
 from tools.ending import run_script, write
+from tools.light_json import dumps
 from tools.setup_arguments import check_is_new, configure_again, has_words
 
 FAILED, BAD_WORDS = 1, 4
+
+
+def text_of(value: object, indent: int | None) -> str:
+    """Returns a value as JSON: in one line, or in lines that are indented by so many blanks for each level."""
+    if indent is None:
+        return dumps(value, has_blanks=True)
+    import json
+    return json.dumps(value, indent=indent)
 
 
 def main() -> int:
@@ -35,7 +42,7 @@ def main() -> int:
         check_is_new(words.folder, content["buildsystem_files"])
     parts = list(dict.fromkeys(words.parts or content))
     shown = content[parts[0]] if words.parts and len(parts) == 1 else {part: content[part] for part in parts}
-    write((json.dumps(shown, indent=words.indent) + "\n").encode())
+    write((text_of(shown, words.indent) + "\n").encode())
     return 0
 
 

@@ -7,15 +7,14 @@ Exit status: 1 if a question has no answer, else 0.
 """
 from __future__ import annotations
 
-import json
 import os
 import sys
 
 from tools.asking import processes
 from tools.ending import CALLED, Stop, as_called, one_line, run_script
 from tools.files import read_text
+from tools.light_json import loads
 from tools.setup_arguments import build_folder_of, machine_path
-from tools.time_limit import within_limit
 
 TYPE_CHECKING = False
 if TYPE_CHECKING:
@@ -45,7 +44,7 @@ def is_open(told: dict[str, Any], absent: set[str]) -> bool:
 def open_questions(program: str, words: list[str], machine: str) -> dict[str, str]:
     """Returns the questions without an answer, each with its first place."""
     done = processes.run(["meson", "questions", *words], executable=program, variables=dict(os.environ), most=processes.MOST_TOLD)
-    asked = [json.loads(line) for line in done.printed.split("\n") if line]
+    asked = [loads(line) for line in done.printed.split("\n") if line]
     absent = {line.removeprefix(NOT_FOUND) for line in machine.splitlines() if line.startswith(NOT_FOUND)}
     found: dict[str, str] = {}
     for told in asked:
@@ -96,6 +95,7 @@ def main() -> int:
         report_open(found, machine, path, folder)
     try:
         from tools.lint import notes
+        from tools.time_limit import within_limit
         remarks = within_limit(lambda: notes(folder), "it takes too long to look for what has no effect")
     except (OSError, Stop):
         remarks = []

@@ -15,9 +15,10 @@ from tools.ending import Stop, run_script, say
 from tools.explaining.run import files_below, setup_elsewhere
 from tools.files import DEFINITION_FILES, read_text
 from tools.root import Outside, Root, write_file
+from tools.scratch import ScratchFolder
 from tools.setup_arguments import Setup, is_pipe, machine_path, read_setup
 
-PLACE = "meson-private/executables"
+PLACE, MOST_BYTES = "meson-private/executables", 1 << 24
 TEMPLATE, OUTPUT = "<", ">"
 TEXT = "a text in place of an executable template\n"
 UNKNOWN = "it is not known which outputs come from executable templates, so none is made executable"
@@ -35,7 +36,8 @@ def outputs_of(program: str, setup: Setup, templates: list[str]) -> list[str]:
     machine = machine_path(setup.words)
     if machine is not None and is_pipe(os.path.join(setup.sources, machine)):
         raise Stop(f"{UNKNOWN}: the machine file was {machine}, which can't be read again")
-    with setup_elsewhere(program, setup.sources, setup.words, dict.fromkeys(templates, TEXT)) as (done, folder):
+    with ScratchFolder() as scratch:
+        done, folder = setup_elsewhere(program, setup.sources, setup.words, dict.fromkeys(templates, TEXT), scratch)
         if not done.is_good:
             said = done.said.strip().split("\n")
             raise Stop(f"{UNKNOWN}: {said[-1]}")
@@ -49,7 +51,7 @@ def has_text(path: str) -> bool:
 
 def kept_outputs(folder: str) -> list[str]:
     try:
-        lines = read_text(os.path.join(folder, PLACE)).splitlines()
+        lines = read_text(os.path.join(folder, PLACE), MOST_BYTES).splitlines()
     except OSError:
         return []
     return [it.removeprefix(OUTPUT) for it in lines if it.startswith(OUTPUT)]

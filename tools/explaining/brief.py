@@ -5,8 +5,9 @@ import json
 import os
 
 from tools.ending import CALLED, Stop, as_called
-from tools.explaining.command import TOLD, detail_of, machine_of, text_of
+from tools.explaining.command import machine_of
 from tools.explaining.fault_report import report_of
+from tools.explaining.faults import TOLD, detail_of, text_of
 from tools.explaining.run import WORDS, Asked, Fault, about, in_place
 from tools.meson_arguments import OTHER_FOLDERS
 from tools.porting.lexer import line_at

@@ -6,10 +6,8 @@ import fcntl
 import os
 import stat
 
-from tools.explaining.context import statements_below
 from tools.explaining.run import Asked, outputs
 from tools.files import DEFINITION_FILES
-from tools.porting import tree
 
 FOLDER = os.O_RDONLY | os.O_DIRECTORY | os.O_CLOEXEC | os.O_NOFOLLOW
 OUTPUTS = ("build.ninja", "meson-info/introspect.json")
@@ -23,6 +21,8 @@ def failed(asked: Asked) -> str | None:
 
 def texts_named(asked: Asked) -> list[tuple[str, str]]:
     """Returns the texts of the definition files, each with the folder in which it may be a path."""
+    from tools.explaining.context import statements_below
+    from tools.porting import tree
     return [(os.path.dirname(path), node.value) for path, statement in statements_below(asked.root)
             for expression in statement.expressions() for node in tree.inside(expression) if isinstance(node, tree.Text)]
 

@@ -1,19 +1,20 @@
 """Runs the program: over the sources, and over a temporary folder of links to them in which one file is another one."""
 from __future__ import annotations
 
-import contextlib
 import os
-import re
-import tempfile
 import time
-from collections.abc import Iterator
 
 from tools import records as dataclasses
 from tools.asking.processes import MOST_TOLD, Done, NoAnswer, run
 from tools.linked_copy import linked_copy
+from tools.scratch import ScratchFolder
 from tools.setup_arguments import build_folder_of, machine_path, settings_of
 
-FAULT = re.compile(r"(.+?):(\d+): ERROR: E(\d+) ?(.*)", re.S)
+TYPE_CHECKING = False
+if TYPE_CHECKING:
+    from types import TracebackType
+
+FAULT = r"(?s)(.+?):(\d+): ERROR: E(\d+) ?(.*)"
 MACHINE, WORDS = "<machine file>", "<command line>"
 # How long one run may take, in seconds, and how many bytes of a machine file are read: more than the program takes.
 LONGEST, MOST_BYTES = 300, (32 << 20) + 1
@@ -95,19 +96,17 @@ def words_of(asked: Asked, scratch: str) -> list[str]:
     return with_machine(asked.words, path)
 
 
-@contextlib.contextmanager
-def setup_elsewhere(program: str, root: str, words: list[str], changed: dict[str, str]) -> Iterator[tuple[Done, str]]:
-    """Runs `setup` with these arguments over links to the sources and files with another text, in a temporary folder. Yields how it ended,
+def setup_elsewhere(program: str, root: str, words: list[str], changed: dict[str, str], scratch: str) -> tuple[Done, str]:
+    """Runs `setup` with these arguments over links to the sources and files with another text, in an empty folder. Returns how it ended,
     and its BUILDDIR."""
     machine, build = machine_path(words), f"build-{os.urandom(8).hex()}"
     given = [f"-D{it}" for it in settings_of(words)]
     given += ["--native-file", os.path.join(root, machine)] if machine is not None else []
-    with tempfile.TemporaryDirectory(prefix="meson-setup-") as scratch:
-        folder = os.path.join(scratch, "sources")
-        linked_copy(root, folder, changed)
-        done = run(["meson", "setup", *given, "--", build], folder, program, seconds=LONGEST, variables=dict(os.environ),
-                   errors="backslashreplace")
-        yield done, os.path.join(folder, build)
+    folder = os.path.join(scratch, "sources")
+    linked_copy(root, folder, changed)
+    done = run(["meson", "setup", *given, "--", build], folder, program, seconds=LONGEST, variables=dict(os.environ),
+               errors="backslashreplace")
+    return done, os.path.join(folder, build)
 
 
 def files_below(folder: str) -> list[str]:
@@ -117,10 +116,12 @@ def files_below(folder: str) -> list[str]:
 
 def outputs(asked: Asked) -> dict[str, int]:
     """Returns the paths below BUILDDIR at which `setup` writes, with the sizes: those that it writes elsewhere."""
-    with tempfile.TemporaryDirectory(prefix="meson-explain-") as scratch, contextlib.suppress(NoAnswer):
-        with setup_elsewhere(asked.program, asked.root, words_of(asked, scratch), {}) as (_, folder):
-            return {os.path.relpath(it, folder): os.lstat(it).st_size for it in files_below(folder)}
-    return {}
+    with ScratchFolder() as scratch, ScratchFolder(scratch) as place:
+        try:
+            _, folder = setup_elsewhere(asked.program, asked.root, words_of(asked, scratch), {}, place)
+        except NoAnswer:
+            return {}
+        return {os.path.relpath(it, folder): os.lstat(it).st_size for it in files_below(folder)}
 
 
 def questions(asked: Asked, folder: str, scratch: str, task: str = "questions") -> Outcome:
@@ -131,40 +132,51 @@ def questions(asked: Asked, folder: str, scratch: str, task: str = "questions") 
                errors="backslashreplace", most=MOST_TOLD)
     if done.status is None:
         raise NoAnswer(done.said)
-    found = FAULT.fullmatch(done.said.removesuffix("\n"))
-    fault = Fault(found[1], int(found[2]), int(found[3]), found[4], done.printed) if found and done.status == 1 else None
-    return Outcome(done.status, fault, done.printed, done.said)
+    return Outcome(done.status, fault_of(done) if done.status == 1 else None, done.printed, done.said)
+
+
+def fault_of(done: Done) -> Fault | None:
+    """Returns the fault that a run has reported, if its line has the form of one."""
+    import re
+    found = re.fullmatch(FAULT, done.said.removesuffix("\n"))
+    return Fault(found[1], int(found[2]), int(found[3]), found[4], done.printed) if found else None
 
 
 def in_place(asked: Asked) -> Outcome:
     """Returns what the program says of the sources themselves."""
-    with tempfile.TemporaryDirectory(prefix="meson-explain-") as scratch:
+    with ScratchFolder() as scratch:
         return questions(asked, asked.root, scratch)
 
 
 def about(asked: Asked, fault: Fault) -> str:
     """Returns what the program says that the fault is about; empty if it says no more than the fault's line."""
-    with tempfile.TemporaryDirectory(prefix="meson-explain-") as scratch:
+    with ScratchFolder() as scratch:
         outcome = questions(asked, asked.root, scratch, "fault")
     is_same = outcome.fault is not None and outcome.fault.shown() == fault.shown()
     return outcome.asked.removesuffix("\n") if is_same else ""
 
 
 class Room:
-    """Makes a folder of links to the sources, with another file in the place of one."""
+    """Makes a folder of links to the sources, with another file in the place of one, which is removed at the end of a block."""
 
-    def __init__(self, asked: Asked, scratch: str, path: str, text: str) -> None:
-        self.asked, self.scratch, self.folder, self.path = asked, scratch, os.path.join(scratch, "sources"), path
-        linked_copy(asked.root, self.folder, {path: text})
+    def __init__(self, asked: Asked, path: str, text: str) -> None:
+        self.asked, self.path, self.made = asked, path, ScratchFolder()
+        self.scratch, self.folder, self.text = self.made.path, os.path.join(self.made.path, "sources"), text
+
+    def __enter__(self) -> Room:
+        self.made.__enter__()
+        try:
+            linked_copy(self.asked.root, self.folder, {self.path: self.text})
+        except BaseException:
+            self.made.__exit__(None, None, None)
+            raise
+        return self
+
+    def __exit__(self, kind: type[BaseException] | None, fault: BaseException | None, trace: TracebackType | None) -> None:
+        self.made.__exit__(kind, fault, trace)
 
     def run(self, text: str) -> Outcome:
         """Returns what the program says if the file has this text."""
         with open(os.path.join(self.folder, self.path), "w", encoding="utf-8", newline="") as it:
             it.write(text)
         return questions(self.asked, self.folder, self.scratch)
-
-
-@contextlib.contextmanager
-def room_of(asked: Asked, path: str, text: str) -> Iterator[Room]:
-    with tempfile.TemporaryDirectory(prefix="meson-explain-") as scratch:
-        yield Room(asked, scratch, path, text)

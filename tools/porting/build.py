@@ -199,21 +199,21 @@ def outcome(trial: Trial, may_run: bool) -> tuple[str, bool]:
     doubt = trial.doubt(edges)
     if doubt and not may_run:
         return f"the result was not built: that would run commands of the project, as `{doubt[:SHOWN]}`: --run allows that", True
-    failed = failure_of_ninja(trial.folder) if doubt else trial.carry_out(edges)
+    failed = failure_of_ninja(trial.folder, trial.compiler.scratch) if doubt else trial.carry_out(edges)
     if failed:
         return f"the build fails: {failed}{advice(failed)}", False
     lack = lack_of_tests(trial.folder)
     return (lack, False) if lack else ("the result was built", True)
 
 
-def failure_of_ninja(build: str) -> str:
-    """Returns the target that Ninja can't make, and why; empty if it makes all."""
+def failure_of_ninja(build: str, scratch: str) -> str:
+    """Returns the target that Ninja can't make, and why; empty if it makes all. Temporary files of compilers lie in the second folder."""
     path = os.path.join(build, "build.ninja")
     text = read_text(path)
     for it in dict.fromkeys([text.replace(COMPILES, " ".join([COMPILES, *QUICK]), 1), text]):
         with open(path, "w", encoding="utf-8", newline="") as file:
             file.write(it)
-        done = run([*find_ninja(), "-C", build], seconds=LONGEST, variables=dict(os.environ), is_asked_first=True)
+        done = run([*find_ninja(), "-C", build], seconds=LONGEST, variables={**os.environ, "TMPDIR": scratch}, is_asked_first=True)
         if done.is_good:
             return ""
     said = done.printed + done.said

@@ -6,6 +6,8 @@ import os
 import re
 import sys
 
+from tools.asking.cache import cache_path
+from tools.asking.early import begin_compiler, end_early
 from tools.command_line import Parser
 from tools.ending import Stop, one_line, show
 from tools.porting.edits import Change
@@ -14,6 +16,7 @@ from tools.porting.project import Project, Unreadable
 from tools.porting.rule import Rule
 from tools.porting.rule_table import BY_NAME, RULES
 from tools.porting.unsupported import Unsupported, unsupported_in
+from tools.scratch import ScratchFolder
 
 TYPE_CHECKING = False
 if TYPE_CHECKING:
@@ -203,8 +206,14 @@ def main(doc: str | None, given: list[str] | None = None) -> int:
     if words.list_rules:
         list_rules([it for it in RULES if not it.is_sure or "help" not in words.also])
         return 0
-    with locked(words.source):
-        return carried_out(words)
+    with locked(words.source), ScratchFolder() as scratch:
+        try:
+            if not words.no_trial:
+                # The trial asks the compiler. It says which one it is while the rules are applied.
+                begin_compiler(scratch, cache_path())
+            return carried_out(words)
+        finally:
+            end_early()
 
 
 def carried_out(words: Given) -> int:

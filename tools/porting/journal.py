@@ -16,9 +16,15 @@ import re
 import stat
 from collections.abc import Iterator
 
+try:
+    from _sha256 import sha256  # `hashlib` has it too, and loads all of OpenSSL first
+except ImportError:
+    from hashlib import sha256
+
 from tools import records as dataclasses
 from tools.ending import Stop
 from tools.files import DEFINITION_FILES, read_bytes, read_text
+from tools.light_json import dumps, loads
 
 FOLDER, JOURNAL, UNFINISHED, NEW_FOLDER = ".meson-port", "journal.json", "journal.new", "folder"
 WAITING = re.compile(r"[0-9]{1,9}")  # the name of a text that waits in the folder
@@ -61,8 +67,7 @@ def sync_folder(path: str) -> None:
 
 
 def digest(data: bytes) -> str:
-    import hashlib
-    return hashlib.sha256(data).hexdigest()
+    return sha256(data).hexdigest()
 
 
 @contextlib.contextmanager
@@ -107,8 +112,7 @@ class Journal:
     def entries(self) -> list[Entry]:
         """Reads the journal; each of its places is below the root."""
         try:
-            import json
-            rows = json.loads(read_text(self.path(JOURNAL), MOST_JOURNAL))
+            rows = loads(read_text(self.path(JOURNAL), MOST_JOURNAL))
             found = [Entry(*it) for it in rows]
             is_good = isinstance(rows, list) and all(isinstance(text, str) for it in found for text in dataclasses.astuple(it)) and all(
                 WAITING.fullmatch(it.waiting) and place_of(self.root, it.place) == it.place and may_change(it.place, not it.before)
@@ -233,8 +237,7 @@ class Journal:
     def commit(self, entries: list[Entry]) -> None:
         """Writes the journal: from here on the next run finishes this one, whatever interrupts it."""
         with open(self.path(UNFINISHED), "x", encoding="utf-8") as it:
-            import json
-            json.dump([dataclasses.astuple(entry) for entry in entries], it)
+            it.write(dumps([dataclasses.astuple(entry) for entry in entries]))
             it.flush()
             os.fsync(it.fileno())
         os.rename(self.path(UNFINISHED), self.path(JOURNAL))
