@@ -1,10 +1,11 @@
 //! Implements `range`, which makes a list of integers.
 ghost use Rattle.std.specs.Prelude.{◌≡◌, ◌<◌, ◌≤◌, ◌-◌, ◌^◌, IfOk, option_map, pos};
+ghost use Rattle.arguments.specs.Stops.{Gives};
 ghost use Rattle.values.specs.Data.{integer as integer_data};
-ghost use Rattle.world.specs.Prelude.{Answers, Does, arguments_data, data_of, items_of};
+ghost use Rattle.world.specs.Prelude.{Does, arguments_data, data_of, items_of};
 ghost use Rattle.language_calls.specs.Range.{how_many, integer_at, integers_from, range, range_answer, range_of, range_list};
 
-use arguments::{Arguments, Rule};
+use arguments::{Arguments, CallStop, Rule};
 use ports::{Outputs, Tree};
 use std::alloc::{AllocError, Global};
 use support::limits::ITEMS;
@@ -50,38 +51,26 @@ fn integers(alloc: Global, start: u128, stop: u128, step: u128) -> Result<Vec<Va
 }
 
 // Returns the list of a range, or `OperationRefusal::Limit` past 65,536 integers.
-fn step_through(
-    alloc: Global,
-    start: u128,
-    stop: u128,
-    step: u128,
-) -> Result<Result<Value, OperationRefusal>, AllocError>
+fn step_through(alloc: Global, start: u128, stop: u128, step: u128) -> Result<Value, CallStop>
     requires order { start ≤ stop }
     requires stop { stop < 2 ^ 127 }
     requires step { 0 < step }
     requires short { step < 2 ^ 127 }
-    ensures { IfOk result (λ r. Answers (range_list start stop (step - 1)) r) }
+    ensures { Gives data_of (range_list start stop (step - 1)) result }
 {
     if how_many(start, stop, step) > MOST_ITEMS {
-        return Ok(Err(OperationRefusal::Limit));
+        return Err(OperationRefusal::Limit.into());
     }
-    match List::from_items(integers(alloc, start, stop, step)?) {
-        Ok(list) => Ok(Ok(Value::of_list(alloc, list)?)),
-        Err(refusal) => Ok(Err(refusal)),
-    }
+    let list = List::from_items(integers(alloc, start, stop, step)?)?;
+    Ok(Value::of_list(alloc, list)?)
 }
 
 // Returns the list of a range, and `OperationRefusal::Arguments` for a bad start, stop or step.
-fn range_answer(
-    alloc: Global,
-    start: i128,
-    stop: i128,
-    step: i128,
-) -> Result<Result<Value, OperationRefusal>, AllocError>
-    ensures { IfOk result (λ r. Answers (range_answer start stop step) r) }
+fn range_answer(alloc: Global, start: i128, stop: i128, step: i128) -> Result<Value, CallStop>
+    ensures { Gives data_of (range_answer start stop step) result }
 {
     if start < 0 || stop < start || step < 1 {
-        return Ok(Err(OperationRefusal::Arguments));
+        return Err(OperationRefusal::Arguments.into());
     }
     step_through(
         alloc,
@@ -102,11 +91,8 @@ fn integer_at(arguments: &Arguments, place: usize) -> i128
 }
 
 // Returns the list of a range, given one, two or three integers.
-fn range_of(
-    alloc: Global,
-    arguments: &Arguments,
-) -> Result<Result<Value, OperationRefusal>, AllocError>
-    ensures { IfOk result (λ r. Answers (range_of (arguments_data arguments.now).positional (arguments_data arguments.now)) r) }
+fn range_of(alloc: Global, arguments: &Arguments) -> Result<Value, CallStop>
+    ensures { Gives data_of (range_of (arguments_data arguments.now).positional (arguments_data arguments.now)) result }
 {
     let first = integer_at(arguments, 0);
     let second = integer_at(arguments, 1);
@@ -125,7 +111,6 @@ pub fn range<T: Tree, O: Outputs>(
 ) -> Result<Option<Value>, Stop>
     ensures { Does T.seen O.seen (option_map data_of) (range (arguments_data arguments.now)) caller.now result caller.now }
 {
-    let answer = range_of(caller.alloc, arguments)?;
-    let value = caller.answer_by(Rule::GoesUp, "range", answer)?;
+    let value = caller.settle_by(Rule::GoesUp, "range", range_of(caller.alloc, arguments))?;
     Ok(Some(value))
 }

@@ -6,11 +6,6 @@ use Rattle.language_calls.proofs.ranges.step_through.Goals as goal
 
 pub returns-then-how_many-gt-MOST_ITEMS : goal.returns-then-how_many-gt-MOST_ITEMS
 returns-then-how_many-gt-MOST_ITEMS c =
-    too_many (how_many c.args.start c.args.stop (c.args.step - 1)) c.args.start (c.args.step - 1 + 1)
-    (omega (arith, c.how_many.ensures, c.if-how_many-gt-MOST_ITEMS.true))
-
-pub returns-in_ok-of_list-in-Ok : goal.returns-in_ok-of_list-in-Ok
-returns-in_ok-of_list-in-Ok c = grind (arith, common_steps)
-
-pub returns-in-Err : goal.returns-in-Err
-returns-in-Err c = grind (arith, common_steps)
+    let past = too_many (how_many c.args.start c.args.stop (c.args.step - 1)) c.args.start (c.args.step - 1 + 1)
+    (omega (arith, c.how_many.ensures, c.if-how_many-gt-MOST_ITEMS.true)) in
+    grind (arith, common_steps, past)
