@@ -1,5 +1,6 @@
 //! Reads the keyword `default_options` of `project`.
 ghost use Rattle.std.specs.Prelude.{◌≡◌, ◌++◌, IfOk, map, option_map};
+ghost use Rattle.arguments.specs.Stops.{Gives};
 ghost use Rattle.values.specs.Data.{entry_values, keys_in};
 ghost use Rattle.option_values.specs.View.{strings_in};
 ghost use Rattle.options.specs.Verdicts.{Assignment};
@@ -7,13 +8,13 @@ ghost use Rattle.options.specs.View.{defaults_in};
 ghost use Rattle.world.specs.Prelude.{arguments_data, items_of};
 ghost use Rattle.project_calls.specs.Defaults.{dictionary_given, entries_given, entry_defaults, first_unprinted};
 ghost use Rattle.project_calls.specs.Defaults.{printed_all};
-ghost use Rattle.project_calls.specs.DefaultsView.{answer_in};
+ghost use Rattle.project_calls.specs.DefaultsView.{strings_of};
 
-use arguments::Arguments;
+use arguments::{Arguments, CallStop};
 use options::ProjectDefault;
 use std::alloc::{AllocError, Global};
 use values::printing::print;
-use values::{Dictionary, OperationRefusal, Text, Value};
+use values::{Dictionary, Text, Value};
 
 // Returns the dictionary that the keyword has, if it has one.
 fn dictionary_given(arguments: &Arguments) -> Option<&Dictionary>
@@ -47,20 +48,15 @@ pub fn keys_given(arguments: &Arguments) -> &[Text]
 
 /// Returns printed values. The refusal is `OperationRefusal::Arguments` if one is or contains an object, and `OperationRefusal::Limit` if
 /// one is too long.
-pub fn print_all(
-    alloc: Global,
-    values: &[Value],
-) -> Result<Result<Vec<String>, OperationRefusal>, AllocError>
-    ensures { IfOk result (λ r. answer_in r ≡ printed_all (items_of values.now)) }
+pub fn print_all(alloc: Global, values: &[Value]) -> Result<Vec<String>, CallStop>
+    ensures { Gives strings_of (printed_all (items_of values.now)) result }
 {
     let mut texts = Vec::new(alloc);
     for value in values {
-        match print(alloc, value)? {
-            Ok(text) => texts.push(String::from_str(alloc, text.as_str())?)?,
-            Err(refusal) => return Ok(Err(refusal)),
-        }
+        let text = print(alloc, value)??;
+        texts.push(String::from_str(alloc, text.as_str())?)?;
     }
-    Ok(Ok(texts))
+    Ok(texts)
 }
 
 /// Returns the name of the first of these values that cannot be printed, and `""` if all can.

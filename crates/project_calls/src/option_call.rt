@@ -20,8 +20,7 @@ pub fn get_option<T: Tree, O: Outputs>(
     let name = arguments.text_at(0);
     match caller.store.option(name) {
         Some(option) => {
-            let answer = as_data(caller.alloc, option)?;
-            let value = caller.answer(answer)?;
+            let value = caller.settle(as_data(caller.alloc, option))?;
             Ok(Some(value))
         }
         None => caller.refuse_for(Refusal::OptionValue, Rule::IsOption, name),

@@ -17,7 +17,7 @@ use crate::option_file::option_file;
 use crate::programs::{Programs, ask_programs};
 use crate::resolution::resolution;
 use crate::shown_options::option_entries;
-use arguments::{Arguments, Rule};
+use arguments::{Arguments, CallStop, Rule};
 use build::Facts;
 use options::{OptionFault, Options, Resolved};
 use ports::{Outputs, Tree};
@@ -164,13 +164,14 @@ fn print_defaults<T: Tree, O: Outputs>(
     ensures { Does T.seen O.seen strings_of (defaults_printed (arguments_data arguments.now)) caller.now result caller.now }
 {
     let (keys, values) = (keys_given(arguments), values_given(arguments));
-    let answer = print_all(caller.alloc, values)?;
-    match answer {
+    match print_all(caller.alloc, values) {
         Ok(texts) => Ok(texts),
-        Err(refusal) => {
+        Err(CallStop::Operation(refusal)) => {
             let name = first_unprinted(caller.alloc, keys, values)?;
             caller.refuse_for(of_operation(refusal), Rule::IsPrinted, name)
         }
+        Err(CallStop::Arguments(refused)) => caller.pass(Err(refused)),
+        Err(CallStop::Memory) => Err(Stop::Memory),
     }
 }
 

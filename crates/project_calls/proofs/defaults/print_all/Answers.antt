@@ -5,8 +5,8 @@ use Rattle.project_calls.proofs.defaults.print_all.Goals as goal
 pub loop-value-init : goal.loop-value-init
 loop-value-init c = grind (arith, common_steps)
 
-pub returns-in-Err : goal.returns-in-Err
-returns-in-Err c = grind (arith, common_steps)
+pub returns-in_err-text : goal.returns-in_err-text
+returns-in_err-text c = grind (arith, common_steps)
 
 pub loop-value-preserved : goal.loop-value-preserved
 loop-value-preserved c = grind (arith, common_steps)
