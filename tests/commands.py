@@ -407,6 +407,21 @@ def test_modes_of_templates() -> None:
         shutil.rmtree(f"{sources}/b")
         put("modes/meson.build", text)
         sets_up(f"what may be a template: {text.splitlines()[-1]}", 2, True)
+    for odd in ('a"b.in', "a]b.in", 'a"]b.in', "a\\b.in", "a\\"):
+        for name in ("b", "script.in"):
+            (shutil.rmtree if name == "b" else os.remove)(f"{sources}/{name}")
+        put(f"modes/{odd}", "#!/bin/sh\n", 0o755)
+        put("modes/meson.build", f"configure_file(input: x)\n# {odd}\n")
+        configured("template", buildsystem_files={"absent": [], "present": ["plain.in", odd, "meson.build"]})
+        put("instead", CONFIGURES.replace("*.in", f"*.in '{odd}'").replace("$(basename \"$it\" .in)", "script"))
+        taken("configured")
+        done = meson("setup", "b", cwd=sources)
+        is_good = done.returncode == 0 and is_executable("script") and taken("configured").count(" setup ") == 2
+        check(f"meson setup: modes of outputs: a template {odd}", is_good, f"{done}")
+        os.rename(f"{sources}/{odd}", f"{sources}/script.in")
+    put("instead", CONFIGURES)
+    put("modes/meson.build", NAMES_TEMPLATE)
+    configured("template", buildsystem_files={"absent": [], "present": ["meson.build", "script.in", "plain.in"]})
     put("native.ini", "")
     meson("setup", "--native-file", "../native.ini", "b", cwd=sources)
     got = taken("configured")
