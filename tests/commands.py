@@ -509,6 +509,10 @@ def explains_last_setup(sources: str) -> None:
     check("meson explain: the last setup: the machine file of `configure`", (done.returncode, done.stderr) == wanted, f"{done}")
     done = meson("explain", "c", cwd=sources)
     check("meson explain: the last setup: another folder has its own", done.returncode == 2 and saved in done.stderr, f"{done}")
+    put("questions", NOTHING_ASKED)
+    meson("setup", f"-Dx={'1' * 5000}", "c", cwd=sources)
+    done = meson("explain", "c", cwd=sources)
+    check("meson explain: the last setup: of many arguments the first", done.returncode == 0 and 1000 < len(done.stderr) < 1100, f"{done}")
     for name in "cd":
         shutil.rmtree(f"{sources}/{name}")
 
