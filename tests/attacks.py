@@ -436,7 +436,8 @@ def test_words_without_end() -> None:
                 check(f"meson {script}: words that are {name}", done.returncode == status and is_told, f"{done}")
         make()
         done = ends(f"meson setup: words that are {name}", [MESON, "setup", "b"], sources)
-        check(f"meson setup: words that are {name} are replaced", done and done.returncode == 0 and read(kept) == good, f"{done}")
+        is_good = done is not None and (done.returncode, done.stderr, read(kept)) == (0, "", good)
+        check(f"meson setup: words that are {name} are replaced", is_good, f"{done}")
     words = [f"-Dx={number}" for number in range(5000)]
     run([MESON, "setup", *words, "b"], with_tools(), sources)
     done = ends("meson compile: 5,000 arguments", [MESON, "compile", "-C", "b"], sources)

@@ -351,7 +351,8 @@ NAMES_NO_TEMPLATE = (
 MAY_NAME_TEMPLATE = (
     "configure_file(\n  output: 'script', # )\n  input : files('script.in'),\n)\n", "configure_file(output: 's', input: x)\n",
     "configure_file(output: ')', input:\n  'script.in')\n", "configure_file(input: 'script' + '.in')\n", "configure_file(kwargs: x)\n",
-    "test('x', configure_file(input: 'script.in'))\n", "configure_file(input: './script.in')\n", "configure_file(input: 'a/../script.in')\n",
+    "test('x', configure_file(input: 'script.in'))\n", "configure_file(input: './script.in')\n",
+    "configure_file(input: 'a/../script.in')\n",
     "configure_file(output: '''(\n)''', input: 'script.in')\n", "if configure_file(input: a) == configure_file(input: 'script.in')\n",
     "configure_file(input: meson.current_source_dir() / 'script.in')\n", "configure_file(input: f'@x@.in')\n",
     "configure_file(input: 'scr\\x69pt.in')\n", "x = [configure_file(input: ['script.in'])]\n")
@@ -493,10 +494,11 @@ def explains_last_setup(sources: str) -> None:
     """Tries a folder that is named alone: what is explained is a run with the arguments of its last setup."""
     put("questions", NOTHING_ASKED)
     meson("setup", "-Dx=1", "--native-file", "n.ini", "c", cwd=sources)
-    put("questions", """case "$*" in "questions -Dx=1 --native-file "*" c") ;; *"machine.ini -- d"*) ;; *) echo "$*" >&2; exit 2 ;; esac\n""")
+    put("questions", """case "$*" in "questions -Dx=1 --native-file "*" c") ;; *) echo "$*" >&2; exit 2 ;; esac\n""")
     says = lambda words: f"meson explain: with the arguments of the last setup: {words}\n"
     saved = says("-Dx=1 --native-file n.ini c")
-    for name, words, wanted in (("its arguments", ["c"], (0, saved)), ("its arguments, if given", ["-Dx=1", "--native-file", "n.ini", "c"], (0, ""))):
+    for name, words, wanted in (("its arguments", ["c"], (0, saved)),
+                                ("its arguments, if given", ["-Dx=1", "--native-file", "n.ini", "c"], (0, ""))):
         done = meson("explain", *words, cwd=sources)
         check(f"meson explain: the last setup: {name}", (done.returncode, done.stderr) == wanted, f"{done}")
     done = meson("explain", "-Dx=2", "c", cwd=sources)
@@ -509,6 +511,10 @@ def explains_last_setup(sources: str) -> None:
     check("meson explain: the last setup: the machine file of `configure`", (done.returncode, done.stderr) == wanted, f"{done}")
     done = meson("explain", "c", cwd=sources)
     check("meson explain: the last setup: another folder has its own", done.returncode == 2 and saved in done.stderr, f"{done}")
+    put("questions", NOTHING_ASKED)
+    meson("setup", f"-Dx={'1' * 5000}", "c", cwd=sources)
+    done = meson("explain", "c", cwd=sources)
+    check("meson explain: the last setup: of many arguments the first", done.returncode == 0 and 1000 < len(done.stderr) < 1100, f"{done}")
     for name in "cd":
         shutil.rmtree(f"{sources}/{name}")
 
@@ -779,7 +785,8 @@ def test_light_reports() -> None:
     setup = [f"{WORK}/light/bin/hawkottoman-meson", "setup", "b"]
     done = run(setup, with_tools(), f"{WORK}/asks")
     started = taken("started")
-    check("meson setup: no script for what has nothing to report", (done.returncode, done.stderr, started) == (0, "", ""), f"{done} {started}")
+    is_quiet = (done.returncode, done.stderr, started) == (0, "", "")
+    check("meson setup: no script for what has nothing to report", is_quiet, f"{done} {started}")
     text = read("asks/sub/meson.build")
     for change in (("is_parallel: true", "is_parallel: false"), ("args: 'depends:'", "args: 'a', depends: x"),
                    ("args: 'depends:'", "args: '''a)''', \n workdir: x"), ("is_parallel: true", "is_parallel:\n false"),

@@ -8,6 +8,7 @@ from tools.explaining.run import MOST_BYTES, Asked, Outcome, in_place
 from tools.setup_arguments import MACHINE_FILE, cut, is_pipe, machine_path, read_setup
 
 DONE, NOT_READ, BAD_WORDS = 0, 2, 4
+LONGEST = 1000  # characters of arguments that are shown
 
 
 def main(told: str, program: str, words: list[str]) -> int:
@@ -19,7 +20,8 @@ def main(told: str, program: str, words: list[str]) -> int:
     used = with_saved(words)
     if used != words:
         import shlex
-        say("meson explain", f"with the arguments of the last setup: {shlex.join(used)}")
+        shown = shlex.join(used)
+        say("meson explain", f"with the arguments of the last setup: {shown if len(shown) <= LONGEST else shown[:LONGEST] + '..'}")
     asked = Asked(program, os.getcwd(), used, machine_of(used))
     return explain(asked, in_place(asked))
 
