@@ -1,12 +1,13 @@
--- What tests and operations answer.
-use Rattle.std.proofs.Common.{◌≡◌, Result, IfOk, subst}
-use Rattle.std.specs.declared.alloc.AllocError.{AllocError}
+-- What the methods give.
+use Rattle.std.proofs.Common.{◌≡◌, Result, subst}
+use Rattle.arguments.specs.Stops.{Gives}
+use Rattle.arguments.specs.declared.stop.CallStop.{CallStop}
 use Rattle.values.specs.Data.{Data}
-use Rattle.values.specs.Tables.{Answers}
+use Rattle.values.specs.View.{data_of}
 use Rattle.values.specs.declared.refusal.OperationRefusal.{OperationRefusal}
 use Rattle.values.specs.declared.value.Value.{Value}
 
--- the same answer, written otherwise
-pub answers_as : {given other : Result Data OperationRefusal} (r : Result (Result Value OperationRefusal) AllocError)
-    → given ≡ other → IfOk r (λ a. Answers given a) → IfOk r (λ a. Answers other a)
-answers_as r e p = subst (λ g. IfOk r (λ a. Answers g a)) e p
+-- the same, written otherwise
+pub gives_as : {given other : Result Data OperationRefusal} (result : Result Value CallStop)
+    → given ≡ other → Gives data_of given result → Gives data_of other result
+gives_as result e p = subst (λ g. Gives data_of g result) e p

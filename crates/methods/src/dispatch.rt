@@ -1,7 +1,8 @@
 //! Calls methods of objects.
-ghost use Rattle.std.specs.Prelude.{◌≡◌, IfOk, option_map};
+ghost use Rattle.std.specs.Prelude.{◌≡◌, option_map};
 ghost use Rattle.arguments.specs.RowView.{row_data};
-ghost use Rattle.world.specs.Prelude.{Answers, Does, MayFail, arguments_data, data_of, world_of};
+ghost use Rattle.arguments.specs.Stops.{Gives};
+ghost use Rattle.world.specs.Prelude.{Does, MayFail, arguments_data, data_of, world_of};
 ghost use Rattle.methods.specs.Methods.{breaking_text, has_method, object_method, rule_of, tell, told_of};
 ghost use Rattle.methods.specs.Rows.{row_of};
 
@@ -12,10 +13,10 @@ use crate::machines::machine_answer;
 use crate::meson_object::meson_answer;
 use crate::programs::program_answer;
 use crate::target_methods::{output_answer, target_answer};
-use arguments::{ArgumentKind, Arguments, Row, Rule};
+use arguments::{ArgumentKind, Arguments, CallStop, Row, Rule};
 use configuration_calls::{configuration_method, has_configuration_method};
 use ports::{Outputs, Tree};
-use std::alloc::{AllocError, Global};
+use std::alloc::Global;
 use values::language_names::MethodName;
 use values::{Object, OperationRefusal, Value};
 use world::{Caller, Stop, Store};
@@ -46,11 +47,11 @@ fn tell_of(
     object: &Object,
     name: &MethodName,
     arguments: &Arguments,
-) -> Result<Result<Value, OperationRefusal>, AllocError>
-    ensures { IfOk result (λ r. Answers (told_of (world_of store.now).facts object.now name.now (arguments_data arguments.now)) r) }
+) -> Result<Value, CallStop>
+    ensures { Gives data_of (told_of (world_of store.now).facts object.now name.now (arguments_data arguments.now)) result }
 {
     match object {
-        Object::Feature(feature) => Ok(feature_answer(*feature, name)),
+        Object::Feature(feature) => Ok(feature_answer(*feature, name)?),
         Object::Dependency(dependency) => dependency_answer(alloc, dependency, name),
         Object::Program(program) => program_answer(alloc, store, program, name),
         Object::BuildTarget(number) => {
@@ -63,7 +64,7 @@ fn tell_of(
             output_answer(alloc, store, *target, *output, name)
         }
         Object::Meson => meson_answer(alloc, store, name, arguments),
-        _ => Ok(Err(OperationRefusal::UnknownMethod)),
+        _ => Err(OperationRefusal::UnknownMethod.into()),
     }
 }
 
@@ -121,9 +122,9 @@ fn tell<T: Tree, O: Outputs>(
 {
     let row = row_of(object, name);
     caller.fit(&row, arguments)?;
-    let answer = tell_of(caller.alloc, caller.store, object, name, arguments)?;
+    let answer = tell_of(caller.alloc, caller.store, object, name, arguments);
     let text = breaking(object, name, arguments);
-    let value = caller.answer_by(rule_of(object), text, answer)?;
+    let value = caller.settle_by(rule_of(object), text, answer)?;
     Ok(Some(value))
 }
 

@@ -11,6 +11,7 @@ mod features;
 mod machine_keys;
 mod machines;
 mod meson_object;
+mod new_values;
 mod programs;
 mod target_methods;
 mod unsupported;

@@ -3,6 +3,7 @@ ghost use Rattle.std.specs.Prelude.{option_map};
 ghost use Rattle.world.specs.Prelude.{Does, data_of};
 ghost use Rattle.methods.specs.Keys.{text_of_key};
 
+use crate::new_values::text_value;
 use ports::{Outputs, Tree};
 use values::Value;
 use world::{Caller, Stop};
@@ -18,7 +19,7 @@ pub fn read_key<T: Tree, O: Outputs>(
 {
     caller.ask_key(section, key)?;
     let text = caller.store.machine().text_or(section, key, default);
-    let answer = Value::of_str(caller.alloc, text)?;
-    let value = caller.answer(answer)?;
+    let answer = text_value(caller.alloc, text);
+    let value = caller.settle(answer)?;
     Ok(Some(value))
 }

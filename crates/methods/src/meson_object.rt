@@ -1,10 +1,12 @@
 //! Implements the methods of the object `meson`: the page of its type in the manual.
 ghost use Rattle.std.specs.Prelude.{◌≡◌, IfOk, string_bytes};
+ghost use Rattle.arguments.specs.Stops.{Gives};
 ghost use Rattle.values.specs.Data.{text};
-ghost use Rattle.world.specs.Prelude.{Answers, arguments_data, within, world_of};
+ghost use Rattle.world.specs.Prelude.{arguments_data, data_of, within, world_of};
 ghost use Rattle.methods.specs.Meson.{answer, compiler_of, folder_below};
 
-use arguments::Arguments;
+use crate::new_values::{string_value, text_value};
+use arguments::{Arguments, CallStop};
 use std::alloc::{AllocError, Global};
 use support::paths::path_below;
 use values::language_names::{MesonMethod, MethodName};
@@ -36,33 +38,23 @@ fn folder_below(alloc: Global, root: &str, folder: &str) -> Result<String, Alloc
     }
 }
 
-fn build_root_value(
-    alloc: Global,
-    store: &Store,
-) -> Result<Result<Value, OperationRefusal>, AllocError>
-    ensures { IfOk result (λ r. Answers (within (text (world_of store.now).facts.settings.build_root)) r) }
+fn build_root_value(alloc: Global, store: &Store) -> Result<Value, CallStop>
+    ensures { Gives data_of (within (text (world_of store.now).facts.settings.build_root)) result }
 {
-    Value::of_str(alloc, build_root(store))
+    text_value(alloc, build_root(store))
 }
 
-fn source_root_value(
-    alloc: Global,
-    store: &Store,
-) -> Result<Result<Value, OperationRefusal>, AllocError>
-    ensures { IfOk result (λ r. Answers (within (text (world_of store.now).facts.settings.source_root)) r) }
+fn source_root_value(alloc: Global, store: &Store) -> Result<Value, CallStop>
+    ensures { Gives data_of (within (text (world_of store.now).facts.settings.source_root)) result }
 {
-    Value::of_str(alloc, source_root(store))
+    text_value(alloc, source_root(store))
 }
 
 // Returns the present folder below a root.
-fn present_folder(
-    alloc: Global,
-    root: &str,
-    store: &Store,
-) -> Result<Result<Value, OperationRefusal>, AllocError>
-    ensures { IfOk result (λ r. Answers (within (text (folder_below root.now (world_of store.now).facts.folder))) r) }
+fn present_folder(alloc: Global, root: &str, store: &Store) -> Result<Value, CallStop>
+    ensures { Gives data_of (within (text (folder_below root.now (world_of store.now).facts.folder))) result }
 {
-    Value::of_string(alloc, folder_below(alloc, root, store.folder())?)
+    string_value(alloc, folder_below(alloc, root, store.folder())?)
 }
 
 fn project_name(store: &Store) -> &str
@@ -77,31 +69,25 @@ fn project_version(store: &Store) -> &str
     store.project().facts().version.as_str()
 }
 
-fn project_name_value(
-    alloc: Global,
-    store: &Store,
-) -> Result<Result<Value, OperationRefusal>, AllocError>
-    ensures { IfOk result (λ r. Answers (within (text (world_of store.now).facts.project.surroundings.facts.name)) r) }
+fn project_name_value(alloc: Global, store: &Store) -> Result<Value, CallStop>
+    ensures { Gives data_of (within (text (world_of store.now).facts.project.surroundings.facts.name)) result }
 {
-    Value::of_str(alloc, project_name(store))
+    text_value(alloc, project_name(store))
 }
 
-fn project_version_value(
-    alloc: Global,
-    store: &Store,
-) -> Result<Result<Value, OperationRefusal>, AllocError>
-    ensures { IfOk result (λ r. Answers (within (text (world_of store.now).facts.project.surroundings.facts.version)) r) }
+fn project_version_value(alloc: Global, store: &Store) -> Result<Value, CallStop>
+    ensures { Gives data_of (within (text (world_of store.now).facts.project.surroundings.facts.version)) result }
 {
-    Value::of_str(alloc, project_version(store))
+    text_value(alloc, project_version(store))
 }
 
-fn compiler_of(alloc: Global, language: &str) -> Result<Result<Value, OperationRefusal>, AllocError>
-    ensures { IfOk result (λ r. Answers (compiler_of language.now) r) }
+fn compiler_of(alloc: Global, language: &str) -> Result<Value, CallStop>
+    ensures { Gives data_of (compiler_of language.now) result }
 {
     if language == "c" {
-        Ok(Ok(Value::of_object(alloc, Object::Compiler)?))
+        Ok(Value::of_object(alloc, Object::Compiler)?)
     } else {
-        Ok(Err(OperationRefusal::Arguments))
+        Err(OperationRefusal::Arguments.into())
     }
 }
 
@@ -115,21 +101,21 @@ pub fn meson_answer(
     store: &Store,
     name: &MethodName,
     arguments: &Arguments,
-) -> Result<Result<Value, OperationRefusal>, AllocError>
-    ensures { IfOk result (λ r. Answers (answer (world_of store.now).facts name.now (arguments_data arguments.now)) r) }
+) -> Result<Value, CallStop>
+    ensures { Gives data_of (answer (world_of store.now).facts name.now (arguments_data arguments.now)) result }
 {
     match name.of_meson() {
-        Some(MesonMethod::Backend) => Value::of_str(alloc, "ninja"),
+        Some(MesonMethod::Backend) => text_value(alloc, "ninja"),
         Some(MesonMethod::BuildRoot) => build_root_value(alloc, store),
         Some(MesonMethod::CurrentBuildDir) => present_folder(alloc, build_root(store), store),
         Some(MesonMethod::CurrentSourceDir) => present_folder(alloc, source_root(store), store),
         Some(MesonMethod::GetCompiler) => compiler_of(alloc, arguments.text_at(0)),
-        Some(MesonMethod::IsCrossBuild) => Ok(Ok(Value::Boolean(false))),
-        Some(MesonMethod::IsSubproject) => Ok(Ok(Value::Boolean(false))),
+        Some(MesonMethod::IsCrossBuild) => Ok(Value::Boolean(false)),
+        Some(MesonMethod::IsSubproject) => Ok(Value::Boolean(false)),
         Some(MesonMethod::ProjectName) => project_name_value(alloc, store),
         Some(MesonMethod::ProjectVersion) => project_version_value(alloc, store),
         Some(MesonMethod::SourceRoot) => source_root_value(alloc, store),
-        Some(MesonMethod::Version) => Value::of_str(alloc, "1.3.0"),
-        None => Ok(Err(OperationRefusal::UnknownMethod)),
+        Some(MesonMethod::Version) => text_value(alloc, "1.3.0"),
+        None => Err(OperationRefusal::UnknownMethod.into()),
     }
 }

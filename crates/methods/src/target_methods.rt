@@ -1,20 +1,23 @@
 //! Implements the methods of targets, and of the outputs of custom targets: the types `build_tgt`, `custom_tgt` and `custom_idx` of the
 //! page "Reference manual".
 ghost use Rattle.std.specs.Prelude.{◌≡◌, IfOk, Some, option_map, string_bytes};
+ghost use Rattle.arguments.specs.Stops.{Gives};
 ghost use Rattle.build.specs.edge.Texts.{texts};
 ghost use Rattle.build.specs.DeclaredTargetViews.{declared_target_views};
 ghost use Rattle.build.specs.View.{target_view};
-ghost use Rattle.world.specs.Prelude.{Answers, items_of, world_of};
+ghost use Rattle.world.specs.Prelude.{data_of, items_of, world_of};
 ghost use Rattle.methods.specs.Targets.{answer_by, at, name_of, name_value};
 ghost use Rattle.methods.specs.Targets.{only_path, output_answer, output_list, output_of, outputs_from, path_of, path_value};
 ghost use Rattle.methods.specs.Targets.{told_of};
 
 use crate::meson_object::build_root;
+use crate::new_values::{list_value, string_value, text_value};
+use arguments::CallStop;
 use build::{DeclaredTarget, Target, file_path, target_at};
 use std::alloc::{AllocError, Global};
 use support::paths::{path_below, path_in};
 use values::language_names::{MethodName, TargetMethod};
-use values::{List, Object, OperationRefusal, Value};
+use values::{Object, OperationRefusal, Value};
 use world::Store;
 
 // ---- attributes of a target
@@ -99,28 +102,21 @@ fn output_at(
 
 // ---- values
 
-fn name_value(
-    alloc: Global,
-    name: Option<&str>,
-) -> Result<Result<Value, OperationRefusal>, AllocError>
-    ensures { IfOk result (λ r. Answers (name_value (option_map (λ n. n.now) name.entry)) r) }
+fn name_value(alloc: Global, name: Option<&str>) -> Result<Value, CallStop>
+    ensures { Gives data_of (name_value (option_map (λ n. n.now) name.entry)) result }
 {
     match name {
-        Some(name) => Value::of_str(alloc, name),
-        None => Ok(Err(OperationRefusal::Arguments)),
+        Some(name) => text_value(alloc, name),
+        None => Err(OperationRefusal::Arguments.into()),
     }
 }
 
-fn path_value(
-    alloc: Global,
-    build_root: &str,
-    path: Option<String>,
-) -> Result<Result<Value, OperationRefusal>, AllocError>
-    ensures { IfOk result (λ r. Answers (path_value build_root.now (option_map string_bytes path)) r) }
+fn path_value(alloc: Global, build_root: &str, path: Option<String>) -> Result<Value, CallStop>
+    ensures { Gives data_of (path_value build_root.now (option_map string_bytes path)) result }
 {
     match path {
-        Some(path) => Value::of_string(alloc, path_below(alloc, build_root, path.as_str())?),
-        None => Ok(Err(OperationRefusal::Arguments)),
+        Some(path) => string_value(alloc, path_below(alloc, build_root, path.as_str())?),
+        None => Err(OperationRefusal::Arguments.into()),
     }
 }
 
@@ -135,17 +131,10 @@ fn outputs(alloc: Global, target: usize, count: usize) -> Result<Vec<Value>, All
 }
 
 // Returns the list of the first `count` outputs of a target.
-fn output_list(
-    alloc: Global,
-    target: usize,
-    count: usize,
-) -> Result<Result<Value, OperationRefusal>, AllocError>
-    ensures { IfOk result (λ r. Answers (output_list target count) r) }
+fn output_list(alloc: Global, target: usize, count: usize) -> Result<Value, CallStop>
+    ensures { Gives data_of (output_list target count) result }
 {
-    match List::from_items(outputs(alloc, target, count)?) {
-        Ok(list) => Ok(Ok(Value::of_list(alloc, list)?)),
-        Err(refusal) => Ok(Err(refusal)),
-    }
+    list_value(alloc, outputs(alloc, target, count)?)
 }
 
 // ---- methods
@@ -156,8 +145,8 @@ fn tell_of(
     method: TargetMethod,
     number: usize,
     outputs: usize,
-) -> Result<Result<Value, OperationRefusal>, AllocError>
-    ensures { IfOk result (λ r. Answers (told_of method (world_of store.now).facts number outputs) r) }
+) -> Result<Value, CallStop>
+    ensures { Gives data_of (told_of method (world_of store.now).facts number outputs) result }
 {
     let targets = store.project().targets();
     match method {
@@ -179,12 +168,12 @@ pub fn target_answer(
     method: Option<TargetMethod>,
     number: usize,
     outputs: usize,
-) -> Result<Result<Value, OperationRefusal>, AllocError>
-    ensures { IfOk result (λ r. Answers (answer_by method (world_of store.now).facts number outputs) r) }
+) -> Result<Value, CallStop>
+    ensures { Gives data_of (answer_by method (world_of store.now).facts number outputs) result }
 {
     match method {
         Some(method) => tell_of(alloc, store, method, number, outputs),
-        None => Ok(Err(OperationRefusal::UnknownMethod)),
+        None => Err(OperationRefusal::UnknownMethod.into()),
     }
 }
 
@@ -195,14 +184,14 @@ pub fn output_answer(
     target: usize,
     output: usize,
     name: &MethodName,
-) -> Result<Result<Value, OperationRefusal>, AllocError>
-    ensures { IfOk result (λ r. Answers (output_answer (world_of store.now).facts target output name.now) r) }
+) -> Result<Value, CallStop>
+    ensures { Gives data_of (output_answer (world_of store.now).facts target output name.now) result }
 {
     match name.of_output() {
         Some(_) => {
             let path = output_at(alloc, store.project().targets(), target, output)?;
             path_value(alloc, build_root(store), path)
         }
-        None => Ok(Err(OperationRefusal::UnknownMethod)),
+        None => Err(OperationRefusal::UnknownMethod.into()),
     }
 }

@@ -4,4 +4,4 @@ pub mod Either
 pub mod Exactly
 pub mod Looking
 pub mod NamedFiles
-pub mod Saying
+pub mod Stopping

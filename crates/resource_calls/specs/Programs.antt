@@ -1,5 +1,6 @@
 -- Defines `find_program`, which finds a program in the machine file or in the source directory.
-use Rattle.std.specs.Prelude.{Bool, true, false, List, [], ◌∷◌, Option, Some, None, codes, option_map, Result}
+use Rattle.std.specs.Prelude.{Bool, true, false, List, [], ◌∷◌, Option, Some, None, codes, option_map}
+use Rattle.std.specs.Option.{option_transpose}
 use Rattle.arguments.specs.Arguments.{ArgumentsData}
 use Rattle.values.specs.Flat.{flat_all}
 use Rattle.arguments.specs.declared.rule.Rule.TheVariants as rules
@@ -11,7 +12,6 @@ use Rattle.values.specs.Limits.{within_bytes}
 use Rattle.values.specs.declared.object.Object.TheVariants as objects
 use Rattle.values.specs.declared.object.Program.{Program}
 use Rattle.values.specs.declared.object.Program.TheVariants as programs
-use Rattle.values.specs.declared.refusal.OperationRefusal.{OperationRefusal}
 use Rattle.build.specs.edge.Texts.{Path, Text}
 use Rattle.support.specs.declared.faults.refusal.Refusal.TheVariants as refusals
 use Rattle.support.specs.paths.Paths.{tree_path}
@@ -21,12 +21,6 @@ use Rattle.values.specs.Copies.{within_texts}
 use Rattle.world.specs.Deed.{Deed, give, refuse, read, consult, ◌>>=◌, answer_or_refusal, there}
 use Rattle.world.specs.Ruled.{ruled_value}
 use Rattle.resource_calls.specs.Required.{missing_object, required_by}
-
--- Returns the program with the command that `[binaries]` of the machine file has.
-unfoldable pub program_of_words : Result (List Text) OperationRefusal → Deed (Option Program)
-program_of_words said = do
-  words ← answer_or_refusal said
-  give (Some (programs.Words words))
 
 -- Returns the program at a path in the source directory.
 unfoldable pub file_program : Path → Deed (Option Program)
@@ -52,16 +46,17 @@ file_named name = do
   found ← there path
   program_at path found
 
--- Returns the program of the machine file, and otherwise the file with this name.
-unfoldable pub words_or_file : Option (Result (List Text) OperationRefusal) → Text → Deed (Option Program)
-words_or_file (Some said) name = program_of_words said
+-- Returns the program with the command that `[binaries]` of the machine file has, and otherwise the file with this name.
+unfoldable pub words_or_file : Option (List Text) → Text → Deed (Option Program)
+words_or_file (Some words) name = give (Some (programs.Words words))
 words_or_file None name = file_named name
 
--- Returns the program with a name: that of the machine file, and otherwise a file.
+-- Returns the program with a name: that of the machine file, and otherwise a file. Refuses a command that is too large with E22.
 unfoldable pub program_named : Text → Deed (Option Program)
 program_named name = do
   answer ← consult (question_about (Key (codes "binaries") name))
-  words_or_file (option_map within_texts (program_words answer)) name
+  words ← answer_or_refusal (option_transpose (option_map within_texts (program_words answer)))
+  words_or_file words name
 
 -- Returns the program that was found, and otherwise looks further.
 abbrev pub or_else : Option Program → Deed (Option Program) → Deed (Option Program)

@@ -1,6 +1,11 @@
 //! Implements `dependency`: <https://mesonbuild.com/Reference-manual_functions.html#dependency>.
-ghost use Rattle.std.specs.Prelude.{◌≡◌, IfOk, map, option_map};
+ghost use Rattle.std.specs.Prelude.{◌≡◌, IfOk, codes, map, option_map};
+ghost use Rattle.std.specs.Option.{option_transpose};
+ghost use Rattle.arguments.specs.Given.{texts};
+ghost use Rattle.arguments.specs.Stops.{Gives};
 ghost use Rattle.build.specs.project.View.{answer_view};
+ghost use Rattle.machine_file.specs.Questions.{answer_to, dependency_topic};
+ghost use Rattle.resources.specs.Fitting.{dependency_that_fits};
 ghost use Rattle.world.specs.Prelude.{Does, MayFail, arguments_data, data_of};
 ghost use Rattle.resource_calls.specs.Dependency.{answer_of, dependency, dependency_named, first_said, fitting_dependency};
 ghost use Rattle.resource_calls.specs.Dependency.{note_dependency, none_fits};
@@ -8,7 +13,7 @@ ghost use Rattle.resource_calls.specs.Required.{required_by};
 
 use crate::call_results::return_object;
 use crate::required::{gives_disabler, object_or, read_required};
-use arguments::{Arguments, Requirement};
+use arguments::{Arguments, CallStop, Requirement};
 use build::project::Answer;
 use machine_file::Topic;
 use ports::{Outputs, Tree};
@@ -16,15 +21,29 @@ use resources::{call_question, dependency_that_fits, missing_dependency};
 use std::alloc::{AllocError, Global};
 use support::faults::Refusal;
 use values::{Dependency, Object, Value};
-use world::{Caller, Stop};
+use world::{Caller, Stop, Store};
 
-// Returns the dependency with a name if the machine file has it in a version that fits. For the empty name, the machine file is not
-// queried. The question carries what the arguments of the call say.
+// Returns the dependency with a name if the machine file has it in a version that the call accepts.
+fn said_dependency(
+    alloc: Global,
+    store: &Store,
+    name: &str,
+    arguments: &Arguments,
+) -> Result<Option<Dependency>, CallStop>
+    ensures { Gives (λ d. d) (option_transpose (dependency_that_fits (texts (codes "version") (arguments_data arguments.now)) name.now
+        (answer_to store.now.machine (dependency_topic name.now)))) result }
+{
+    let conditions = arguments.texts(alloc, "version")?;
+    dependency_that_fits(alloc, store.machine(), name, &conditions)
+}
+
+// Returns the dependency with a name if the machine file has it in a version that fits, and refuses one that is too large with E22. For
+// the empty name, the machine file is not queried. The question carries what the arguments of the call say.
 fn dependency_named<T: Tree, O: Outputs>(
     caller: &mut Caller<'_, T, O>,
     name: &str,
     arguments: &Arguments,
-) -> Result<Option<Result<Dependency, values::OperationRefusal>>, Stop>
+) -> Result<Option<Dependency>, Stop>
     ensures { Does T.seen O.seen (λ d. d) (dependency_named name.now (arguments_data arguments.now)) caller.old result caller.new }
 {
     if name.is_empty() {
@@ -33,9 +52,8 @@ fn dependency_named<T: Tree, O: Outputs>(
     let topic = Topic::dependency(caller.alloc, name)?;
     let question = call_question(caller.alloc, topic, arguments)?;
     caller.ask(question)?;
-    let conditions = arguments.texts(caller.alloc, "version")?;
-    let said = dependency_that_fits(caller.alloc, caller.store.machine(), name, &conditions)?;
-    Ok(said)
+    let said = said_dependency(caller.alloc, caller.store, name, arguments);
+    caller.settle(said)
 }
 
 // Returns what the machine file says of the first of these names that fits.
@@ -43,7 +61,7 @@ fn first_said<T: Tree, O: Outputs>(
     caller: &mut Caller<'_, T, O>,
     names: &[&str],
     arguments: &Arguments,
-) -> Result<Option<Result<Dependency, values::OperationRefusal>>, Stop>
+) -> Result<Option<Dependency>, Stop>
     ensures { Does T.seen O.seen (λ d. d) (first_said (arguments_data arguments.now) (map (λ n. n.now) names.now))
         caller.old result caller.new }
 {
@@ -60,7 +78,7 @@ fn first_said<T: Tree, O: Outputs>(
 fn fitting_dependency<T: Tree, O: Outputs>(
     caller: &mut Caller<'_, T, O>,
     arguments: &Arguments,
-) -> Result<Option<Result<Dependency, values::OperationRefusal>>, Stop>
+) -> Result<Option<Dependency>, Stop>
     ensures { let a = arguments_data arguments.now in Does T.seen O.seen (λ d. d) (fitting_dependency (required_by a) a)
         caller.old result caller.new }
 {
@@ -83,15 +101,14 @@ fn answer_of(alloc: Global, dependency: &Dependency) -> Result<Answer, AllocErro
     })
 }
 
-// Records a dependency, and returns it or a disabler in its place. Refuses one that is too large with E22.
+// Records a dependency, and returns it or a disabler in its place.
 fn note_dependency<T: Tree, O: Outputs>(
     caller: &mut Caller<'_, T, O>,
-    said: Result<Dependency, values::OperationRefusal>,
+    dependency: Dependency,
     is_disabled: bool,
 ) -> Result<Option<Value>, Stop>
-    ensures { Does T.seen O.seen (option_map data_of) (note_dependency said is_disabled) caller.old result caller.new }
+    ensures { Does T.seen O.seen (option_map data_of) (note_dependency dependency is_disabled) caller.old result caller.new }
 {
-    let dependency = caller.answer(said)?;
     let answer = answer_of(caller.alloc, &dependency)?;
     caller.add_dependency(answer)?;
     return_object(
@@ -100,7 +117,8 @@ fn note_dependency<T: Tree, O: Outputs>(
     )
 }
 
-// Returns the result if no name fits. Refuses with E17 of the first name if the dependency is required.
+// Returns the result if no name fits. Refuses with E17 of the first name if the dependency is required, and otherwise with E22 if that name
+// is too long for a text.
 fn none_fits<T: Tree, O: Outputs>(
     caller: &mut Caller<'_, T, O>,
     arguments: &Arguments,
@@ -111,7 +129,7 @@ fn none_fits<T: Tree, O: Outputs>(
     match read_required(arguments) {
         Requirement::Required => caller.refuse(Refusal::NotFound, arguments.text_at(0)),
         Requirement::Optional | Requirement::Disabled => {
-            let missing = missing_dependency(caller.alloc, arguments.text_at(0))?;
+            let missing = caller.settle(missing_dependency(caller.alloc, arguments.text_at(0)))?;
             note_dependency(caller, missing, gives_disabler(arguments))
         }
     }
@@ -129,7 +147,7 @@ pub fn dependency<T: Tree, O: Outputs>(
 {
     let found = fitting_dependency(caller, arguments)?;
     match found {
-        Some(said) => note_dependency(caller, said, false),
+        Some(dependency) => note_dependency(caller, dependency, false),
         None => none_fits(caller, arguments),
     }
 }

@@ -23,8 +23,7 @@ fn join_given<T: Tree, O: Outputs>(
 {
     let here = caller.here();
     let version = caller.store.project().facts().version.as_str();
-    let answer = joined_dependency(&here, version, arguments, own)?;
-    caller.answer(answer)
+    caller.settle(joined_dependency(&here, version, arguments, own))
 }
 
 /// Runs `declare_dependency()`. Refuses with E9, E14, E22 in this order.
@@ -35,8 +34,7 @@ pub fn declare_dependency<T: Tree, O: Outputs>(
     requires { MayFail T.seen O.seen caller.old }
     ensures { Does T.seen O.seen (option_map data_of) (declare_dependency (arguments_data arguments.now)) caller.old result caller.new }
 {
-    let said = own_lists(&caller.here(), arguments)?;
-    let own = caller.pass(said)?;
+    let own = caller.settle(own_lists(&caller.here(), arguments))?;
     require_files(caller, &own.sources)?;
     let dependency = join_given(caller, arguments, &own)?;
     return_object(caller, Object::Dependency(dependency))

@@ -2,7 +2,7 @@
 ghost use Rattle.std.specs.Prelude.{◌≡◌, IfOk, [], codes, map, option_map, string_bytes};
 ghost use Rattle.arguments.specs.Each.{each_said};
 ghost use Rattle.arguments.specs.Given.{text_given};
-ghost use Rattle.arguments.specs.Refused.{said_data};
+ghost use Rattle.arguments.specs.Stops.{Says};
 ghost use Rattle.build.specs.project.View.{install_view};
 ghost use Rattle.sources.specs.SourcesView.{named_view};
 ghost use Rattle.world.specs.Prelude.{arguments_data, state_of};
@@ -11,7 +11,7 @@ ghost use Rattle.resource_calls.specs.Destinations.{path_said};
 ghost use Rattle.resource_calls.specs.Destinations.{said_of, usual_folder};
 ghost use Rattle.resource_calls.specs.DestinationsView.{folders_view, said_view};
 
-use arguments::{ArgumentError, Arguments, Rule};
+use arguments::{Arguments, CallStop, Rule};
 use build::project::Install;
 use ports::{Outputs, Tree};
 use resources::{destination, headers_folder, man_folder};
@@ -154,42 +154,30 @@ fn path_said(named: &NamedSource) -> &str
 }
 
 // Returns where the named files are installed, or the refusal of one that cannot be installed.
-fn installs_of(
-    call: &Call<'_, '_>,
-    named: &[NamedSource],
-) -> Result<Result<Vec<Install>, ArgumentError>, AllocError>
-    ensures { IfOk result (λ is. said_data (λ v. map install_view v.items) is
-        ≡ each_said (destination_of_file (folders_view call.now.folders) call.now.sort (arguments_data call.now.arguments.now)) []
-        (map named_view named.now)) }
+fn installs_of(call: &Call<'_, '_>, named: &[NamedSource]) -> Result<Vec<Install>, CallStop>
+    ensures { Says (λ v. map install_view v.items)
+        (each_said (destination_of_file (folders_view call.now.folders) call.now.sort (arguments_data call.now.arguments.now)) []
+        (map named_view named.now)) result }
 {
     let alloc = call.folders.here.alloc;
     let mut installs = Vec::new(alloc);
     for one in named {
-        match install_of(call, one)? {
-            Some(install) => installs.push(install)?,
-            None => {
-                let refused = Rule::IsManPage.refuse(alloc, path_said(one))?;
-                return Ok(Err(refused));
-            }
-        }
+        let Some(install) = install_of(call, one)? else {
+            return Err(Rule::IsManPage.refuse(alloc, path_said(one))?.into());
+        };
+        installs.push(install)?;
     }
-    Ok(Ok(installs))
+    Ok(installs)
 }
 
 /// Returns what a call installs, or its refusal. Refused are a path that leads out of the source directory, and a man page without a
 /// section.
-pub fn said_of(call: &Call<'_, '_>) -> Result<Result<Said, ArgumentError>, AllocError>
-    ensures { IfOk result (λ s. said_data said_view s
-        ≡ said_of (folders_view call.now.folders) call.now.sort (arguments_data call.now.arguments.now)) }
+pub fn said_of(call: &Call<'_, '_>) -> Result<Said, CallStop>
+    ensures { Says said_view (said_of (folders_view call.now.folders) call.now.sort (arguments_data call.now.arguments.now)) result }
 {
     let here = call.folders.here;
     let values = call.arguments.leaves_behind(here.alloc, 0)?;
-    let named = match sources_of(here.alloc, here.source_root, here.folder, &values)? {
-        Ok(named) => named,
-        Err(refused) => return Ok(Err(refused)),
-    };
-    match installs_of(call, &named)? {
-        Ok(installs) => Ok(Ok(Said { named, installs })),
-        Err(refused) => Ok(Err(refused)),
-    }
+    let named = sources_of(here.alloc, here.source_root, here.folder, &values)?;
+    let installs = installs_of(call, &named)?;
+    Ok(Said { named, installs })
 }

@@ -37,12 +37,11 @@ pub fn install<T: Tree, O: Outputs>(
     ensures { Does T.seen O.seen (option_map data_of) (install sort (arguments_data arguments.now)) caller.old result caller.new }
 {
     let folders = folders_in(caller);
-    let answer = said_of(&Call {
+    let said = caller.settle(said_of(&Call {
         folders,
         sort,
         arguments,
-    })?;
-    let said = caller.pass(answer)?;
+    }))?;
     require_files(caller, &said.named)?;
     install_all(caller, said.installs)?;
     Ok(None)

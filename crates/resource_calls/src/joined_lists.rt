@@ -1,20 +1,21 @@
 //! Makes the result of `declare_dependency`: its own lists followed by those of its dependencies, all within the limits.
 ghost use Rattle.std.specs.Prelude.{◌≡◌, codes, IfOk, map};
 ghost use Rattle.arguments.specs.Given.{keyword};
+ghost use Rattle.arguments.specs.Stops.{Gives};
 ghost use Rattle.sources.specs.SourcesView.{named_view};
 ghost use Rattle.build.specs.DeclaredTargetViews.{declared_target_views};
 ghost use Rattle.world.specs.Prelude.{arguments_data, here_view};
-ghost use Rattle.resource_calls.specs.JoinedLists.{count_at, dependencies_given, joined_dependency, source_of};
+ghost use Rattle.resource_calls.specs.JoinedLists.{count_at, dependencies_given, joined_dependency, own_dependency, source_of};
 ghost use Rattle.resource_calls.specs.JoinedLists.{sources_within, tree_source, version_or, with_arguments, with_own};
 ghost use Rattle.resource_calls.specs.OwnListsView.{own_view};
 
 use crate::own_lists::Own;
-use arguments::Arguments;
+use arguments::{Arguments, CallStop};
 use build::DeclaredTarget;
 use resources::{dependencies_in, found_dependency, join};
 use sources::{NamedSource, outputs_at};
 use std::alloc::{AllocError, Global};
-use values::{Dependency, OperationRefusal, Source, Sources, Text, Texts, within_texts};
+use values::{Dependency, Source, Sources, Text, Texts, within_texts};
 use world::Here;
 
 // ---- sources
@@ -30,39 +31,36 @@ fn count_at(earlier: &[DeclaredTarget], number: usize) -> usize
     }
 }
 
-fn tree_source(alloc: Global, path: &str) -> Result<Result<Source, OperationRefusal>, AllocError>
-    ensures { IfOk result (λ r. r ≡ tree_source path.now) }
+fn tree_source(alloc: Global, path: &str) -> Result<Source, CallStop>
+    ensures { Gives (λ s. s) (tree_source path.now) result }
 {
-    match Text::of_str(alloc, path)? {
-        Ok(path) => Ok(Ok(Source::File {
-            path,
-            is_built: false,
-        })),
-        Err(refusal) => Ok(Err(refusal)),
-    }
+    Ok(Source::File {
+        path: Text::of_str(alloc, path)??,
+        is_built: false,
+    })
 }
 
 fn source_of(
     alloc: Global,
     earlier: &[DeclaredTarget],
     named: &NamedSource,
-) -> Result<Result<Source, OperationRefusal>, AllocError>
-    ensures { IfOk result (λ r. r ≡ source_of (declared_target_views earlier.now) (named_view named.now)) }
+) -> Result<Source, CallStop>
+    ensures { Gives (λ s. s) (source_of (declared_target_views earlier.now) (named_view named.now)) result }
 {
     match named {
         NamedSource::Tree(path) => tree_source(alloc, path.as_str()),
-        NamedSource::Built(path) => Ok(Ok(Source::File {
+        NamedSource::Built(path) => Ok(Source::File {
             path: path.clone()?,
             is_built: true,
-        })),
-        NamedSource::Outputs(number) => Ok(Ok(Source::CustomTarget {
+        }),
+        NamedSource::Outputs(number) => Ok(Source::CustomTarget {
             number: *number,
             outputs: count_at(earlier, *number),
-        })),
-        NamedSource::Output { target, place } => Ok(Ok(Source::CustomOutput {
+        }),
+        NamedSource::Output { target, place } => Ok(Source::CustomOutput {
             target: *target,
             output: *place,
-        })),
+        }),
     }
 }
 
@@ -71,17 +69,14 @@ fn sources_within(
     alloc: Global,
     earlier: &[DeclaredTarget],
     named: &[NamedSource],
-) -> Result<Result<Sources, OperationRefusal>, AllocError>
-    ensures { IfOk result (λ r. r ≡ sources_within (declared_target_views earlier.now) (map named_view named.now)) }
+) -> Result<Sources, CallStop>
+    ensures { Gives (λ s. s) (sources_within (declared_target_views earlier.now) (map named_view named.now)) result }
 {
     let mut sources = Sources::new(alloc);
     for one in named {
-        match source_of(alloc, earlier, one)? {
-            Ok(source) => sources.push(source)?,
-            Err(refusal) => return Ok(Err(refusal)),
-        }
+        sources.push(source_of(alloc, earlier, one)?)?;
     }
-    Ok(Ok(sources))
+    Ok(sources)
 }
 
 // ---- the dependency
@@ -116,8 +111,8 @@ fn with_arguments(
     alloc: Global,
     project: &str,
     arguments: &Arguments,
-) -> Result<Result<Dependency, OperationRefusal>, AllocError>
-    ensures { IfOk result (λ r. r ≡ with_arguments project.now (arguments_data arguments.now)) }
+) -> Result<Dependency, CallStop>
+    ensures { Gives (λ d. d) (with_arguments project.now (arguments_data arguments.now)) result }
 {
     let compile_args = arguments.texts(alloc, "compile_args")?;
     let link_args = arguments.texts(alloc, "link_args")?;
@@ -135,6 +130,22 @@ fn dependencies_given(alloc: Global, arguments: &Arguments) -> Result<Vec<&Depen
     }
 }
 
+// Returns the dependency that has only the lists of the call itself.
+fn own_dependency(
+    here: &Here<'_>,
+    project: &str,
+    arguments: &Arguments,
+    own: &Own,
+) -> Result<Dependency, CallStop>
+    ensures { Gives (λ d. d)
+        (own_dependency project.now (here_view here.now).earlier (arguments_data arguments.now) (own_view own.now)) result }
+{
+    let dependency = with_arguments(here.alloc, project, arguments)?;
+    let folders = within_texts(here.alloc, &own.folders)??;
+    let sources = sources_within(here.alloc, here.earlier, &own.sources)?;
+    Ok(with_own(dependency, folders, &own.libraries, sources)?)
+}
+
 /// Returns the dependency of a call with these own lists, in a project of this version, or `OperationRefusal::Limit` if one of its lists is
 /// too long.
 pub fn joined_dependency(
@@ -142,23 +153,11 @@ pub fn joined_dependency(
     project: &str,
     arguments: &Arguments,
     own: &Own,
-) -> Result<Result<Dependency, OperationRefusal>, AllocError>
-    ensures { IfOk result (λ r. r
-        ≡ joined_dependency project.now (here_view here.now).earlier (arguments_data arguments.now) (own_view own.now)) }
+) -> Result<Dependency, CallStop>
+    ensures { Gives (λ d. d)
+        (joined_dependency project.now (here_view here.now).earlier (arguments_data arguments.now) (own_view own.now)) result }
 {
-    let dependency = match with_arguments(here.alloc, project, arguments)? {
-        Ok(dependency) => dependency,
-        Err(refusal) => return Ok(Err(refusal)),
-    };
-    let folders = match within_texts(here.alloc, &own.folders)? {
-        Ok(folders) => folders,
-        Err(refusal) => return Ok(Err(refusal)),
-    };
-    let sources = match sources_within(here.alloc, here.earlier, &own.sources)? {
-        Ok(sources) => sources,
-        Err(refusal) => return Ok(Err(refusal)),
-    };
-    let whole = with_own(dependency, folders, &own.libraries, sources)?;
+    let whole = own_dependency(here, project, arguments, own)?;
     let others = dependencies_given(here.alloc, arguments)?;
     join(whole, &others)
 }

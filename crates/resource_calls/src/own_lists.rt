@@ -1,13 +1,13 @@
 //! Reads the lists that a call of `declare_dependency` itself gives.
 ghost use Rattle.std.specs.Prelude.{◌≡◌, IfOk, codes, option_map};
 ghost use Rattle.arguments.specs.Leaves.{leaves_named};
-ghost use Rattle.arguments.specs.Refused.{said_data};
+ghost use Rattle.arguments.specs.Stops.{Says};
 ghost use Rattle.build.specs.DeclaredTargetViews.{declared_target_views};
 ghost use Rattle.world.specs.Prelude.{arguments_data, here_view};
 ghost use Rattle.resource_calls.specs.OwnLists.{if_libraries, libraries_of, own_lists};
 ghost use Rattle.resource_calls.specs.OwnListsView.{own_view};
 
-use arguments::{ArgumentError, Arguments, Rule};
+use arguments::{Arguments, CallStop, Rule};
 use build::{DeclaredTarget, are_libraries};
 use sources::{NamedSource, folders_named, numbers_named, sources_named};
 use std::alloc::{AllocError, Global};
@@ -50,11 +50,8 @@ fn libraries_given(
 
 /// Returns the lists that the call itself gives, or its refusal. Refused are a path that leads out of the source directory, and a value of
 /// `link_with` that is no library.
-pub fn own_lists(
-    here: &Here<'_>,
-    arguments: &Arguments,
-) -> Result<Result<Own, ArgumentError>, AllocError>
-    ensures { IfOk result (λ own. said_data own_view own ≡ own_lists (here_view here.now) (arguments_data arguments.now)) }
+pub fn own_lists(here: &Here<'_>, arguments: &Arguments) -> Result<Own, CallStop>
+    ensures { Says own_view (own_lists (here_view here.now) (arguments_data arguments.now)) result }
 {
     let Here {
         alloc,
@@ -64,19 +61,14 @@ pub fn own_lists(
         ..
     } = *here;
     let key = "include_directories";
-    let folders = match folders_named(alloc, source_root, folder, arguments, key)? {
-        Ok(folders) => folders,
-        Err(refused) => return Ok(Err(refused)),
-    };
+    let folders = folders_named(alloc, source_root, folder, arguments, key)?;
     let Some(libraries) = libraries_given(alloc, earlier, arguments)? else {
-        return Ok(Err(Rule::TakesLibraries.refuse(alloc, "link_with")?));
+        return Err(Rule::TakesLibraries.refuse(alloc, "link_with")?.into());
     };
-    match sources_named(alloc, source_root, folder, arguments, "sources")? {
-        Ok(sources) => Ok(Ok(Own {
-            folders,
-            libraries,
-            sources,
-        })),
-        Err(refused) => Ok(Err(refused)),
-    }
+    let sources = sources_named(alloc, source_root, folder, arguments, "sources")?;
+    Ok(Own {
+        folders,
+        libraries,
+        sources,
+    })
 }

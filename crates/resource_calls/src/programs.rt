@@ -67,12 +67,9 @@ fn program_named<T: Tree, O: Outputs>(
     ensures { Does T.seen O.seen (λ p. p) (program_named name.now) caller.old result caller.new }
 {
     caller.ask_key("binaries", name)?;
-    let said = program_words(caller.alloc, caller.store.machine(), name)?;
-    match said {
-        Some(words) => {
-            let words = caller.answer(words)?;
-            Ok(Some(Program::Words(words)))
-        }
+    let words = program_words(caller.alloc, caller.store.machine(), name);
+    match caller.settle(words)? {
+        Some(words) => Ok(Some(Program::Words(words))),
         None => file_named(caller, name),
     }
 }

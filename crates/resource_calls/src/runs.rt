@@ -1,14 +1,13 @@
 //! Reads what a test runs, and with which environment variables.
-ghost use Rattle.std.specs.Prelude.{◌≡◌, IfOk, option_map};
-ghost use Rattle.arguments.specs.Refused.{said_data};
+ghost use Rattle.std.specs.Prelude.{◌≡◌, option_map};
+ghost use Rattle.arguments.specs.Stops.{Says};
 ghost use Rattle.world.specs.Prelude.{arguments_data, data_of, here_view};
 ghost use Rattle.resource_calls.specs.Runs.{object_rule, program_rule, run_of};
 ghost use Rattle.resource_calls.specs.RunsView.{run_view};
 
 use crate::commands::command_given;
-use arguments::{ArgumentError, Arguments, Rule};
+use arguments::{Arguments, CallStop, Rule};
 use resources::environment;
-use std::alloc::{AllocError, Global};
 use values::{Object, Value};
 use world::Here;
 
@@ -42,21 +41,16 @@ fn program_rule(program: Option<&Value>) -> Rule
 
 /// Returns the command and the variables of a call, or its refusal. Refused are a program that cannot run, with the test's name as detail,
 /// and a text that is no variable.
-pub fn run_of(
-    here: &Here<'_>,
-    arguments: &Arguments,
-) -> Result<Result<Run, ArgumentError>, AllocError>
-    ensures { IfOk result (λ run. said_data run_view run ≡ run_of (here_view here.now) (arguments_data arguments.now)) }
+pub fn run_of(here: &Here<'_>, arguments: &Arguments) -> Result<Run, CallStop>
+    ensures { Says run_view (run_of (here_view here.now) (arguments_data arguments.now)) result }
 {
     let Some(command) = command_given(here, arguments)? else {
         let rule = program_rule(arguments.argument(1));
-        return Ok(Err(rule.refuse(here.alloc, arguments.text_at(0))?));
+        return Err(rule.refuse(here.alloc, arguments.text_at(0))?.into());
     };
-    match environment(here.alloc, arguments)? {
-        Ok(environment) => Ok(Ok(Run {
-            command,
-            environment,
-        })),
-        Err(refused) => Ok(Err(refused)),
-    }
+    let environment = environment(here.alloc, arguments)?;
+    Ok(Run {
+        command,
+        environment,
+    })
 }

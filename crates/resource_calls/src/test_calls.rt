@@ -1,17 +1,17 @@
 //! Implements `test`: <https://mesonbuild.com/Reference-manual_functions.html#test>.
-ghost use Rattle.std.specs.Prelude.{◌≡◌, IfOk, option_map};
+ghost use Rattle.std.specs.Prelude.{◌≡◌, option_map};
+ghost use Rattle.arguments.specs.Stops.{Gives};
 ghost use Rattle.build.specs.project.View.{test_view};
 ghost use Rattle.world.specs.Prelude.{Does, MayFail, arguments_data, data_of};
-ghost use Rattle.world.specs.Answering.{Views};
 ghost use Rattle.resource_calls.specs.RunsView.{run_view};
 ghost use Rattle.resource_calls.specs.Tests.{seconds_given, test, test_given};
 
 use crate::runs::{Run, run_of};
-use arguments::Arguments;
+use arguments::{Arguments, CallStop};
 use build::project::Test;
 use ports::{Outputs, Tree};
 use resources::seconds_of;
-use std::alloc::{AllocError, Global};
+use std::alloc::Global;
 use values::Value;
 use world::{Caller, Stop};
 
@@ -23,27 +23,20 @@ fn seconds_given(arguments: &Arguments) -> Result<i64, values::OperationRefusal>
 }
 
 // Returns the test that the arguments describe, or `OperationRefusal::Range` for its timeout.
-fn test_given(
-    alloc: Global,
-    arguments: &Arguments,
-    run: Run,
-) -> Result<Result<Test, values::OperationRefusal>, AllocError>
-    ensures { IfOk result (λ t. Views test_view (test_given (arguments_data arguments.now) (run_view run)) t) }
+fn test_given(alloc: Global, arguments: &Arguments, run: Run) -> Result<Test, CallStop>
+    ensures { Gives test_view (test_given (arguments_data arguments.now) (run_view run)) result }
 {
-    let seconds = match seconds_given(arguments) {
-        Ok(seconds) => seconds,
-        Err(refusal) => return Ok(Err(refusal)),
-    };
+    let seconds = seconds_given(arguments)?;
     let name = String::from_str(alloc, arguments.text_at(0))?;
     let suites = arguments.texts(alloc, "suite")?;
-    Ok(Ok(Test {
+    Ok(Test {
         name,
         command: run.command,
         environment: run.environment,
         suites,
         should_fail: arguments.flag("should_fail", false),
         timeout: seconds,
-    }))
+    })
 }
 
 /// Runs `test(name, program)`. Refuses with E9, then with E7 for a `timeout` that does not fit in 64 bits.
@@ -54,10 +47,8 @@ pub fn test<T: Tree, O: Outputs>(
     requires { MayFail T.seen O.seen caller.old }
     ensures { Does T.seen O.seen (option_map data_of) (test (arguments_data arguments.now)) caller.old result caller.new }
 {
-    let said = run_of(&caller.here(), arguments)?;
-    let run = caller.pass(said)?;
-    let made = test_given(caller.alloc, arguments, run)?;
-    let planned = caller.answer(made)?;
+    let run = caller.settle(run_of(&caller.here(), arguments))?;
+    let planned = caller.settle(test_given(caller.alloc, arguments, run))?;
     caller.add_test(planned)?;
     Ok(None)
 }

@@ -1,8 +1,10 @@
 //! Implements `declare_dependency`: <https://mesonbuild.com/Reference-manual_functions.html#declare_dependency>.
 ghost use Rattle.std.specs.Prelude.{◌≡◌, ◌++◌, ◌&&◌, map, IfOk, OnOk};
+ghost use Rattle.arguments.specs.Stops.{Gives};
 ghost use Rattle.values.specs.Prelude.{data_of, items_of};
 ghost use Rattle.resources.specs.Joined.{dependencies_in, dependencies_of, is_within, dependency_with_others, with_lists};
 
+use arguments::CallStop;
 use std::alloc::{AllocError, Global};
 use values::{Dependency, Object, OperationRefusal, Value};
 
@@ -79,22 +81,19 @@ fn with_lists(dependency: Dependency, other: &Dependency) -> Result<Dependency, 
 
 /// Returns a dependency with the lists of others appended, in order; those that were not found are skipped. Returns
 /// `OperationRefusal::Limit` if one of the lists then has more than 65,536 items.
-pub fn join(
-    dependency: Dependency,
-    others: &[&Dependency],
-) -> Result<Result<Dependency, OperationRefusal>, AllocError>
-    ensures { IfOk result (λ r. r ≡ dependency_with_others dependency (map (λ d. d.now) others.now)) }
+pub fn join(dependency: Dependency, others: &[&Dependency]) -> Result<Dependency, CallStop>
+    ensures { Gives (λ d. d) (dependency_with_others dependency (map (λ d. d.now) others.now)) result }
 {
     let mut all = dependency;
     for other in others {
         if !is_within(&all) {
-            return Ok(Err(OperationRefusal::Limit));
+            return Err(OperationRefusal::Limit.into());
         }
         all = with_lists(all, other)?;
     }
     if is_within(&all) {
-        Ok(Ok(all))
+        Ok(all)
     } else {
-        Ok(Err(OperationRefusal::Limit))
+        Err(OperationRefusal::Limit.into())
     }
 }

@@ -1,5 +1,7 @@
 //! Finds the dependency that a machine file has: <https://mesonbuild.com/Reference-manual_functions.html#dependency>.
-ghost use Rattle.std.specs.Prelude.{◌≡◌, codes, option_map, IfOk};
+ghost use Rattle.std.specs.Prelude.{◌≡◌, codes, option_map};
+ghost use Rattle.std.specs.Option.{option_transpose};
+ghost use Rattle.arguments.specs.Stops.{Gives};
 ghost use Rattle.machine_file.specs.Questions.{Key, answer_to, dependency_topic};
 ghost use Rattle.machine_file.specs.View.{entries_of, machine_in, strings_in, value_in};
 ghost use Rattle.machine_file.specs.Readers.{words_said};
@@ -8,10 +10,11 @@ ghost use Rattle.resources.specs.Fitting.{conditions_hold, dependency_that_fits,
 ghost use Rattle.resources.specs.Fitting.{said_version};
 
 use crate::result_objects::found_dependency;
+use arguments::CallStop;
 use machine_file::{Machine, MachineValue, Section};
-use std::alloc::{AllocError, Global};
+use std::alloc::Global;
 use values::texts::version_compare;
-use values::{Dependency, OperationRefusal, Texts, within_texts};
+use values::{Dependency, Texts, within_texts};
 
 /// Returns the version in the section of a dependency, and `unknown` if it has none.
 pub fn said_version(section: &Section) -> &str
@@ -46,12 +49,8 @@ fn said_texts<'a>(section: &'a Section, key: &str) -> &'a [String]
 }
 
 // Returns the dependency that a section of the machine file describes, or `OperationRefusal::Limit` if it is too large.
-fn said_dependency(
-    alloc: Global,
-    name: &str,
-    section: &Section,
-) -> Result<Result<Dependency, OperationRefusal>, AllocError>
-    ensures { IfOk result (λ r. r ≡ said_dependency name.now (entries_of section.now)) }
+fn said_dependency(alloc: Global, name: &str, section: &Section) -> Result<Dependency, CallStop>
+    ensures { Gives (λ d. d) (said_dependency name.now (entries_of section.now)) result }
 {
     let compile_args = said_texts(section, "compile_args");
     let link_args = said_texts(section, "link_args");
@@ -65,9 +64,9 @@ pub fn dependency_that_fits(
     machine: &Machine,
     name: &str,
     conditions: &[String],
-) -> Result<Option<Result<Dependency, OperationRefusal>>, AllocError>
-    ensures { IfOk result (λ d. d ≡ dependency_that_fits (strings_in conditions.now) name.now
-        (answer_to (machine_in machine.now) (dependency_topic name.now))) }
+) -> Result<Option<Dependency>, CallStop>
+    ensures { Gives (λ d. d) (option_transpose (dependency_that_fits (strings_in conditions.now) name.now
+        (answer_to (machine_in machine.now) (dependency_topic name.now)))) result }
 {
     match machine.dependency(alloc, name)? {
         Some(section) if conditions_hold(said_version(section), conditions) => {
@@ -78,20 +77,17 @@ pub fn dependency_that_fits(
 }
 
 // Returns the command in a value of a machine file, or `OperationRefusal::Limit` if it is too large.
-fn words_within(
-    alloc: Global,
-    value: &MachineValue,
-) -> Result<Result<Texts, OperationRefusal>, AllocError>
-    ensures { IfOk result (λ r. r ≡ within_texts (words_said (value_in value.now))) }
+fn words_within(alloc: Global, value: &MachineValue) -> Result<Texts, CallStop>
+    ensures { Gives (λ texts. texts) (within_texts (words_said (value_in value.now))) result }
 {
     match value {
-        MachineValue::Texts(items) => within_texts(alloc, items),
+        MachineValue::Texts(items) => Ok(within_texts(alloc, items)??),
         MachineValue::Text(text) => {
             let mut words = Vec::new(alloc);
             words.push(String::from_str(alloc, text.as_str())?)?;
-            within_texts(alloc, &words)
+            Ok(within_texts(alloc, &words)??)
         }
-        _ => Ok(Ok(Texts::new(alloc))),
+        _ => Ok(Texts::new(alloc)),
     }
 }
 
@@ -101,9 +97,9 @@ pub fn program_words(
     alloc: Global,
     machine: &Machine,
     name: &str,
-) -> Result<Option<Result<Texts, OperationRefusal>>, AllocError>
-    ensures { IfOk result (λ r. r
-        ≡ option_map within_texts (program_words (answer_to (machine_in machine.now) (Key (codes "binaries") name.now)))) }
+) -> Result<Option<Texts>, CallStop>
+    ensures { Gives (λ words. words) (option_transpose (option_map within_texts
+        (program_words (answer_to (machine_in machine.now) (Key (codes "binaries") name.now))))) result }
 {
     match machine.get("binaries", name) {
         Some(value) => Ok(Some(words_within(alloc, value)?)),

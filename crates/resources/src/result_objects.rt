@@ -1,12 +1,12 @@
 //! Makes the objects that `dependency` and `find_program` return.
-ghost use Rattle.std.specs.Prelude.{◌≡◌, map, string_bytes, codes, IfOk};
+ghost use Rattle.std.specs.Prelude.{◌≡◌, map, string_bytes, codes};
+ghost use Rattle.arguments.specs.Stops.{Gives};
 ghost use Rattle.resources.specs.Found.{found_dependency, missing_dependency};
 ghost use Rattle.values.specs.Copies.{short_texts, within_texts};
 
-use std::alloc::{AllocError, Global};
-use values::{
-    Dependency, Numbers, OperationRefusal, Sources, Text, Texts, short_texts, within_texts,
-};
+use arguments::CallStop;
+use std::alloc::Global;
+use values::{Dependency, Numbers, Sources, Text, Texts, short_texts, within_texts};
 
 // Returns a dependency that has only these arguments for the compiler and the linker.
 fn of_arguments(
@@ -38,27 +38,15 @@ pub fn found_dependency(
     version: &str,
     compile_args: &[String],
     link_args: &[String],
-) -> Result<Result<Dependency, OperationRefusal>, AllocError>
-    ensures { IfOk result
-        (λ r. r ≡ found_dependency name.now version.now (map string_bytes compile_args.now) (map string_bytes link_args.now)) }
+) -> Result<Dependency, CallStop>
+    ensures { Gives (λ d. d)
+        (found_dependency name.now version.now (map string_bytes compile_args.now) (map string_bytes link_args.now)) result }
 {
-    let name = match Text::of_str(alloc, name)? {
-        Ok(name) => name,
-        Err(refusal) => return Ok(Err(refusal)),
-    };
-    let version = match Text::of_str(alloc, version)? {
-        Ok(version) => version,
-        Err(refusal) => return Ok(Err(refusal)),
-    };
-    let compile_args = match within_texts(alloc, compile_args)? {
-        Ok(arguments) => arguments,
-        Err(refusal) => return Ok(Err(refusal)),
-    };
-    let link_args = match within_texts(alloc, link_args)? {
-        Ok(arguments) => arguments,
-        Err(refusal) => return Ok(Err(refusal)),
-    };
-    Ok(Ok(of_arguments(alloc, name, version, compile_args, link_args)))
+    let name = Text::of_str(alloc, name)??;
+    let version = Text::of_str(alloc, version)??;
+    let compile_args = within_texts(alloc, compile_args)??;
+    let link_args = within_texts(alloc, link_args)??;
+    Ok(of_arguments(alloc, name, version, compile_args, link_args))
 }
 
 // Returns a dependency that was not found, which has only a name and a version.
@@ -80,18 +68,10 @@ fn absent(alloc: Global, name: Text, version: Text) -> Dependency
 
 /// Returns the dependency with this name that was not found, whose version is `unknown`, or `OperationRefusal::Limit` if the name is too
 /// long for a text.
-pub fn missing_dependency(
-    alloc: Global,
-    name: &str,
-) -> Result<Result<Dependency, OperationRefusal>, AllocError>
-    ensures { IfOk result (λ r. r ≡ missing_dependency name.now) }
+pub fn missing_dependency(alloc: Global, name: &str) -> Result<Dependency, CallStop>
+    ensures { Gives (λ d. d) (missing_dependency name.now) result }
 {
-    let name = match Text::of_str(alloc, name)? {
-        Ok(name) => name,
-        Err(refusal) => return Ok(Err(refusal)),
-    };
-    match Text::of_str(alloc, "unknown")? {
-        Ok(version) => Ok(Ok(absent(alloc, name, version))),
-        Err(refusal) => Ok(Err(refusal)),
-    }
+    let name = Text::of_str(alloc, name)??;
+    let version = Text::of_str(alloc, "unknown")??;
+    Ok(absent(alloc, name, version))
 }

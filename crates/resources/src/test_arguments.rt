@@ -1,13 +1,13 @@
 //! Reads the arguments of `test`: <https://mesonbuild.com/Reference-manual_functions.html#test>.
 ghost use Rattle.std.specs.Prelude.{◌≡◌, IfOk, [], map, string_bytes};
 ghost use Rattle.arguments.specs.Arguments.{arguments_data};
-ghost use Rattle.arguments.specs.Refused.{answer_data, said_data};
+ghost use Rattle.arguments.specs.Stops.{Says};
 ghost use Rattle.values.specs.Prelude.{items_of};
 ghost use Rattle.resources.specs.TestingView.{strings_of};
 ghost use Rattle.resources.specs.Testing.{are_assignments, assigned_behind, assignment, environment, is_assignment};
 ghost use Rattle.resources.specs.Testing.{seconds_of};
 
-use arguments::{ArgumentError, Arguments, Rule};
+use arguments::{Arguments, CallStop, Rule};
 use std::alloc::{AllocError, Global};
 use values::{OperationRefusal, Text, Value};
 
@@ -33,24 +33,20 @@ fn assignment(alloc: Global, name: &str, value: &str) -> Result<String, AllocErr
 
 // Returns the variables with these names and values, in order, or the refusal of a value that is no text.
 #[tactic(auto, using(crate::proofs::Assigned::assigned_cases))]
-fn assign(
-    alloc: Global,
-    names: &[Text],
-    values: &[Value],
-) -> Result<Result<Vec<String>, ArgumentError>, AllocError>
-    ensures { IfOk result (λ ts. said_data strings_of ts ≡ assigned_behind [] names.now (items_of values.now)) }
+fn assign(alloc: Global, names: &[Text], values: &[Value]) -> Result<Vec<String>, CallStop>
+    ensures { Says strings_of (assigned_behind [] names.now (items_of values.now)) result }
 {
     let mut texts = Vec::new(alloc);
     for (i, value) in values.iter().enumerate() {
         let Some(name) = names.get(i) else {
-            return Ok(Ok(texts));
+            return Ok(texts);
         };
         let Some(text) = value.as_text() else {
-            return Ok(Err(Rule::TakesText.refuse(alloc, name.as_str())?));
+            return Err(Rule::TakesText.refuse(alloc, name.as_str())?.into());
         };
         texts.push(assignment(alloc, name.as_str(), text.as_str())?)?;
     }
-    Ok(Ok(texts))
+    Ok(texts)
 }
 
 fn is_assignment(text: &str) -> bool
@@ -60,26 +56,23 @@ fn is_assignment(text: &str) -> bool
 }
 
 // Checks that each text has a name and a value. The first one that has none breaks a rule.
-fn are_assignments(alloc: Global, texts: &[String]) -> Result<Result<(), ArgumentError>, AllocError>
-    ensures { IfOk result (λ r. answer_data r ≡ are_assignments (map string_bytes texts.now)) }
+fn check_assignments(alloc: Global, texts: &[String]) -> Result<(), CallStop>
+    ensures { Says (λ u. u) (are_assignments (map string_bytes texts.now)) result }
 {
     for text in texts {
         if !is_assignment(text.as_str()) {
-            return Ok(Err(Rule::IsAssignment.refuse(alloc, text.as_str())?));
+            return Err(Rule::IsAssignment.refuse(alloc, text.as_str())?.into());
         }
     }
-    Ok(Ok(()))
+    Ok(())
 }
 
 /// Returns the environment variables of the keyword `env`, as texts `NAME=VALUE`.
 ///
 /// A value of a dictionary that is no text breaks `Rule::TakesText`, and the detail is its name. A text without `=` breaks
 /// `Rule::IsAssignment`.
-pub fn environment(
-    alloc: Global,
-    arguments: &Arguments,
-) -> Result<Result<Vec<String>, ArgumentError>, AllocError>
-    ensures { IfOk result (λ ts. said_data strings_of ts ≡ environment (arguments_data arguments.now)) }
+pub fn environment(alloc: Global, arguments: &Arguments) -> Result<Vec<String>, CallStop>
+    ensures { Says strings_of (environment (arguments_data arguments.now)) result }
 {
     match arguments.keyword("env") {
         Some(Value::Dictionary(dictionary)) => {
@@ -87,10 +80,8 @@ pub fn environment(
         }
         _ => {
             let texts = arguments.texts(alloc, "env")?;
-            match are_assignments(alloc, &texts)? {
-                Ok(()) => Ok(Ok(texts)),
-                Err(refused) => Ok(Err(refused)),
-            }
+            check_assignments(alloc, &texts)?;
+            Ok(texts)
         }
     }
 }

@@ -9,5 +9,4 @@ pub mod Things
 pub mod ThingsView
 pub mod Unnamed
 pub mod Values
-pub mod ValuesView
 pub mod Versions

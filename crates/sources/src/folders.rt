@@ -1,7 +1,7 @@
 //! Finds the directories that the keyword `include_directories` names.
 ghost use Rattle.std.specs.Prelude.{◌≡◌, ◌++◌, IfOk, None, Some, map, option_map, string_bytes, if◌then◌else◌};
 ghost use Rattle.arguments.specs.Each.{all_said};
-ghost use Rattle.arguments.specs.Refused.{said_data};
+ghost use Rattle.arguments.specs.Stops.{Says};
 ghost use Rattle.arguments.specs.declared.rule.Rule.TheVariants as rules;
 ghost use Rattle.values.specs.Prelude.{data_of};
 ghost use Rattle.support.specs.paths.Folder.{strings_of};
@@ -10,7 +10,7 @@ ghost use Rattle.sources.specs.Folders.{folders_in, folders_of, of_object, one_p
 ghost use Rattle.sources.specs.Unnamed.{named_by};
 
 use crate::refusals::refuse_unnamed;
-use arguments::{ArgumentError, Rule};
+use arguments::{CallStop, Rule};
 use std::alloc::{AllocError, Global};
 use support::paths::folder_path;
 use values::{Object, Value, push_strings};
@@ -75,17 +75,17 @@ fn push_folders_of(
     folder: &str,
     values: &[&Value],
     paths: &mut Vec<String>,
-) -> Result<Result<(), ArgumentError>, AllocError>
-    ensures { IfOk result (λ r. said_data (λ _. strings_of paths.new) r
-        ≡ all_said (named_by rules.NamesFolder (folders_in source_root.now folder.now)) (strings_of paths.old)
-        (map (λ v. data_of v.now) values.now)) }
+) -> Result<(), CallStop>
+    ensures { Says (λ _. strings_of paths.new)
+        (all_said (named_by rules.NamesFolder (folders_in source_root.now folder.now)) (strings_of paths.old)
+        (map (λ v. data_of v.now) values.now)) result }
 {
     for value in values {
         if !push_folders_in(alloc, source_root, folder, value, paths)? {
-            return Ok(Err(refuse_unnamed(alloc, Rule::NamesFolder, value)?));
+            return Err(refuse_unnamed(alloc, Rule::NamesFolder, value)?.into());
         }
     }
-    Ok(Ok(()))
+    Ok(())
 }
 
 /// Returns the paths of the directories that values name, in a definition file of a folder, which is empty for the root. The lists in the
@@ -98,13 +98,10 @@ pub fn folders_of(
     source_root: &str,
     folder: &str,
     values: &[&Value],
-) -> Result<Result<Vec<String>, ArgumentError>, AllocError>
-    ensures { IfOk result (λ ps. said_data strings_of ps
-        ≡ folders_of source_root.now folder.now (map (λ v. data_of v.now) values.now)) }
+) -> Result<Vec<String>, CallStop>
+    ensures { Says strings_of (folders_of source_root.now folder.now (map (λ v. data_of v.now) values.now)) result }
 {
     let mut paths = Vec::new(alloc);
-    match push_folders_of(alloc, source_root, folder, values, &mut paths)? {
-        Ok(()) => Ok(Ok(paths)),
-        Err(refused) => Ok(Err(refused)),
-    }
+    push_folders_of(alloc, source_root, folder, values, &mut paths)?;
+    Ok(paths)
 }

@@ -2,7 +2,7 @@
 ghost use Rattle.std.specs.Prelude.{◌≡◌, IfOk, option_map};
 ghost use Rattle.arguments.specs.Arguments.{arguments_data};
 ghost use Rattle.arguments.specs.Leaves.{leaves_named};
-ghost use Rattle.arguments.specs.Refused.{said_data};
+ghost use Rattle.arguments.specs.Stops.{Says};
 ghost use Rattle.support.specs.paths.Folder.{strings_of};
 ghost use Rattle.sources.specs.Folders.{folders_of};
 ghost use Rattle.sources.specs.Libraries.{numbers_of};
@@ -12,7 +12,7 @@ ghost use Rattle.sources.specs.SourcesView.{named_views};
 use crate::folders::folders_of;
 use crate::libraries::numbers_of;
 use crate::sources::{NamedSource, sources_of};
-use arguments::{ArgumentError, Arguments};
+use arguments::{Arguments, CallStop};
 use std::alloc::{AllocError, Global};
 
 /// Returns the directories that a keyword names, as [`folders_of`] does.
@@ -22,9 +22,8 @@ pub fn folders_named(
     folder: &str,
     arguments: &Arguments,
     name: &str,
-) -> Result<Result<Vec<String>, ArgumentError>, AllocError>
-    ensures { IfOk result (λ ps. said_data strings_of ps
-        ≡ folders_of source_root.now folder.now (leaves_named name.now (arguments_data arguments.now))) }
+) -> Result<Vec<String>, CallStop>
+    ensures { Says strings_of (folders_of source_root.now folder.now (leaves_named name.now (arguments_data arguments.now))) result }
 {
     let values = arguments.leaves(alloc, name)?;
     folders_of(alloc, source_root, folder, &values)
@@ -37,9 +36,8 @@ pub fn sources_named(
     folder: &str,
     arguments: &Arguments,
     name: &str,
-) -> Result<Result<Vec<NamedSource>, ArgumentError>, AllocError>
-    ensures { IfOk result (λ ss. said_data named_views ss
-        ≡ sources_of source_root.now folder.now (leaves_named name.now (arguments_data arguments.now))) }
+) -> Result<Vec<NamedSource>, CallStop>
+    ensures { Says named_views (sources_of source_root.now folder.now (leaves_named name.now (arguments_data arguments.now))) result }
 {
     let values = arguments.leaves(alloc, name)?;
     sources_of(alloc, source_root, folder, &values)

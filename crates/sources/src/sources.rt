@@ -2,7 +2,7 @@
 ghost use Rattle.std.specs.Prelude.{◌≡◌, ◌++◌, IfOk, None, codes, nat_eq, map, option_map, if◌then◌else◌};
 ghost use Rattle.std.specs.List.{ends_with};
 ghost use Rattle.arguments.specs.Each.{each_said};
-ghost use Rattle.arguments.specs.Refused.{said_data};
+ghost use Rattle.arguments.specs.Stops.{Says};
 ghost use Rattle.arguments.specs.declared.rule.Rule.TheVariants as rules;
 ghost use Rattle.values.specs.Prelude.{data_of};
 ghost use Rattle.sources.specs.Sources.{ends_in, ends_in_name, of_object, source_of, sources_of, tree};
@@ -11,7 +11,7 @@ ghost use Rattle.sources.specs.SourcesView.{named_view, named_views};
 ghost use Rattle.sources.specs.Unnamed.{named_by};
 
 use crate::refusals::refuse_unnamed;
-use arguments::{ArgumentError, Rule};
+use arguments::{CallStop, Rule};
 use std::alloc::{AllocError, Global};
 use support::paths::tree_path;
 use values::{Object, Text, Value};
@@ -113,18 +113,18 @@ fn push_sources(
     folder: &str,
     values: &[&Value],
     sources: &mut Vec<NamedSource>,
-) -> Result<Result<(), ArgumentError>, AllocError>
-    ensures { IfOk result (λ r. said_data (λ _. named_views sources.new) r
-        ≡ each_said (named_by rules.NamesFile (source_of source_root.now folder.now)) (named_views sources.old)
-        (map (λ v. data_of v.now) values.now)) }
+) -> Result<(), CallStop>
+    ensures { Says (λ _. named_views sources.new)
+        (each_said (named_by rules.NamesFile (source_of source_root.now folder.now)) (named_views sources.old)
+        (map (λ v. data_of v.now) values.now)) result }
 {
     for value in values {
-        match source_of(alloc, source_root, folder, value)? {
-            Some(source) => sources.push(source)?,
-            None => return Ok(Err(refuse_unnamed(alloc, Rule::NamesFile, value)?)),
-        }
+        let Some(source) = source_of(alloc, source_root, folder, value)? else {
+            return Err(refuse_unnamed(alloc, Rule::NamesFile, value)?.into());
+        };
+        sources.push(source)?;
     }
-    Ok(Ok(()))
+    Ok(())
 }
 
 /// Returns the sources that values name, in order, in a definition file of a folder. The lists in the values are already flattened.
@@ -136,13 +136,10 @@ pub fn sources_of(
     source_root: &str,
     folder: &str,
     values: &[&Value],
-) -> Result<Result<Vec<NamedSource>, ArgumentError>, AllocError>
-    ensures { IfOk result (λ ss. said_data named_views ss
-        ≡ sources_of source_root.now folder.now (map (λ v. data_of v.now) values.now)) }
+) -> Result<Vec<NamedSource>, CallStop>
+    ensures { Says named_views (sources_of source_root.now folder.now (map (λ v. data_of v.now) values.now)) result }
 {
     let mut sources = Vec::with_capacity(alloc, values.len())?;
-    match push_sources(alloc, source_root, folder, values, &mut sources)? {
-        Ok(()) => Ok(Ok(sources)),
-        Err(refused) => Ok(Err(refused)),
-    }
+    push_sources(alloc, source_root, folder, values, &mut sources)?;
+    Ok(sources)
 }

@@ -1,10 +1,10 @@
 pub mod Noting
 pub mod InputAlone
-pub mod Saying
 pub mod Names
 pub mod FirstItems
 pub mod AnsweredAlike
 pub mod StandingCommands
 pub mod StandingSources
 pub mod StandingTargets
+pub mod Stopping
 pub mod StandingDeeds

@@ -1,15 +1,17 @@
 -- The call does with what stands for its target as it does with the target.
 use Rattle.std.proofs.Common.{◌≡◌, ℕ, Bool, List, [], Result, Ok, Err, refl, sym, ap, subst, ◌∙◌}
 use Rattle.arguments.specs.Arguments.{ArgumentsData}
-use Rattle.arguments.specs.Refused.{RefusedData, said_data}
+use Rattle.arguments.specs.Refused.{RefusedData}
 use Rattle.arguments.specs.Said.{Said}
-use Rattle.arguments.specs.declared.refused.ArgumentError.{ArgumentError}
+use Rattle.arguments.specs.Stops.{Says}
+use Rattle.arguments.specs.declared.stop.CallStop.{CallStop}
+use Rattle.arguments.specs.declared.stop.CallStop.TheVariants as call_stops
 use Rattle.build.specs.Data.{TargetData}
 use Rattle.build.specs.edge.Texts.{Text}
 use Rattle.build.specs.project.Adding.{after_target, is_fit, target_answer}
 use Rattle.build.specs.project.Refused.{RefusedData as ProjectRefusal}
 use Rattle.build.specs.project.World.{WorldData}
-use Rattle.world.specs.Answering.{Carries, IsPassed, State, seen_at}
+use Rattle.world.specs.Answering.{Carries, State, seen_at}
 use Rattle.world.specs.Declaring.{add_target, project_answer, project_declaration}
 use Rattle.world.specs.Deed.{Deed, Files, give, perform, then}
 use Rattle.world.specs.Fit.{deed_of_result}
@@ -17,9 +19,11 @@ use Rattle.world.specs.Gives.{Gives}
 use Rattle.world.specs.Here.{HereData, here_of}
 use Rattle.world.specs.Ruled.{obeyed_rule}
 use Rattle.world.specs.Run.{Run, after, follow}
+use Rattle.world.specs.Settling.{IsSettled}
 use Rattle.world.specs.World.{World, with_facts, with_project}
 use Rattle.world.specs.declared.stop.Stop.{Stop}
 use Rattle.world.proofs.Answering.{carries_as, carries_give, carries_read, carries_then}
+use Rattle.world.proofs.Settling.{carries_says_of}
 use Rattle.target_calls.specs.BuildTargets.{NamedTargetData}
 use Rattle.target_calls.specs.BuildTargetsView.{named_target_view}
 use Rattle.target_calls.specs.CustomCalls.{said_custom}
@@ -30,7 +34,6 @@ use Rattle.target_calls.specs.LongCommands.{short_makers}
 use Rattle.target_calls.specs.Targets.{required_fit}
 use Rattle.target_calls.specs.declared.build_target.NamedTarget.{NamedTarget}
 use Rattle.target_calls.proofs.AnsweredAlike.{Alike}
-use Rattle.target_calls.proofs.Saying.{carries_said_of}
 use Rattle.target_calls.proofs.StandingTargets.{NamedAlike, SaidAs, declared_alike}
 
 -- ---- deeds that run alike
@@ -74,20 +77,24 @@ carries_custom a {t = t} {u = u} {s = s} alike p = carries_performed (add_custom
 
 -- ---- what the call says
 
-refused_same : (exact short : Said NamedTargetData) (r : RefusedData) → SaidAs NamedAlike exact short → Err r ≡ short → Err r ≡ exact
-refused_same (Err e) (Err s) r same h = h ∙ ap Err (sym same)
+refused_same : (exact short : Said NamedTargetData) (r : RefusedData) → SaidAs NamedAlike exact short → short ≡ Err r → exact ≡ Err r
+refused_same (Err e) (Err s) r same h = ap Err same ∙ h
 refused_same (Ok d) (Err s) r same h = absurd same
 refused_same (Err e) (Ok b) r same h = absurd same
 refused_same (Ok d) (Ok b) r same h = absurd cc
 
--- the call was refused
-pub carries_unsaid : (a : ArgumentsData) {x : HereData} (answer : Result NamedTarget ArgumentError) {s : State} {e : Stop}
-    → said_data named_target_view answer ≡ declared_by short_makers x a → x ≡ here_of s.world.facts → IsPassed {B = NamedTarget} s.world answer (Err e)
+-- the call was refused, or memory ran out
+pub carries_unsaid : (a : ArgumentsData) {x : HereData} (answer : Result NamedTarget CallStop) {s : State} {e : Stop}
+    → Says named_target_view (declared_by short_makers x a) answer → x ≡ here_of s.world.facts → IsSettled {B = NamedTarget} s.world answer (Err e)
     → Carries named_target_view (said_custom a) s (Err e) s
 unfolding said_custom
 carries_unsaid a (Ok named) said is p = absurd cc
-carries_unsaid a {x = x} (Err refused) said is p =
-    carries_said_of {view = named_target_view} (λ h. declared_custom h a) here_of (Err refused) (refused_same (declared_custom x a) (declared_by short_makers x a) _ (declared_alike x a) said) is p
+carries_unsaid a {x = x} (Err (call_stops.Arguments refused)) said is p =
+    carries_says_of {view = named_target_view} (λ h. declared_custom h a) here_of (Err (call_stops.Arguments refused))
+    (refused_same (declared_custom x a) (declared_by short_makers x a) _ (declared_alike x a) said) is p
+carries_unsaid a (Err (call_stops.Operation refusal)) said is p = absurd said
+carries_unsaid a (Err call_stops.Memory) said is p =
+    carries_says_of {view = named_target_view} (λ h. declared_custom h a) here_of (Err call_stops.Memory) tt is p
 
 declares : (exact : Said NamedTargetData) (e : NamedTargetData) → SaidAs NamedAlike exact (Ok e) → {Goal : Type 0}
     → ((d : NamedTargetData) → exact ≡ Ok d → NamedAlike d e → Goal) → Goal
@@ -99,14 +106,16 @@ view_in named (Ok x) = named_target_view x
 view_in named (Err e) = named_target_view named
 
 -- the call declares something, for which what the code made stands
-pub carries_declaring : {B D : Type 0} {view : D → B} (a : ArgumentsData) {x : HereData} (answer : Result NamedTarget ArgumentError) (named : NamedTarget) {s s1 : State}
-    {result : Result D Stop} {next : NamedTargetData → Deed B} → said_data named_target_view answer ≡ declared_by short_makers x a → x ≡ here_of s.world.facts
-    → IsPassed s.world answer (Ok named) → ((d : NamedTargetData) → NamedAlike d (named_target_view named) → Carries view (next d) s result s1)
+pub carries_declaring : {B D : Type 0} {view : D → B} (a : ArgumentsData) {x : HereData} (answer : Result NamedTarget CallStop) (named : NamedTarget) {s s1 : State}
+    {result : Result D Stop} {next : NamedTargetData → Deed B} → Says named_target_view (declared_by short_makers x a) answer → x ≡ here_of s.world.facts
+    → IsSettled s.world answer (Ok named) → ((d : NamedTargetData) → NamedAlike d (named_target_view named) → Carries view (next d) s result s1)
     → Carries view (then (said_custom a) next) s result s1
 unfolding said_custom view_in
-carries_declaring a (Err refused) named said is p rest = absurd p
+carries_declaring a (Err (call_stops.Arguments refused)) named said is p rest = absurd p
+carries_declaring a (Err (call_stops.Operation refusal)) named said is p rest = absurd said
+carries_declaring a (Err call_stops.Memory) named said is p rest = absurd cc
 carries_declaring a {x = x} (Ok made) named {s = s} said is p rest =
-    let same : Ok (named_target_view named) ≡ declared_by short_makers x a = ap (λ r. Ok (view_in named r)) p ∙ said in
+    let same : Ok (named_target_view named) ≡ declared_by short_makers x a = ap (λ r. Ok (view_in named r)) p ∙ sym said in
     declares (declared_custom x a) (named_target_view named) (subst (SaidAs NamedAlike (declared_custom x a)) (sym same) (declared_alike x a))
     (λ d exact alike. carries_then {view = λ (n : NamedTarget). d} {x = named}
     (carries_read (carries_as (sym (ap deed_of_result (ap (λ h. declared_custom h a) (sym is) ∙ exact))) (carries_give refl))) (rest d alike))

@@ -1,7 +1,7 @@
 //! Reads an executable or a library from the arguments of a call.
 ghost use Rattle.std.specs.Prelude.{◌≡◌, IfOk, codes, map, option_map, string_bytes};
 ghost use Rattle.arguments.specs.Given.{text_given};
-ghost use Rattle.arguments.specs.Refused.{said_data};
+ghost use Rattle.arguments.specs.Stops.{Says};
 ghost use Rattle.build.specs.View.{build_view, lists_view, source_view};
 ghost use Rattle.sources.specs.SourcesView.{named_view, named_views};
 ghost use Rattle.world.specs.Prelude.{arguments_data, data_of, here_view};
@@ -11,7 +11,7 @@ ghost use Rattle.target_calls.specs.BuildTargetsView.{named_target_view};
 
 use crate::dependencies::dependencies_given;
 use crate::source_lookup::{files_among, sources_in};
-use arguments::{ArgumentError, Arguments, Rule};
+use arguments::{Arguments, CallStop, Rule};
 use build::{BuildTarget, Lists, Source, Target, TargetKind};
 use itoa::Buffer;
 use sources::{NamedSource, folders_named, is_library_version, numbers_named, sources_of};
@@ -85,11 +85,8 @@ fn source_values<'v>(alloc: Global, arguments: &'v Arguments) -> Result<Vec<&'v 
 }
 
 // Returns the sources that a call names, or the refusal of a path that is not below the source root.
-fn named_sources(
-    here: &Here<'_>,
-    arguments: &Arguments,
-) -> Result<Result<Vec<NamedSource>, ArgumentError>, AllocError>
-    ensures { IfOk result (λ ns. said_data named_views ns ≡ named_sources (here_view here.now) (arguments_data arguments.now)) }
+fn named_sources(here: &Here<'_>, arguments: &Arguments) -> Result<Vec<NamedSource>, CallStop>
+    ensures { Says named_views (named_sources (here_view here.now) (arguments_data arguments.now)) result }
 {
     let values = source_values(here.alloc, arguments)?;
     sources_of(here.alloc, here.source_root, here.folder, &values)
@@ -100,9 +97,9 @@ fn own_lists(
     here: &Here<'_>,
     arguments: &Arguments,
     sources: Vec<Source>,
-) -> Result<Result<Lists, ArgumentError>, AllocError>
-    ensures { IfOk result (λ l. said_data lists_view l
-        ≡ own_lists (here_view here.now) (arguments_data arguments.now) (map source_view sources.items)) }
+) -> Result<Lists, CallStop>
+    ensures { Says lists_view
+        (own_lists (here_view here.now) (arguments_data arguments.now) (map source_view sources.items)) result }
 {
     let Here {
         alloc,
@@ -111,20 +108,17 @@ fn own_lists(
         ..
     } = *here;
     let key = "include_directories";
-    let include_folders = match folders_named(alloc, source_root, folder, arguments, key)? {
-        Ok(folders) => folders,
-        Err(refused) => return Ok(Err(refused)),
-    };
+    let include_folders = folders_named(alloc, source_root, folder, arguments, key)?;
     let Some(link_with) = numbers_named(alloc, arguments, "link_with")? else {
-        return Ok(Err(Rule::TakesLibraries.refuse(alloc, "link_with")?));
+        return Err(Rule::TakesLibraries.refuse(alloc, "link_with")?.into());
     };
-    Ok(Ok(Lists {
+    Ok(Lists {
         sources,
         include_folders,
         compile_args: arguments.texts(alloc, "c_args")?,
         link_args: arguments.texts(alloc, "link_args")?,
         link_with,
-    }))
+    })
 }
 
 // ---- the target
@@ -158,26 +152,23 @@ fn declare_from(
     kind: TargetKind,
     arguments: &Arguments,
     named: Vec<NamedSource>,
-) -> Result<Result<NamedTarget, ArgumentError>, AllocError>
-    ensures { IfOk result (λ d. said_data named_target_view d
-        ≡ declared_from (here_view here.now) kind (arguments_data arguments.now) (map named_view named.items)) }
+) -> Result<NamedTarget, CallStop>
+    ensures { Says named_target_view
+        (declared_from (here_view here.now) kind (arguments_data arguments.now) (map named_view named.items)) result }
 {
     let files = files_among(here.alloc, &named)?;
     let Some(sources) = sources_in(here.alloc, here.earlier, named)? else {
-        return Ok(Err(Rule::NamesFile.refuse(here.alloc, "")?));
+        return Err(Rule::NamesFile.refuse(here.alloc, "")?.into());
     };
-    let own = match own_lists(here, arguments, sources)? {
-        Ok(own) => own,
-        Err(refused) => return Ok(Err(refused)),
-    };
+    let own = own_lists(here, arguments, sources)?;
     let Some(dependencies) = dependencies_given(here, arguments)? else {
-        return Ok(Err(Rule::NamesFile.refuse(here.alloc, "")?));
+        return Err(Rule::NamesFile.refuse(here.alloc, "")?.into());
     };
     let target = build_target(here, kind, arguments, own, dependencies)?;
-    Ok(Ok(NamedTarget {
+    Ok(NamedTarget {
         target: Target::Build(Box::new(here.alloc, target)?),
         files,
-    }))
+    })
 }
 
 /// Returns what a call declares, or its refusal. Refused are a bad `version` and a path that leads out of the source directory.
@@ -186,16 +177,14 @@ pub fn declare_target(
     here: &Here<'_>,
     kind: TargetKind,
     arguments: &Arguments,
-) -> Result<Result<NamedTarget, ArgumentError>, AllocError>
-    ensures { IfOk result (λ d. said_data named_target_view d ≡ declared_target (here_view here.now) kind (arguments_data arguments.now)) }
+) -> Result<NamedTarget, CallStop>
+    ensures { Says named_target_view (declared_target (here_view here.now) kind (arguments_data arguments.now)) result }
 {
     let fits = version_fits(here.alloc, arguments)?;
     if !fits {
         let version = arguments.text("version");
-        return Ok(Err(Rule::IsLibraryVersion.refuse(here.alloc, version)?));
+        return Err(Rule::IsLibraryVersion.refuse(here.alloc, version)?.into());
     }
-    match named_sources(here, arguments)? {
-        Ok(named) => declare_from(here, kind, arguments, named),
-        Err(refused) => Ok(Err(refused)),
-    }
+    let named = named_sources(here, arguments)?;
+    declare_from(here, kind, arguments, named)
 }

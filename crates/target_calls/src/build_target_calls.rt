@@ -42,8 +42,7 @@ pub fn declare<T: Tree, O: Outputs>(
     requires { MayFail T.seen O.seen caller.old }
     ensures { Does T.seen O.seen (option_map data_of) (declare kind (arguments_data arguments.now)) caller.old result caller.new }
 {
-    let said = declare_target(&caller.here(), kind, arguments)?;
-    let named = caller.pass(said)?;
+    let named = caller.settle(declare_target(&caller.here(), kind, arguments))?;
     require_fit(caller, &named.target)?;
     require_all(caller, named.files)?;
     let install = install_of(caller.alloc, caller.store, arguments, &named.target)?;

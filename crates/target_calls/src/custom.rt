@@ -3,8 +3,8 @@ ghost use Rattle.std.specs.Prelude.{◌≡◌, ◌++◌, ◌∷◌, [], IfOk, If
 ghost use Rattle.std.specs.Bool.{OnTrue};
 ghost use Rattle.arguments.specs.Arguments.{named_data};
 ghost use Rattle.arguments.specs.Given.{texts as texts_given};
-ghost use Rattle.arguments.specs.Refused.{said_data};
 ghost use Rattle.arguments.specs.Said.{found_value};
+ghost use Rattle.arguments.specs.Stops.{Says};
 ghost use Rattle.arguments.specs.declared.rule.Rule.TheVariants.{HasMeaning as Meaningful};
 ghost use Rattle.build.specs.edge.Texts.{texts};
 ghost use Rattle.build.specs.edge.Folders.{build_folder, source_folder};
@@ -28,7 +28,7 @@ ghost use Rattle.target_calls.specs.Sources.{sources_in};
 use crate::build_target::NamedTarget;
 use crate::command::{Part, command_of};
 use crate::source_lookup::{files_among, short_sources, sources_in};
-use arguments::{ArgumentError, Arguments, Named, Rule};
+use arguments::{Arguments, CallStop, Named, Rule};
 use build::{CustomTarget, Source, Target, paths_in, source_paths};
 use sources::{NamedSource, PlaceholderScope, PlaceholderValues, fill, sources_named, sources_of};
 use std::alloc::{AllocError, Global};
@@ -184,9 +184,9 @@ fn written_sources(
     here: &Here<'_>,
     arguments: &Arguments,
     input_alone: bool,
-) -> Result<Result<Vec<NamedSource>, ArgumentError>, AllocError>
+) -> Result<Vec<NamedSource>, CallStop>
     requires { OnTrue input_alone (IsAllInput (arguments_data arguments.now)) }
-    ensures { IfOk result (λ ss. said_data named_views ss ≡ written_sources (here_view here.now) (arguments_data arguments.now)) }
+    ensures { Says named_views (written_sources (here_view here.now) (arguments_data arguments.now)) result }
 {
     match only_written(arguments, input_alone) {
         Some(value) => sources_of(here.alloc, here.source_root, here.folder, &[value]),
@@ -202,53 +202,40 @@ fn sources_said(
     here: &Here<'_>,
     named: Vec<NamedSource>,
     name: &str,
-) -> Result<Result<Vec<Source>, ArgumentError>, AllocError>
-    ensures { IfOk result (λ ss. said_data (λ v. map source_view v.items) ss
-        ≡ found_value (sources_in (here_view here.now).earlier (named_views named)) Meaningful name.now) }
+) -> Result<Vec<Source>, CallStop>
+    ensures { Says (λ v. map source_view v.items)
+        (found_value (sources_in (here_view here.now).earlier (named_views named)) Meaningful name.now) result }
 {
     match sources_in(here.alloc, here.earlier, named)? {
-        Some(sources) => Ok(Ok(sources)),
-        None => Ok(Err(Rule::HasMeaning.refuse(here.alloc, name)?)),
+        Some(sources) => Ok(sources),
+        None => Err(Rule::HasMeaning.refuse(here.alloc, name)?.into()),
     }
 }
 
 // Returns the sources that a keyword names, or the refusal of a bad path or output.
-fn sources_by(
-    here: &Here<'_>,
-    arguments: &Arguments,
-    name: &str,
-) -> Result<Result<Vec<Source>, ArgumentError>, AllocError>
-    ensures { IfOk result (λ ss. said_data (λ v. map source_view v.items) ss
-        ≡ sources_by (here_view here.now) (arguments_data arguments.now) name.now) }
+fn sources_by(here: &Here<'_>, arguments: &Arguments, name: &str) -> Result<Vec<Source>, CallStop>
+    ensures { Says (λ v. map source_view v.items) (sources_by (here_view here.now) (arguments_data arguments.now) name.now) result }
 {
-    match sources_named(here.alloc, here.source_root, here.folder, arguments, name)? {
-        Ok(named) => sources_said(here, named, name),
-        Err(refused) => Ok(Err(refused)),
-    }
+    let named = sources_named(here.alloc, here.source_root, here.folder, arguments, name)?;
+    sources_said(here, named, name)
 }
 
 // Returns the files that `depend_files` names, or the refusal of a bad path or output. If there are too many, no list of outputs is repeated.
-fn files_by(
-    here: &Here<'_>,
-    arguments: &Arguments,
-) -> Result<Result<Vec<Source>, ArgumentError>, AllocError>
-    ensures { IfOk result (λ ss. said_data (λ v. map source_view v.items) ss
-        ≡ sources_made short_sources (here_view here.now) (arguments_data arguments.now) (codes "depend_files")) }
+fn files_by(here: &Here<'_>, arguments: &Arguments) -> Result<Vec<Source>, CallStop>
+    ensures { Says (λ v. map source_view v.items)
+        (sources_made short_sources (here_view here.now) (arguments_data arguments.now) (codes "depend_files")) result }
 {
     let keyword = "depend_files";
-    let named = match sources_named(
+    let named = sources_named(
         here.alloc,
         here.source_root,
         here.folder,
         arguments,
         keyword,
-    )? {
-        Ok(named) => named,
-        Err(refused) => return Ok(Err(refused)),
-    };
+    )?;
     match short_sources(here.alloc, here.earlier, named)? {
-        Some(files) => Ok(Ok(files)),
-        None => Ok(Err(Rule::HasMeaning.refuse(here.alloc, keyword)?)),
+        Some(files) => Ok(files),
+        None => Err(Rule::HasMeaning.refuse(here.alloc, keyword)?.into()),
     }
 }
 
@@ -258,11 +245,11 @@ fn inputs_among(
     arguments: &Arguments,
     named: Vec<NamedSource>,
     input_alone: bool,
-) -> Result<Result<Vec<Source>, ArgumentError>, AllocError>
+) -> Result<Vec<Source>, CallStop>
     requires input { OnTrue input_alone (IsAllInput (arguments_data arguments.now)) }
     requires named { written_sources (here_view here.now) (arguments_data arguments.now) ≡ Ok (named_views named) }
-    ensures { IfOk result (λ ss. said_data (λ v. map source_view v.items) ss
-        ≡ sources_by (here_view here.now) (arguments_data arguments.now) (codes "input")) }
+    ensures { Says (λ v. map source_view v.items)
+        (sources_by (here_view here.now) (arguments_data arguments.now) (codes "input")) result }
 {
     if input_alone {
         sources_said(here, named, "input")
@@ -431,14 +418,14 @@ fn part_by(
     arguments: &Arguments,
     place: &PlaceholderValues<'_>,
     name: &str,
-) -> Result<Result<Part, ArgumentError>, AllocError>
-    ensures { IfOk result (λ p. said_data part_view p
-        ≡ part_by short_makers (here_view here.now) (arguments_data arguments.now) (place_view place.now) name.now) }
+) -> Result<Part, CallStop>
+    ensures { Says part_view
+        (part_by short_makers (here_view here.now) (arguments_data arguments.now) (place_view place.now) name.now) result }
 {
     let values = arguments.leaves(here.alloc, name)?;
     match command_of(here, place, &values)? {
-        Some(part) => Ok(Ok(part)),
-        None => Ok(Err(Rule::HasMeaning.refuse(here.alloc, name)?)),
+        Some(part) => Ok(part),
+        None => Err(Rule::HasMeaning.refuse(here.alloc, name)?.into()),
     }
 }
 
@@ -447,25 +434,16 @@ fn whole_command(
     here: &Here<'_>,
     arguments: &Arguments,
     place: &PlaceholderValues<'_>,
-) -> Result<Result<Part, ArgumentError>, AllocError>
-    ensures { IfOk result (λ p. said_data part_view p
-        ≡ whole_command short_makers (here_view here.now) (arguments_data arguments.now) (place_view place.now)) }
+) -> Result<Part, CallStop>
+    ensures { Says part_view
+        (whole_command short_makers (here_view here.now) (arguments_data arguments.now) (place_view place.now)) result }
 {
-    let mut command = match part_by(here, arguments, place, "command")? {
-        Ok(part) => part,
-        Err(refused) => return Ok(Err(refused)),
-    };
-    let mut depends = match part_by(here, arguments, place, "depends")? {
-        Ok(part) => part,
-        Err(refused) => return Ok(Err(refused)),
-    };
-    let mut files = match files_by(here, arguments)? {
-        Ok(sources) => sources,
-        Err(refused) => return Ok(Err(refused)),
-    };
+    let mut command = part_by(here, arguments, place, "command")?;
+    let mut depends = part_by(here, arguments, place, "depends")?;
+    let mut files = files_by(here, arguments)?;
     depends.needs.append(&mut files)?;
     command.needs.append(&mut depends.needs)?;
-    Ok(Ok(command))
+    Ok(command)
 }
 
 // Returns the names of the files that the target makes, or the refusal of a placeholder without a value. `folder` is the folder of the
@@ -475,15 +453,14 @@ fn names_from<'p>(
     arguments: &Arguments,
     folder: &'p str,
     inputs: &'p [String],
-) -> Result<Result<OutputNames, ArgumentError>, AllocError>
+) -> Result<OutputNames, CallStop>
     requires { folder.now ≡ here.now.folder.now }
-    ensures { IfOk result (λ n. said_data names_view n
-        ≡ names_from (here_view here.now) (arguments_data arguments.now) (texts inputs.now)) }
+    ensures { Says names_view (names_from (here_view here.now) (arguments_data arguments.now) (texts inputs.now)) result }
 {
     let place = place_with(folder, here.depth, inputs, &[], None);
     match names_of(here.alloc, &place, arguments)? {
-        Some(names) => Ok(Ok(names)),
-        None => Ok(Err(Rule::HasMeaning.refuse(here.alloc, "output")?)),
+        Some(names) => Ok(names),
+        None => Err(Rule::HasMeaning.refuse(here.alloc, "output")?.into()),
     }
 }
 
@@ -494,10 +471,10 @@ fn command_from<'p>(
     folder: &'p str,
     inputs: &'p [String],
     names: &'p OutputNames,
-) -> Result<Result<Part, ArgumentError>, AllocError>
+) -> Result<Part, CallStop>
     requires { folder.now ≡ here.now.folder.now }
-    ensures { IfOk result (λ p. said_data part_view p ≡ whole_command short_makers (here_view here.now) (arguments_data arguments.now)
-        (place_of (here_view here.now) (texts inputs.now) (names_view names.now))) }
+    ensures { Says part_view (whole_command short_makers (here_view here.now) (arguments_data arguments.now)
+        (place_of (here_view here.now) (texts inputs.now) (names_view names.now))) result }
 {
     let below = files_below(here, names)?;
     let files = below.as_ref().unwrap_or(names);
@@ -510,22 +487,15 @@ fn custom_from(
     here: &Here<'_>,
     arguments: &Arguments,
     inputs: Vec<Source>,
-) -> Result<Result<CustomTarget, ArgumentError>, AllocError>
-    ensures { IfOk result (λ t. said_data custom_view t
-        ≡ custom_from short_makers (here_view here.now) (arguments_data arguments.now) (map source_view inputs.items)) }
+) -> Result<CustomTarget, CallStop>
+    ensures { Says custom_view
+        (custom_from short_makers (here_view here.now) (arguments_data arguments.now) (map source_view inputs.items)) result }
 {
     let paths = source_paths(here.alloc, here.depth, &inputs)?;
     let folder = String::from_str(here.alloc, here.folder)?;
-    let names = match names_from(here, arguments, &folder, &paths)? {
-        Ok(names) => names,
-        Err(refused) => return Ok(Err(refused)),
-    };
-    let command = match command_from(here, arguments, &folder, &paths, &names)? {
-        Ok(command) => command,
-        Err(refused) => return Ok(Err(refused)),
-    };
-    let target = custom_target(here, arguments, names, inputs, command)?;
-    Ok(Ok(target))
+    let names = names_from(here, arguments, &folder, &paths)?;
+    let command = command_from(here, arguments, &folder, &paths, &names)?;
+    Ok(custom_target(here, arguments, names, inputs, command)?)
 }
 
 fn declare_files(
@@ -533,18 +503,15 @@ fn declare_files(
     arguments: &Arguments,
     inputs: Vec<Source>,
     files: Vec<String>,
-) -> Result<Result<NamedTarget, ArgumentError>, AllocError>
-    ensures { IfOk result (λ t. said_data named_target_view t
-        ≡ declared_files short_makers (here_view here.now) (arguments_data arguments.now)
-        (map source_view inputs.items) (texts files.items)) }
+) -> Result<NamedTarget, CallStop>
+    ensures { Says named_target_view (declared_files short_makers (here_view here.now) (arguments_data arguments.now)
+        (map source_view inputs.items) (texts files.items)) result }
 {
-    match custom_from(here, arguments, inputs)? {
-        Ok(target) => Ok(Ok(NamedTarget {
-            target: Target::Custom(Box::new(here.alloc, target)?),
-            files,
-        })),
-        Err(refused) => Ok(Err(refused)),
-    }
+    let target = custom_from(here, arguments, inputs)?;
+    Ok(NamedTarget {
+        target: Target::Custom(Box::new(here.alloc, target)?),
+        files,
+    })
 }
 
 /// Returns what a call of `custom_target` declares, or its refusal.
@@ -552,24 +519,15 @@ fn declare_files(
 /// Refused are an empty list, captured output without exactly one output file, and an install without a directory. Further refusals are a
 /// path that leads out of the source directory, a placeholder without a value, and a program that was not found.
 #[tactic(auto, unfolding(crate::specs::CustomTargets::declared_by))]
-pub fn declare_custom(
-    here: &Here<'_>,
-    arguments: &Arguments,
-) -> Result<Result<NamedTarget, ArgumentError>, AllocError>
-    ensures { IfOk result (λ t. said_data named_target_view t
-        ≡ declared_by short_makers (here_view here.now) (arguments_data arguments.now)) }
+pub fn declare_custom(here: &Here<'_>, arguments: &Arguments) -> Result<NamedTarget, CallStop>
+    ensures { Says named_target_view (declared_by short_makers (here_view here.now) (arguments_data arguments.now)) result }
 {
     if let Some((rule, keyword)) = rule_broken(arguments) {
-        return Ok(Err(rule.refuse(here.alloc, keyword)?));
+        return Err(rule.refuse(here.alloc, keyword)?.into());
     }
     let input_alone = is_only_input(arguments);
-    let named = match written_sources(here, arguments, input_alone)? {
-        Ok(named) => named,
-        Err(refused) => return Ok(Err(refused)),
-    };
+    let named = written_sources(here, arguments, input_alone)?;
     let files = files_among(here.alloc, &named)?;
-    match inputs_among(here, arguments, named, input_alone)? {
-        Ok(inputs) => declare_files(here, arguments, inputs, files),
-        Err(refused) => Ok(Err(refused)),
-    }
+    let inputs = inputs_among(here, arguments, named, input_alone)?;
+    declare_files(here, arguments, inputs, files)
 }

@@ -21,8 +21,7 @@ pub fn custom_target<T: Tree, O: Outputs>(
     ensures { Does T.seen O.seen (option_map data_of) (custom_target (arguments_data arguments.now)) caller.old result caller.new }
 {
     let outputs = count_named(arguments, "output");
-    let said = declare_custom(&caller.here(), arguments)?;
-    let named = caller.pass(said)?;
+    let named = caller.settle(declare_custom(&caller.here(), arguments))?;
     require_fit(caller, &named.target)?;
     require_all(caller, named.files)?;
     let number = add_custom(caller, arguments, named.target)?;

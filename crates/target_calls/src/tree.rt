@@ -1,12 +1,12 @@
 //! Implements `files` and `include_directories`.
 ghost use Rattle.std.specs.Prelude.{◌≡◌, IfOk, map, option_map, string_bytes};
-ghost use Rattle.arguments.specs.Refused.{said_data};
+ghost use Rattle.arguments.specs.Stops.{Says};
 ghost use Rattle.values.specs.Flat.{flat_all};
 ghost use Rattle.support.specs.paths.Folder.{strings_of};
 ghost use Rattle.world.specs.Prelude.{Does, MayFail, arguments_data, data_of, here_view};
 ghost use Rattle.target_calls.specs.Files.{all_required, files, include_directories, named_paths, path_named, paths_named, rule_of};
 
-use arguments::{ArgumentError, Arguments, Rule};
+use arguments::{Arguments, CallStop, Rule};
 use ports::{Outputs, Tree};
 use sources::{directories_at, files_at};
 use std::alloc::AllocError;
@@ -45,21 +45,17 @@ impl Wanted {
 }
 
 // Returns the paths of the files or folders that texts name, or the refusal of a text that names none.
-fn paths_named(
-    here: &Here<'_>,
-    wanted: Wanted,
-    texts: &[&str],
-) -> Result<Result<Vec<String>, ArgumentError>, AllocError>
-    ensures { IfOk result (λ ps. said_data strings_of ps ≡ paths_named (here_view here.now) wanted (map (λ t. t.now) texts.now)) }
+fn paths_named(here: &Here<'_>, wanted: Wanted, texts: &[&str]) -> Result<Vec<String>, CallStop>
+    ensures { Says strings_of (paths_named (here_view here.now) wanted (map (λ t. t.now) texts.now)) result }
 {
     let mut paths = Vec::new(here.alloc);
     for text in texts {
-        match wanted.path(here, text)? {
-            Some(path) => paths.push(path)?,
-            None => return Ok(Err(wanted.rule().refuse(here.alloc, text)?)),
-        }
+        let Some(path) = wanted.path(here, text)? else {
+            return Err(wanted.rule().refuse(here.alloc, text)?.into());
+        };
+        paths.push(path)?;
     }
-    Ok(Ok(paths))
+    Ok(paths)
 }
 
 // Returns the paths that the texts of a call name, and refuses a text that names none (E9).
@@ -72,8 +68,7 @@ fn named_paths<T: Tree, O: Outputs>(
         caller.now result caller.now }
 {
     let texts = arguments.all_texts(caller.alloc)?;
-    let paths = paths_named(&caller.here(), wanted, &texts)?;
-    caller.pass(paths)
+    caller.settle(paths_named(&caller.here(), wanted, &texts))
 }
 
 /// Refuses the call unless each of the files is present (E14).
@@ -99,9 +94,9 @@ pub fn files<T: Tree, O: Outputs>(
     ensures { Does T.seen O.seen (option_map data_of) (files (arguments_data arguments.now)) caller.old result caller.new }
 {
     let paths = named_paths(caller, Wanted::File, arguments)?;
-    let listed = files_at(caller.alloc, &paths)?;
+    let listed = files_at(caller.alloc, &paths);
     require_all(caller, paths)?;
-    let list = caller.answer(listed)?;
+    let list = caller.settle(listed)?;
     Ok(Some(list))
 }
 
@@ -113,6 +108,6 @@ pub fn include_directories<T: Tree, O: Outputs>(
     ensures { Does T.seen O.seen (option_map data_of) (include_directories (arguments_data arguments.now)) caller.now result caller.now }
 {
     let paths = named_paths(caller, Wanted::Folder, arguments)?;
-    let directories = caller.answer(directories_at(caller.alloc, &paths)?)?;
+    let directories = caller.settle(directories_at(caller.alloc, &paths))?;
     Ok(Some(directories))
 }

@@ -1,16 +1,17 @@
 //! Implements the checks of the compiler, and `find_library`.
 ghost use Rattle.std.specs.Prelude.{◌≡◌, IfOk, Some, map, option_and_then, option_map, string_bytes};
 ghost use Rattle.arguments.specs.Given.{argument};
+ghost use Rattle.arguments.specs.Stops.{Gives};
 ghost use Rattle.values.specs.Data.{text_in};
 ghost use Rattle.machine_file.specs.Questions.{answer_to, check_topic};
 ghost use Rattle.resources.specs.Beside.{call_question};
-ghost use Rattle.world.specs.Prelude.{Answers, Does, arguments_data, data_of};
+ghost use Rattle.world.specs.Prelude.{Does, arguments_data, data_of};
 ghost use Rattle.world.specs.Deed.{consult};
-ghost use Rattle.methods.specs.CompilerChecks.{check, checked_for, dependency_data, find_library, is_checked, library};
+ghost use Rattle.methods.specs.CompilerChecks.{check, checked_for, find_library, is_checked, library};
 ghost use Rattle.methods.specs.CompilerChecks.{library_argument, library_named, required_as};
 
 use crate::compiler::answers::is_true;
-use arguments::{Arguments, Requirement};
+use arguments::{Arguments, CallStop, Requirement};
 use machine_file::Topic;
 use ports::{Outputs, Tree};
 use resources::{call_question, found_dependency, missing_dependency};
@@ -106,30 +107,14 @@ fn library_argument(alloc: Global, name: &str) -> Result<String, AllocError>
 }
 
 // Returns the dependency for a library.
-fn library(
-    alloc: Global,
-    is_so: bool,
-    name: &Text,
-) -> Result<Result<Dependency, OperationRefusal>, AllocError>
-    ensures { IfOk result (λ r. r ≡ library is_so name.now) }
+fn library(alloc: Global, is_so: bool, name: &Text) -> Result<Dependency, CallStop>
+    ensures { Gives (λ d. d) (library is_so name.now) result }
 {
     if is_so {
         let link_args = [library_argument(alloc, name.as_str())?];
         found_dependency(alloc, name.as_str(), "unknown", &[], &link_args)
     } else {
         missing_dependency(alloc, name.as_str())
-    }
-}
-
-fn dependency_value(
-    alloc: Global,
-    answer: Result<Dependency, OperationRefusal>,
-) -> Result<Result<Value, OperationRefusal>, AllocError>
-    ensures { IfOk result (λ r. Answers (dependency_data answer) r) }
-{
-    match answer {
-        Ok(dependency) => Ok(Ok(Value::of_object(alloc, Object::Dependency(dependency))?)),
-        Err(refusal) => Ok(Err(refusal)),
     }
 }
 
@@ -143,17 +128,14 @@ fn first_text(arguments: &Arguments) -> Option<&Text>
     }
 }
 
-fn library_named(
-    alloc: Global,
-    is_so: bool,
-    name: Option<&Text>,
-) -> Result<Result<Value, OperationRefusal>, AllocError>
-    ensures { IfOk result (λ r. Answers (library_named is_so (option_map (λ t. t.now) name.entry)) r) }
+fn library_named(alloc: Global, is_so: bool, name: Option<&Text>) -> Result<Value, CallStop>
+    ensures { Gives data_of (library_named is_so (option_map (λ t. t.now) name.entry)) result }
 {
-    match name {
-        Some(name) => dependency_value(alloc, library(alloc, is_so, name)?),
-        None => Ok(Err(OperationRefusal::Arguments)),
-    }
+    let Some(name) = name else {
+        return Err(OperationRefusal::Arguments.into());
+    };
+    let dependency = library(alloc, is_so, name)?;
+    Ok(Value::of_object(alloc, Object::Dependency(dependency))?)
 }
 
 /// Runs `find_library(name)`, which returns a dependency without a version. If the check of that name is true, the dependency is found, and
@@ -167,7 +149,6 @@ pub fn find_library<T: Tree, O: Outputs>(
     ensures { Does T.seen O.seen (option_map data_of) (find_library (arguments_data arguments.now)) caller.old result caller.new }
 {
     let is_so = check_for(caller, Requirement::Required, "find_library", arguments)?;
-    let answer = library_named(caller.alloc, is_so, first_text(arguments))?;
-    let value = caller.answer(answer)?;
+    let value = caller.settle(library_named(caller.alloc, is_so, first_text(arguments)))?;
     Ok(Some(value))
 }

@@ -1,10 +1,10 @@
 //! Calls methods of the compiler.
 ghost use Rattle.std.specs.Prelude.{◌≡◌, IfOk, OnOk, Some, map, option_map};
 ghost use Rattle.arguments.specs.Given.{text_or_none};
-ghost use Rattle.values.specs.Data.{integer, items_append, list, no_items, text};
+ghost use Rattle.values.specs.Data.{integer, items_append, no_items};
 ghost use Rattle.machine_file.specs.Questions.{answer_to, check_topic, question_about};
 ghost use Rattle.machine_file.specs.View.{machine_in};
-ghost use Rattle.world.specs.Prelude.{Answers, Does, arguments_data, data_of, items_of, within};
+ghost use Rattle.world.specs.Prelude.{Does, arguments_data, data_of, items_of};
 ghost use Rattle.world.specs.Deed.{consult};
 ghost use Rattle.methods.specs.CompilerMethods.{compiler_method, does, get_supported_arguments, argument_if_supported, number};
 ghost use Rattle.methods.specs.CompilerMethods.{supported_arguments};
@@ -14,12 +14,13 @@ use crate::compiler::answers::{integer_answer, is_true};
 use crate::compiler::checks::{ask_check, check, find_library};
 use crate::compiler::rows::row;
 use crate::machine_keys::read_key;
+use crate::new_values::list_value;
 use arguments::Arguments;
 use machine_file::{Machine, Question, Topic};
 use ports::{Outputs, Tree};
 use std::alloc::{AllocError, Global};
+use values::Value;
 use values::language_names::{CompilerMethod, MethodName};
-use values::{List, OperationRefusal, Value};
 use world::{Caller, Stop};
 
 fn integer_value(number: i64) -> Value
@@ -120,16 +121,6 @@ fn keep_supported<T: Tree, O: Outputs>(
     Ok(taken)
 }
 
-// Returns the list of some values, or `OperationRefusal::Limit` if it is too large.
-fn list_of(alloc: Global, values: Vec<Value>) -> Result<Result<Value, OperationRefusal>, AllocError>
-    ensures { IfOk result (λ r. Answers (within (list (items_of values.items))) r) }
-{
-    match List::from_items(values) {
-        Ok(list) => Ok(Ok(Value::of_list(alloc, list)?)),
-        Err(refusal) => Ok(Err(refusal)),
-    }
-}
-
 // Runs `get_supported_arguments(texts..)`.
 fn get_supported_arguments<T: Tree, O: Outputs>(
     caller: &mut Caller<'_, T, O>,
@@ -140,8 +131,7 @@ fn get_supported_arguments<T: Tree, O: Outputs>(
 {
     let values = arguments.leaves_behind(caller.alloc, 0)?;
     let taken = keep_supported(caller, &values)?;
-    let answer = list_of(caller.alloc, taken)?;
-    let value = caller.answer(answer)?;
+    let value = caller.settle(list_value(caller.alloc, taken))?;
     Ok(Some(value))
 }
 

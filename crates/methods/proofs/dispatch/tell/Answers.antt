@@ -3,7 +3,8 @@ use Rattle.arguments.specs.Arguments.{arguments_data}
 use Rattle.world.specs.Fit.{fit}
 use Rattle.world.specs.Ruled.{answered_by}
 use Rattle.world.specs.Store.{world_of}
-use Rattle.world.proofs.Answering.{carries_as, carries_give, carries_none, carries_read, carries_stop, carries_then, carries_value_by}
+use Rattle.world.proofs.Answering.{carries_as, carries_give, carries_read, carries_stop, carries_then}
+use Rattle.world.proofs.Settling.{carries_given_by}
 use Rattle.methods.specs.Methods.{rule_of, tell, told_of}
 use Rattle.methods.proofs.dispatch.tell.Goals as goal
 
@@ -13,9 +14,6 @@ returns-in_err-fit g c =
     carries_stop (carries_as (ap (λ r. fit r (arguments_data c.args.arguments.now)) c.row_of-row.ensures) c.in_err-fit.ensures)
     c.from_residual.ensures.1
 
-pub returns-in_err-answer : goal.returns-in_err-answer
-returns-in_err-answer g c = carries_none c.from_residual-in_err-answer.ensures.1
-
 pub returns-in_err-value : goal.returns-in_err-value
 unfolding tell
 returns-in_err-value g c =
@@ -24,7 +22,7 @@ returns-in_err-value g c =
     (carries_read (carries_stop (carries_as
     (ap (λ r. answered_by r c.breaking-text.result.now told) c.rule_of.ensures
     ∙ ap (λ t. answered_by (rule_of c.args.object.now) t told) c.breaking-text.ensures)
-    (carries_value_by _ _ _ _ c.in_ok-answer.ensures c.in_err-value.ensures)) c.from_residual-in_err-value.ensures.1))
+    (carries_given_by _ _ _ _ c.tell_of-answer.ensures c.in_err-value.ensures)) c.from_residual-in_err-value.ensures.1))
 
 pub returns : goal.returns
 unfolding tell
@@ -34,4 +32,4 @@ returns g c =
     (carries_read (carries_then {x = c.in_ok-value.value} (carries_as
     (ap (λ r. answered_by r c.breaking-text.result.now told) c.rule_of.ensures
     ∙ ap (λ t. answered_by (rule_of c.args.object.now) t told) c.breaking-text.ensures)
-    (carries_value_by _ _ _ _ c.in_ok-answer.ensures c.in_ok-value.ensures)) (carries_give refl)))
+    (carries_given_by _ _ _ _ c.tell_of-answer.ensures c.in_ok-value.ensures)) (carries_give refl)))

@@ -2,8 +2,11 @@ use Rattle.std.proofs.Common.{arith}
 use Rattle.std.proofs.lemmas.Grind.{common_steps}
 use Rattle.methods.proofs.dispatch.tell_of.Goals as goal
 
-pub returns-in-Feature : goal.returns-in-Feature
-returns-in-Feature c = grind (arith, common_steps)
+pub returns-in_ok-feature_answer-in-Feature : goal.returns-in_ok-feature_answer-in-Feature
+returns-in_ok-feature_answer-in-Feature c = grind (arith, common_steps)
+
+pub returns-in_err-feature_answer-in-Feature : goal.returns-in_err-feature_answer-in-Feature
+returns-in_err-feature_answer-in-Feature c = grind (arith, common_steps)
 
 pub returns-in-Dependency : goal.returns-in-Dependency
 returns-in-Dependency c = grind (arith, common_steps)

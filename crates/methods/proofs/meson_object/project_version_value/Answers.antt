@@ -1,8 +1,8 @@
 use Rattle.std.proofs.Common.{ap}
-use Rattle.methods.proofs.Values.{answers_as}
+use Rattle.methods.proofs.Values.{gives_as}
 use Rattle.values.specs.Data.{text}
 use Rattle.values.specs.Limits.{within}
 use Rattle.methods.proofs.meson_object.project_version_value.Goals as goal
 
 pub returns : goal.returns
-returns c = answers_as _ (ap (λ t. within (text t)) c.project_version.ensures) c.of_str.ensures
+returns c = gives_as _ (ap (λ t. within (text t)) c.project_version.ensures) c.text_value.ensures

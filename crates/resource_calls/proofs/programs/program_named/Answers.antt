@@ -1,11 +1,14 @@
-use Rattle.std.proofs.Common.{option_map, ap, refl, sym, ◌∙◌}
+use Rattle.std.proofs.Common.{List, Option, ap, option_map, refl, subst, sym, ◌∙◌}
 use Rattle.std.specs.Prelude.{codes}
+use Rattle.std.specs.Option.{option_transpose}
+use Rattle.arguments.specs.Stops.{Gives}
+use Rattle.build.specs.edge.Texts.{Text}
 use Rattle.machine_file.specs.Questions.{Key, answer_to}
 use Rattle.resources.specs.Fitting.{program_words}
 use Rattle.values.specs.Copies.{within_texts}
-use Rattle.world.proofs.Answering.{carries_as, carries_give, carries_none, carries_stop, carries_then, room_later}
-use Rattle.resource_calls.specs.Programs.{program_named, program_of_words, words_or_file}
-use Rattle.resource_calls.proofs.Exactly.{carries_exactly}
+use Rattle.world.proofs.Answering.{carries_as, carries_give, carries_stop, carries_then, room_later}
+use Rattle.world.proofs.Settling.{carries_given}
+use Rattle.resource_calls.specs.Programs.{program_named, words_or_file}
 use Rattle.resource_calls.proofs.programs.program_named.Goals as goal
 
 pub file_named-requires : goal.file_named-requires
@@ -15,31 +18,31 @@ pub returns-in_err-ask_key : goal.returns-in_err-ask_key
 unfolding program_named
 returns-in_err-ask_key g c = carries_stop c.in_err-ask_key.ensures.deed c.from_residual.ensures.1
 
-pub returns-in_err-said : goal.returns-in_err-said
+pub returns-in_err-words : goal.returns-in_err-words
 unfolding program_named
-returns-in_err-said g c = carries_then c.in_ok-ask_key.ensures.deed (carries_none c.from_residual-in_err-said.ensures.1)
-
-pub returns-in_err-words-in-Some : goal.returns-in_err-words-in-Some
-unfolding program_named words_or_file program_of_words
-returns-in_err-words-in-Some g c =
+returns-in_err-words g c =
+    let same : Option (List Text) → Option (List Text) = λ words. words in
+    let said = subst (λ m. Gives same (option_transpose (option_map within_texts (program_words (answer_to m (Key (codes "binaries") c.args.name.now)))))
+    c.program_words-words.result) (c.machine.ensures ∙ c.in_ok-ask_key.ensures.machine) c.program_words-words.ensures in
     carries_then c.in_ok-ask_key.ensures.deed
-    (carries_as (ap (λ o. words_or_file o c.args.name.now) (sym c.in-Some.is ∙ c.in_ok-said.ensures
-    ∙ ap (λ m. option_map within_texts (program_words (answer_to m (Key (codes "binaries") c.args.name.now))))
-    (c.machine.ensures ∙ c.in_ok-ask_key.ensures.machine)))
-    (carries_stop (carries_exactly refl c.in_err-words-in-Some.ensures) c.from_residual-in_err-words-in-Some.ensures.1))
+    (carries_stop (carries_given {view = same} _ c.program_words-words.result said c.in_err-words.ensures) c.from_residual-in_err-words.ensures.1)
 
-pub returns-in_ok-words-in-Some : goal.returns-in_ok-words-in-Some
-unfolding program_named words_or_file program_of_words
-returns-in_ok-words-in-Some g c =
+pub returns-in-Some : goal.returns-in-Some
+unfolding program_named words_or_file
+returns-in-Some g c =
+    let same : Option (List Text) → Option (List Text) = λ words. words in
+    let said = subst (λ m. Gives same (option_transpose (option_map within_texts (program_words (answer_to m (Key (codes "binaries") c.args.name.now)))))
+    c.program_words-words.result) (c.machine.ensures ∙ c.in_ok-ask_key.ensures.machine) c.program_words-words.ensures in
     carries_then c.in_ok-ask_key.ensures.deed
-    (carries_as (ap (λ o. words_or_file o c.args.name.now) (sym c.in-Some.is ∙ c.in_ok-said.ensures
-    ∙ ap (λ m. option_map within_texts (program_words (answer_to m (Key (codes "binaries") c.args.name.now))))
-    (c.machine.ensures ∙ c.in_ok-ask_key.ensures.machine)))
-    (carries_then {x = c.in_ok-words-in-Some.words} (carries_exactly refl c.in_ok-words-in-Some.ensures) (carries_give refl)))
+    (carries_then {x = c.in_ok-words.field-0} (carries_given {view = same} _ c.program_words-words.result said c.in_ok-words.ensures)
+    (carries_as (ap (λ words. words_or_file words c.args.name.now) (sym c.in-Some.is)) (carries_give refl)))
 
 pub returns-in-None : goal.returns-in-None
 unfolding program_named words_or_file
 returns-in-None g c =
-    carries_then c.in_ok-ask_key.ensures.deed (carries_as (ap (λ o. words_or_file o c.args.name.now) (sym c.in-None.is ∙ c.in_ok-said.ensures
-    ∙ ap (λ m. option_map within_texts (program_words (answer_to m (Key (codes "binaries") c.args.name.now)))) (c.machine.ensures ∙ c.in_ok-ask_key.ensures.machine)))
-    c.file_named.ensures)
+    let same : Option (List Text) → Option (List Text) = λ words. words in
+    let said = subst (λ m. Gives same (option_transpose (option_map within_texts (program_words (answer_to m (Key (codes "binaries") c.args.name.now)))))
+    c.program_words-words.result) (c.machine.ensures ∙ c.in_ok-ask_key.ensures.machine) c.program_words-words.ensures in
+    carries_then c.in_ok-ask_key.ensures.deed
+    (carries_then {x = c.in_ok-words.field-0} (carries_given {view = same} _ c.program_words-words.result said c.in_ok-words.ensures)
+    (carries_as (ap (λ words. words_or_file words c.args.name.now) (sym c.in-None.is)) c.file_named.ensures))

@@ -7,8 +7,9 @@ use Rattle.resources.proofs.dependency_merge.join.Goals as goal
 pub returns-then-not-is_within : goal.returns-then-not-is_within
 returns-then-not-is_within c =
     let left = map (λ d. d.now) (drop c.loop-other.other-index c.args.others.now) in
-    sym (sym (ap within_limits c.loop-other.invariant)
-    ∙ refused_joined c.loop-other.all left (sym c.is_within.ensures ∙ c.if-not-is_within.true))
+    let past = sym (ap within_limits c.loop-other.invariant)
+    ∙ refused_joined c.loop-other.all left (sym c.is_within.ensures ∙ c.if-not-is_within.true) in
+    grind (arith, common_steps, past)
 
 pub loop-other-init : goal.loop-other-init
 loop-other-init c = grind (arith, common_steps)

@@ -5,8 +5,8 @@ use Rattle.sources.proofs.sources.push_sources.Goals as goal
 pub loop-value-init : goal.loop-value-init
 loop-value-init c = grind (arith, common_steps)
 
-pub returns-in-None : goal.returns-in-None
-returns-in-None c = grind (arith, common_steps)
+pub returns-in_default : goal.returns-in_default
+returns-in_default c = grind (arith, common_steps)
 
 pub loop-value-preserved : goal.loop-value-preserved
 loop-value-preserved c = grind (arith, common_steps)

@@ -8,32 +8,29 @@ use Rattle.target_calls.specs.Files.{all_required}
 use Rattle.target_calls.proofs.StandingDeeds.{carries_custom, carries_declaring, carries_fit, carries_unsaid}
 use Rattle.target_calls.proofs.custom_call.custom_target.Goals as goal
 
-pub returns-in_err-said : goal.returns-in_err-said
-returns-in_err-said g c = carries_none c.from_residual.ensures.1
-
 pub returns-in_err-named : goal.returns-in_err-named
 unfolding custom_target
 returns-in_err-named g c =
-    carries_stop (carries_unsaid (arguments_data c.args.arguments.now) c.in_ok-said.said c.in_ok-said.ensures c.here.ensures c.in_err-named.ensures)
-    c.from_residual-in_err-named.ensures.1
+    carries_stop (carries_unsaid (arguments_data c.args.arguments.now) c.declare_custom.result c.declare_custom.ensures c.here.ensures c.in_err-named.ensures)
+    c.from_residual.ensures.1
 
 pub returns-in_err-require_fit : goal.returns-in_err-require_fit
 unfolding custom_target
 returns-in_err-require_fit g c =
-    carries_declaring (arguments_data c.args.arguments.now) c.in_ok-said.said c.in_ok-named.named c.in_ok-said.ensures c.here.ensures c.in_ok-named.ensures
+    carries_declaring (arguments_data c.args.arguments.now) c.declare_custom.result c.in_ok-named.named c.declare_custom.ensures c.here.ensures c.in_ok-named.ensures
     (λ d alike. carries_stop (carries_fit alike.target c.in_err-require_fit.ensures) c.from_residual-in_err-require_fit.ensures.1)
 
 pub returns-in_err-require_all : goal.returns-in_err-require_all
 unfolding custom_target
 returns-in_err-require_all g c =
-    carries_declaring (arguments_data c.args.arguments.now) c.in_ok-said.said c.in_ok-named.named c.in_ok-said.ensures c.here.ensures c.in_ok-named.ensures
+    carries_declaring (arguments_data c.args.arguments.now) c.declare_custom.result c.in_ok-named.named c.declare_custom.ensures c.here.ensures c.in_ok-named.ensures
     (λ d alike. carries_then (carries_fit alike.target c.in_ok-require_fit.ensures)
     (carries_stop (carries_as (ap all_required alike.files) c.in_err-require_all.ensures) c.from_residual-in_err-require_all.ensures.1))
 
 pub returns-in_err-number : goal.returns-in_err-number
 unfolding custom_target
 returns-in_err-number g c =
-    carries_declaring (arguments_data c.args.arguments.now) c.in_ok-said.said c.in_ok-named.named c.in_ok-said.ensures c.here.ensures c.in_ok-named.ensures
+    carries_declaring (arguments_data c.args.arguments.now) c.declare_custom.result c.in_ok-named.named c.declare_custom.ensures c.here.ensures c.in_ok-named.ensures
     (λ d alike. carries_then (carries_fit alike.target c.in_ok-require_fit.ensures)
     (carries_then (carries_as (ap all_required alike.files) c.in_ok-require_all.ensures)
     (carries_stop (carries_custom (arguments_data c.args.arguments.now) alike.target c.in_err-number.ensures) c.from_residual-in_err-number.ensures.1)))
@@ -41,7 +38,7 @@ returns-in_err-number g c =
 pub returns-in_err-value : goal.returns-in_err-value
 unfolding custom_target
 returns-in_err-value g c =
-    carries_declaring (arguments_data c.args.arguments.now) c.in_ok-said.said c.in_ok-named.named c.in_ok-said.ensures c.here.ensures c.in_ok-named.ensures
+    carries_declaring (arguments_data c.args.arguments.now) c.declare_custom.result c.in_ok-named.named c.declare_custom.ensures c.here.ensures c.in_ok-named.ensures
     (λ d alike. carries_then (carries_fit alike.target c.in_ok-require_fit.ensures)
     (carries_then (carries_as (ap all_required alike.files) c.in_ok-require_all.ensures)
     (carries_then {x = c.in_ok-number.number} (carries_custom (arguments_data c.args.arguments.now) alike.target c.in_ok-number.ensures)
@@ -50,7 +47,7 @@ returns-in_err-value g c =
 pub returns : goal.returns
 unfolding custom_target
 returns g c =
-    carries_declaring (arguments_data c.args.arguments.now) c.in_ok-said.said c.in_ok-named.named c.in_ok-said.ensures c.here.ensures c.in_ok-named.ensures
+    carries_declaring (arguments_data c.args.arguments.now) c.declare_custom.result c.in_ok-named.named c.declare_custom.ensures c.here.ensures c.in_ok-named.ensures
     (λ d alike. carries_then (carries_fit alike.target c.in_ok-require_fit.ensures)
     (carries_then (carries_as (ap all_required alike.files) c.in_ok-require_all.ensures)
     (carries_then {x = c.in_ok-number.number} (carries_custom (arguments_data c.args.arguments.now) alike.target c.in_ok-number.ensures)

@@ -1,6 +1,7 @@
 use Rattle.std.proofs.Common.{map, string_bytes, ap, refl}
 use Rattle.world.specs.Deed.{answer_or_refusal}
-use Rattle.world.proofs.Answering.{carries_as, carries_then, carries_stop, carries_none, carries_give, carries_value}
+use Rattle.world.proofs.Answering.{carries_as, carries_then, carries_stop, carries_give}
+use Rattle.world.proofs.Settling.{carries_given}
 use Rattle.sources.specs.Values.{files_at}
 use Rattle.target_calls.specs.Files.{files}
 use Rattle.target_calls.proofs.tree.files.Goals as goal
@@ -8,12 +9,6 @@ use Rattle.target_calls.proofs.tree.files.Goals as goal
 pub returns-in_err-paths : goal.returns-in_err-paths
 unfolding files
 returns-in_err-paths g c = carries_stop c.in_err-paths.ensures c.from_residual.ensures.1
-
-pub returns-in_err-listed : goal.returns-in_err-listed
-unfolding files
-returns-in_err-listed g c =
-    carries_then c.in_ok-paths.ensures
-    (carries_none c.from_residual-in_err-listed.ensures.1)
 
 pub returns-in_err-require_all : goal.returns-in_err-require_all
 unfolding files
@@ -26,11 +21,11 @@ unfolding files
 returns-in_err-list g c =
     carries_then c.in_ok-paths.ensures
     (carries_then c.in_ok-require_all.ensures
-    (carries_stop (carries_as (ap (λ ps. answer_or_refusal (files_at (map string_bytes ps))) c.deref.ensures.value) (carries_value _ _ c.in_ok-listed.ensures c.in_err-list.ensures)) c.from_residual-in_err-list.ensures.1))
+    (carries_stop (carries_as (ap (λ ps. answer_or_refusal (files_at (map string_bytes ps))) c.deref.ensures.value) (carries_given _ _ c.files_at-listed.ensures c.in_err-list.ensures)) c.from_residual-in_err-list.ensures.1))
 
 pub returns : goal.returns
 unfolding files
 returns g c =
     carries_then c.in_ok-paths.ensures
     (carries_then c.in_ok-require_all.ensures
-    (carries_then {x = c.in_ok-list.list} (carries_as (ap (λ ps. answer_or_refusal (files_at (map string_bytes ps))) c.deref.ensures.value) (carries_value _ _ c.in_ok-listed.ensures c.in_ok-list.ensures)) (carries_give refl)))
+    (carries_then {x = c.in_ok-list.list} (carries_as (ap (λ ps. answer_or_refusal (files_at (map string_bytes ps))) c.deref.ensures.value) (carries_given _ _ c.files_at-listed.ensures c.in_ok-list.ensures)) (carries_give refl)))

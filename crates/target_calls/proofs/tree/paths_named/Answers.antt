@@ -5,8 +5,8 @@ use Rattle.target_calls.proofs.tree.paths_named.Goals as goal
 pub loop-text-init : goal.loop-text-init
 loop-text-init c = grind (arith, common_steps)
 
-pub returns-in-None : goal.returns-in-None
-returns-in-None c = grind (arith, common_steps)
+pub returns-in_default : goal.returns-in_default
+returns-in_default c = grind (arith, common_steps)
 
 pub loop-text-preserved : goal.loop-text-preserved
 loop-text-preserved c = grind (arith, common_steps)

@@ -1,6 +1,6 @@
 use Rattle.std.proofs.Common.{arith}
 use Rattle.std.proofs.lemmas.Grind.{common_steps}
-use Rattle.resources.proofs.test_arguments.are_assignments.Goals as goal
+use Rattle.resources.proofs.test_arguments.check_assignments.Goals as goal
 
 pub loop-text-init : goal.loop-text-init
 loop-text-init c = grind (arith, common_steps)

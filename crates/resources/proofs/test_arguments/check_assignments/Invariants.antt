@@ -1,6 +1,6 @@
 use Rattle.std.proofs.Common.{◌≡◌, map, drop, string_bytes}
 use Rattle.resources.specs.Testing.{are_assignments}
-use Rattle.resources.proofs.test_arguments.are_assignments.Given as goal
+use Rattle.resources.proofs.test_arguments.check_assignments.Given as goal
 
 -- what is left decides
 abbrev pub invariant-loop-text : goal.invariant-loop-text
