@@ -241,15 +241,10 @@ variables_taken names slots new n distinct l same none q = slot_taken names slot
 
 -- ---- the project
 
--- where a call ends well, the project is this of what it was
-pub project_made : {A E : Type 0} (result : Result A E) (k : Kept) (p : WorldData) (f : WorldData → WorldData) → OnOk result (p ≡ f k.project)
-    → OnOk result (world_of (record k { project = p }) ≡ world_after_change (facts_after_declaration f) (world_of k))
-project_made (Ok x) k p f is = ap (λ q. world_of (record k { project = q })) is
-project_made (Err e) k p f is = tt
-
-pub then_same : {A E : Type 0} (v : World) {w z : World} (result : Result A E) → OnOk result (v ≡ w) → w ≡ z → OnOk result (v ≡ z)
-then_same v (Ok x) is same = is ∙ same
-then_same v (Err e) is same = tt
+-- the project is this of what it was
+pub project_made : (k : Kept) {p q : WorldData} (f : WorldData → WorldData) → q ≡ k.project → p ≡ f q
+    → world_of (record k { project = p }) ≡ world_after_change (facts_after_declaration f) (world_of k)
+project_made k f was is = ap (λ x. world_of (record k { project = x })) (is ∙ ap f was)
 
 -- before anything was done
 pub world_first : (k : Kept) (settings : SettingsData) (machine : List Section) → k.file ≡ codes "meson.build" → k.folder ≡ [] → k.line ≡ 1 → k.settings ≡ settings → k.names ≡ [] → k.slots ≡ [] → k.machine ≡ machine

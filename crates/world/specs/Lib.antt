@@ -14,6 +14,7 @@ pub mod Fit
 pub mod Gives
 pub mod Here
 pub mod HereView
+pub mod Lending
 pub mod Look
 pub mod Made
 pub mod Making

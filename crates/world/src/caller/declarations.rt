@@ -40,7 +40,7 @@ impl<'a, T: Tree, O: Outputs> Caller<'a, T, O> {
     pub fn add_target(&mut self, target: Target) -> Result<usize, Stop>
         ensures { Does T.seen O.seen (λ n. n) (add_target (target_view target)) self.old result self.new }
     {
-        let answer = self.store.add_target(target)?;
+        let answer = self.store.project_mut().add_target(target)?;
         self.allow(answer)
     }
 
@@ -50,7 +50,7 @@ impl<'a, T: Tree, O: Outputs> Caller<'a, T, O> {
         ensures { Acts (λ u. u) (λ files. reserved_output folder.now name.now)
             (state_of T.seen O.seen self.old) result (state_of T.seen O.seen self.new) }
     {
-        let answer = self.store.add_output(folder, name)?;
+        let answer = self.store.project_mut().add_output(folder, name)?;
         self.allow(answer)
     }
 
@@ -58,7 +58,7 @@ impl<'a, T: Tree, O: Outputs> Caller<'a, T, O> {
     pub fn add_arguments(&mut self, words: &[String]) -> Result<(), Stop>
         ensures { Does T.seen O.seen (λ u. u) (add_arguments (texts words.now)) self.old result self.new }
     {
-        let answer = self.store.add_arguments(words)?;
+        let answer = self.store.project_mut().add_arguments(words)?;
         self.allow(answer)
     }
 
@@ -66,7 +66,7 @@ impl<'a, T: Tree, O: Outputs> Caller<'a, T, O> {
     pub fn add_link_arguments(&mut self, words: &[String]) -> Result<(), Stop>
         ensures { Does T.seen O.seen (λ u. u) (add_link_arguments (texts words.now)) self.old result self.new }
     {
-        let answer = self.store.add_link_arguments(words)?;
+        let answer = self.store.project_mut().add_link_arguments(words)?;
         self.allow(answer)
     }
 
@@ -74,7 +74,7 @@ impl<'a, T: Tree, O: Outputs> Caller<'a, T, O> {
     pub fn add_dependency(&mut self, answer: Answer) -> Result<(), Stop>
         ensures { Does T.seen O.seen (λ u. u) (add_dependency (answer_view answer)) self.old result self.new }
     {
-        self.store.add_dependency(answer)?;
+        self.store.project_mut().add_dependency(answer)?;
         Ok(())
     }
 
@@ -82,7 +82,7 @@ impl<'a, T: Tree, O: Outputs> Caller<'a, T, O> {
     pub fn add_install(&mut self, install: Install) -> Result<(), Stop>
         ensures { Does T.seen O.seen (λ u. u) (add_install (install_view install)) self.old result self.new }
     {
-        self.store.add_install(install)?;
+        self.store.project_mut().add_install(install)?;
         Ok(())
     }
 
@@ -90,7 +90,7 @@ impl<'a, T: Tree, O: Outputs> Caller<'a, T, O> {
     pub fn add_test(&mut self, test: Test) -> Result<(), Stop>
         ensures { Does T.seen O.seen (λ u. u) (add_test (test_view test)) self.old result self.new }
     {
-        self.store.add_test(test)?;
+        self.store.project_mut().add_test(test)?;
         Ok(())
     }
 }

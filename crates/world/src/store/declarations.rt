@@ -1,19 +1,15 @@
 //! Keeps the project of a run.
 ghost use Rattle.std.specs.Prelude.{◌≡◌, IfOk, OnOk, string_bytes};
 ghost use Rattle.build.specs.edge.Texts.{put_all_new, texts};
-ghost use Rattle.build.specs.project.Adding.{after_target, arguments_answer, output_answer, target_answer, with_dependency, with_install};
-ghost use Rattle.build.specs.project.Adding.{with_test};
-ghost use Rattle.build.specs.project.Refused.{answer_data};
-ghost use Rattle.build.specs.project.View.{answer_view, install_view, test_view};
-ghost use Rattle.build.specs.View.{facts_view, target_view};
-ghost use Rattle.world.specs.Declaring.{after_arguments, after_link_arguments};
-ghost use Rattle.world.specs.Making.{after_output};
+ghost use Rattle.build.specs.View.{facts_view};
+ghost use Rattle.std.specs.Borrow.{sem};
+ghost use Rattle.world.specs.Lending.{LendsProject};
 ghost use Rattle.world.specs.Store.{world_after_change, world_of};
-ghost use Rattle.world.specs.World.{facts_after_project, begun_project, facts_after_declaration, world_after_look};
+ghost use Rattle.world.specs.World.{facts_after_project, begun_project, world_after_look};
 
 use crate::store::Store;
-use build::project::{Answer, Install, Project, ProjectError, Test};
-use build::{Facts, Target};
+use build::Facts;
+use build::project::Project;
 use std::alloc::{AllocError, Global};
 
 // Notes again which paths were present.
@@ -93,82 +89,11 @@ impl Store {
         }
     }
 
-    // ---- declarations
-
-    /// Adds a target and returns its number, or the reason why the project refuses it.
-    pub fn add_target(&mut self, target: Target) -> Result<Result<usize, ProjectError>, AllocError>
-        ensures answer { IfOk result (λ r. answer_data r ≡ target_answer self.old.project (target_view target)) }
-        ensures world { OnOk result (world_of self.new
-            ≡ world_after_change (facts_after_declaration (λ p. after_target p (target_view target))) (world_of self.old)) }
-        ensures names { self.new.names ≡ self.old.names }
+    /// Lends the project, for a declaration.
+    pub fn project_mut(&mut self) -> &mut Project
+        ensures* writes_back { sem 𝓛 (LendsProject self.entry result) }
+        ensures value { result.now ≡ self.old.project }
     {
-        self.project.add_target(target)
-    }
-
-    /// Reserves the path of a file of a folder that `configure_file` makes, or returns the reason why the project refuses it.
-    pub fn add_output(
-        &mut self,
-        folder: &str,
-        name: &str,
-    ) -> Result<Result<(), ProjectError>, AllocError>
-        ensures answer { IfOk result (λ r. answer_data r ≡ output_answer self.old.project folder.now name.now) }
-        ensures world { OnOk result
-            (world_of self.new ≡ world_after_change (facts_after_declaration (after_output folder.now name.now)) (world_of self.old)) }
-        ensures names { self.new.names ≡ self.old.names }
-    {
-        self.project.add_output(folder, name)
-    }
-
-    /// Adds arguments to all compile commands, or returns the reason why the project refuses them.
-    pub fn add_arguments(
-        &mut self,
-        words: &[String],
-    ) -> Result<Result<(), ProjectError>, AllocError>
-        ensures answer { IfOk result (λ r. answer_data r ≡ arguments_answer self.old.project (texts words.now)) }
-        ensures world { OnOk result
-            (world_of self.new ≡ world_after_change (facts_after_declaration (after_arguments (texts words.now))) (world_of self.old)) }
-        ensures names { self.new.names ≡ self.old.names }
-    {
-        self.project.add_arguments(words)
-    }
-
-    /// Adds arguments to all link commands, or returns the reason why the project refuses them.
-    pub fn add_link_arguments(
-        &mut self,
-        words: &[String],
-    ) -> Result<Result<(), ProjectError>, AllocError>
-        ensures answer { IfOk result (λ r. answer_data r ≡ arguments_answer self.old.project (texts words.now)) }
-        ensures world { OnOk result (world_of self.new
-            ≡ world_after_change (facts_after_declaration (after_link_arguments (texts words.now))) (world_of self.old)) }
-        ensures names { self.new.names ≡ self.old.names }
-    {
-        self.project.add_link_arguments(words)
-    }
-
-    /// Records the result of a call of `dependency`.
-    pub fn add_dependency(&mut self, answer: Answer) -> Result<(), AllocError>
-        ensures world { OnOk result (world_of self.new
-            ≡ world_after_change (facts_after_declaration (λ p. with_dependency p (answer_view answer))) (world_of self.old)) }
-        ensures names { self.new.names ≡ self.old.names }
-    {
-        self.project.add_dependency(answer)
-    }
-
-    /// Records a file to be installed.
-    pub fn add_install(&mut self, install: Install) -> Result<(), AllocError>
-        ensures world { OnOk result (world_of self.new
-            ≡ world_after_change (facts_after_declaration (λ p. with_install p (install_view install))) (world_of self.old)) }
-        ensures names { self.new.names ≡ self.old.names }
-    {
-        self.project.add_install(install)
-    }
-
-    /// Records a test.
-    pub fn add_test(&mut self, test: Test) -> Result<(), AllocError>
-        ensures world { OnOk result
-            (world_of self.new ≡ world_after_change (facts_after_declaration (λ p. with_test p (test_view test))) (world_of self.old)) }
-        ensures names { self.new.names ≡ self.old.names }
-    {
-        self.project.add_test(test)
+        &mut self.project
     }
 }
