@@ -5,7 +5,7 @@ use Rattle.options.specs.option_file.Declares.{declares_from}
 use Rattle.options.specs.option_file.MisfitView.{refused_in}
 use Rattle.options.specs.option_file.View.{after_in, options_in}
 use Rattle.options.proofs.Statements.{declares_first, declares_fault, declares_more, declares_end}
-use Rattle.options.proofs.option_file.file.declare.Goals as goal
+use Rattle.options.proofs.option_file.file.file_declares.Goals as goal
 
 pub loop-statement-init : goal.loop-statement-init
 loop-statement-init c = declares_first c.deref-statement-items.result.now (options_in c.empty-declared.result) c.empty-declared.ensures
