@@ -111,10 +111,7 @@ impl Machine {
     }
 
     // Returns what these bytes say, or their fault without its file.
-    fn read_bytes(
-        alloc: Global,
-        bytes: &[u8],
-    ) -> Result<Result<Machine, MachineFault>, AllocError>
+    fn read_bytes(alloc: Global, bytes: &[u8]) -> Result<Result<Machine, MachineFault>, AllocError>
         ensures answer { IfOk result (λ read. IsSaid bytes.now (read_in read)) }
         ensures only { (said : MachineSaid) → IsSaid bytes.now said → IfOk result (λ read. read_in read ≡ said) }
     {

@@ -28,10 +28,7 @@ pub fn index(
     }
     match (whole, index) {
         (Value::List(list), Value::Integer(index)) => found_value(indexed_item(list, *index)),
-        (Value::Text(text), Value::Integer(index)) => text_of(
-            alloc,
-            indexed_char(text, *index),
-        ),
+        (Value::Text(text), Value::Integer(index)) => text_of(alloc, indexed_char(text, *index)),
         (Value::Dictionary(dictionary), Value::Text(key)) => found_value(dictionary.get(key)),
         (Value::Object(object), Value::Integer(index)) => match indexed_output(object, *index) {
             Ok(output) => Ok(Ok(Value::of_object(alloc, output)?)),

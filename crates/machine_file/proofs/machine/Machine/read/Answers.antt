@@ -12,9 +12,11 @@ returns-in-Ok-clause-only c =
     λ said is. ap (λ r. told (read_in r)) (sym c.in-Ok.is) ∙ ap told (c.in_ok-machine.ensures.only said is)
 
 pub returns-in_ok-tell-in-Err-clause-answer : goal.returns-in_ok-tell-in-Err-clause-answer
-returns-in_ok-tell-in-Err-clause-answer c =
-    (read_in c.in_ok-machine.field-0, c.in_ok-machine.ensures.answer,
-    ap Err c.in_ok-tell-in-Err.ensures ∙ ap (λ r. told (read_in r)) (sym c.in-Err.is))
+returns-in_ok-tell-in-Err-clause-answer c = (
+  read_in c.in_ok-machine.field-0,
+  c.in_ok-machine.ensures.answer,
+  ap Err c.in_ok-tell-in-Err.ensures ∙ ap (λ r. told (read_in r)) (sym c.in-Err.is),
+)
 
 pub returns-in_ok-tell-in-Err-clause-only : goal.returns-in_ok-tell-in-Err-clause-only
 returns-in_ok-tell-in-Err-clause-only c =
