@@ -323,15 +323,15 @@ module _ (files : Files) where
   subdir-cost true line a = free _
   subdir-cost false line a = first (fitted-cost line _) (λ u. first (none _) (λ v. none _))
 
-  call_by_action-cost : (action : Action) (line : ℕ) (f : Function) (a : ArgumentsData) → Takes file_cost files 0 (call_by_action action line f a)
-  call_by_action-cost Enter line f a = subdir-cost (gives_disabler a) line a
-  call_by_action-cost Leave line f a = subdir_done_unless-cost (gives_disabler a) line a
-  call_by_action-cost Call line f a = first (called-cost line f a) (λ d. none _)
-
   module _ (into : List ℕ → Plan Flow) (into-cost : (t : List ℕ) → Takes file_cost files 0 (into t)) where
     on_call_end-cost : (way : AfterCallData) → Takes file_cost files 0 (on_call_end into way)
     on_call_end-cost (Ends flow) = free _
     on_call_end-cost (Enters t) = into-cost t
+
+    call_by_action-cost : (action : Action) (line : ℕ) (f : Function) (a : ArgumentsData) → Takes file_cost files 0 (call_by_action into action line f a)
+    call_by_action-cost Enter line f a = first (subdir-cost (gives_disabler a) line a) (λ way. on_call_end-cost way)
+    call_by_action-cost Leave line f a = subdir_done_unless-cost (gives_disabler a) line a
+    call_by_action-cost Call line f a = first (called-cost line f a) (λ d. none _)
 
     entered_inside-cost : (b : Bool) (line : ℕ) (a : ArgumentsData) → Takes file_cost files 0 (entered_inside into b line a)
     entered_inside-cost true line a = free _
@@ -395,7 +395,7 @@ module _ (files : Files) where
     eval_statement-cost p = last (rules (last p (λ d. none _))) (λ o. none _)
 
     expression_statement-cost : (e : ExpressionTree) → Takes file_cost files (value_cost e) (expression_statement into e)
-    expression_statement-cost (FunctionTree name es line) = rules (last (named_call-cost line name es) (λ way. on_call_end-cost way))
+    expression_statement-cost (FunctionTree name es line) = rules (named_call-cost line name es)
     expression_statement-cost (NameTree name line) = eval_statement-cost (variable-cost line name)
     expression_statement-cost (LiteralTree literal t line) = eval_statement-cost (literal-cost line literal t)
     expression_statement-cost (ListTree es line) = eval_statement-cost (last (values-cost no_items es) (λ ds. answered-cost line (within (list ds))))

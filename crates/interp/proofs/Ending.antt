@@ -1,4 +1,4 @@
--- Steps that stop.
+-- Runs that begin and stop.
 use Rattle.std.proofs.Common.{Bool, ◌≡◌, ℕ, ◌+◌, List, [], ◌∷◌, ◌++◌, Ok, Err, sym, subst}
 use Rattle.world.specs.Deed.{Files}
 use Rattle.world.specs.Gives.{Holds}
@@ -13,7 +13,7 @@ use Rattle.interp.specs.declared.flow.Flow.TheVariants.{Next}
 use Rattle.interp.specs.declared.frames.BlockRest.{BlockRest}
 use Rattle.interp.specs.declared.frames.Frame.TheVariants as frames
 use Rattle.interp.specs.declared.frames.Frame.{Frame}
-use Rattle.interp.specs.Frames.{EachMeans, Made, Moved, Moves, Stacked, Stepped, others_by, unwound_rules}
+use Rattle.interp.specs.Frames.{EachMeans, Made, Moved, Moves, Stacked, others_by, unwound_rules}
 use Rattle.expressions.proofs.Evaluating.{leads_start}
 use Rattle.interp.proofs.Stack.{given_counting, moves_block}
 
@@ -21,14 +21,10 @@ abbrev pub ticking : ℕ → Stand → Stand
 ticking n s = record { world = s.world; names = s.names; tree = s.tree; out = s.out; ticks = n }
 
 -- once the rules on the stack have ended
-pub stepped_stop : {files : Files} {whole : Plan Flow} {s0 s1 : Stand} {stop : Stop} {fs : List Frame} (other : Stop) (hs : List Frame) (n : ℕ) → other ≡ stop → n ≡ s1.ticks + unwound_rules stop fs
-    → Moves files whole s0 (Err stop) fs s1 → Stepped files whole s0 (Err other) hs (ticking n s1)
-stepped_stop {files = files} {whole = whole} {s0 = s0} {s1 = s1} other hs n is e m =
-    record { steps = subst (λ (d : Stop). Given {B = Flow} (λ f. f) files whole s0 (Err d) (ticking n s1)) (sym is) (given_counting n e m.moves) }
-
--- or what was done is what the step did
-pub stepped_on : {files : Files} {whole : Plan Flow} {s0 s1 : Stand} {flow : Flow} {fs : List Frame} → Moves files whole s0 (Ok flow) fs s1 → Stepped files whole s0 (Ok flow) fs s1
-stepped_on m = record { steps = m.moves }
+pub given_unwound : {files : Files} {whole : Plan Flow} {s0 s1 : Stand} {stop : Stop} {fs : List Frame} (other : Stop) (n : ℕ) → other ≡ stop → n ≡ s1.ticks + unwound_rules stop fs
+    → Moves files whole s0 (Err stop) fs s1 → Given {B = Flow} (λ f. f) files whole s0 (Err other) (ticking n s1)
+given_unwound {files = files} {whole = whole} {s0 = s0} {s1 = s1} other n is e m =
+    subst (λ (d : Stop). Given {B = Flow} (λ f. f) files whole s0 (Err d) (ticking n s1)) (sym is) (given_counting n e m.moves)
 
 -- the run begins with one block
 pub run_begun : (few : Bool) (fs gs : List Frame) (b : BlockRest) {files : Files} {s : Stand} (table : List (List ℕ)) → fs ≡ [] → gs ≡ fs ++ frames.Block b ∷ [] → Made b.code.value s.names table

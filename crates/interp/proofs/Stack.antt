@@ -2,6 +2,7 @@
 use Rattle.std.proofs.Common.{◌≡◌, Bool, ℕ, zero, suc, ◌+◌, List, [], ◌∷◌, ◌++◌, Result, Ok, Err, IsErrAnd, drop, length, refl, sym, subst}
 use Rattle.std.proofs.Common.{ap, ◌∙◌, option_map, arith}
 use Rattle.code.specs.Draft.{IsFront}
+use Rattle.arguments.specs.Arguments.{arguments_data}
 use Rattle.code.specs.declared.code.Code.{Code}
 use Rattle.code.specs.Statements.{name_at}
 use Rattle.support.specs.declared.faults.refusal.Refusal.TheVariants as refusals
@@ -20,15 +21,17 @@ use Rattle.interp.specs.Blocks.{statements_of}
 use Rattle.expressions.specs.Contexts.{Stand, Given, seen_of, Leads}
 use Rattle.interp.specs.Bounds.{bounds}
 use Rattle.interp.specs.Folders.{folder}
+use Rattle.interp.specs.StatementCalls.{call_for_effect}
 use Rattle.interp.specs.Statements.{after_round, do_all, on_next, rounds_of}
 use Rattle.interp.specs.declared.flow.Flow.{Flow}
 use Rattle.interp.specs.declared.flow.Flow.TheVariants.{Next}
 use Rattle.interp.specs.declared.frames.BlockRest.{BlockRest}
+use Rattle.interp.specs.declared.frames.PendingCall.{PendingCall}
 use Rattle.interp.specs.declared.frames.LoopRest.{LoopRest}
 use Rattle.interp.specs.declared.frames.Frame.{Frame}
 use Rattle.interp.specs.declared.frames.Frame.TheVariants as frames
-use Rattle.interp.specs.Frames.{Rest, Others, Rounds, End, Left, Refuses, one_round, gone_back, behind, behind_all, Made, Means, EachMeans}
-use Rattle.interp.specs.Frames.{Stacked, ends_in, pending_rules, unwound_rules, Moved, Moves, Stepped, others_by, round_by, rounds_left}
+use Rattle.interp.specs.Frames.{Rest, Others, Rounds, Calls, End, Left, Refuses, one_round, gone_back, behind, behind_all, Made, Means, EachMeans}
+use Rattle.interp.specs.Frames.{Stacked, ends_in, pending_rules, unwound_rules, Moved, Moves, others_by, round_by, rounds_left}
 use Rattle.interp.specs.FolderEntries.{ended_all}
 use Rattle.expressions.proofs.Evaluating.{follow-after, with_end-after, given_give, given_none, given_rule, given_stop, leads_as, leads_end}
 use Rattle.expressions.proofs.Evaluating.{leads_further, leads_given, leads_next}
@@ -39,6 +42,7 @@ use Rattle.expressions.proofs.Evaluating.{leads_further, leads_given, leads_next
 abbrev onto : Files → Rest → Run Flow → Run Flow
 onto files (Others left ss) r = follow r (λ flow. carry files (on_next flow (do_all (folder left) left.few ss)))
 onto files (Rounds left line first second body rounds) r = follow r (λ flow. carry files (after_round flow (rounds_of (one_round left line first second body) rounds)))
+onto files (Calls line f a) r = follow r (λ flow. carry files (call_for_effect line f a))
 onto files End r = with_end r
 onto files (Left file below line) r = follow r (λ flow. carry files (gone_back file below line flow))
 onto files (Refuses line) r = follow r (λ flow. carry files (refuse line refusals.Type []))
@@ -46,6 +50,7 @@ onto files (Refuses line) r = follow r (λ flow. carry files (refuse line refusa
 onto-is : (files : Files) (r : Rest) (p : Plan Flow) (w : World) → carry files (behind r p) w ≡ onto files r (carry files p w)
 onto-is files (Others left ss) p w = refl
 onto-is files (Rounds left line first second body rounds) p w = refl
+onto-is files (Calls line f a) p w = refl
 onto-is files End p w = refl
 onto-is files (Left file below line) p w = refl
 onto-is files (Refuses line) p w = refl
@@ -53,6 +58,7 @@ onto-is files (Refuses line) p w = refl
 onto-after : (files : Files) (r : Rest) (ms : List Mark) (x : Run Flow) → onto files r (after ms x) ≡ after ms (onto files r x)
 onto-after files (Others left ss) ms x = follow-after ms x _
 onto-after files (Rounds left line first second body rounds) ms x = follow-after ms x _
+onto-after files (Calls line f a) ms x = follow-after ms x _
 onto-after files End ms x = with_end-after ms x
 onto-after files (Left file below line) ms x = follow-after ms x _
 onto-after files (Refuses line) ms x = follow-after ms x _
@@ -80,6 +86,7 @@ leads_under (r ∷ rs) l = leads_behind r (leads_under rs l)
 abbrev ends_of_rest : Rest → ℕ
 ends_of_rest (Others left ss) = 0
 ends_of_rest (Rounds left line first second body rounds) = 0
+ends_of_rest (Calls line f a) = 0
 ends_of_rest End = 1
 ends_of_rest (Left file below line) = 0
 ends_of_rest (Refuses line) = 0
@@ -127,6 +134,7 @@ stops_behind : (r : Rest) {files : Files} {p : Plan Flow} {s0 s : Stand} (stop :
     → Given {B = Flow} (λ f. f) files p s0 (Err stop) s → Given {B = Flow} (λ f. f) files (behind r p) s0 (Err stop) (counting n s)
 stops_behind (Others left ss) {s = s} stop n e g = given_counting n (omega (arith, e, counted-none stop)) (given_stop g refl)
 stops_behind (Rounds left line first second body rounds) {s = s} stop n e g = given_counting n (omega (arith, e, counted-none stop)) (given_stop g refl)
+stops_behind (Calls line f a) {s = s} stop n e g = given_counting n (omega (arith, e, counted-none stop)) (given_stop g refl)
 stops_behind End {s = s} stop n e g = given_rule (e ∙ ap (λ k. s.ticks + k) (sym (counted-ended stop))) g
 stops_behind (Left file below line) {s = s} stop n e g = given_counting n (omega (arith, e, counted-none stop)) (given_stop g refl)
 stops_behind (Refuses line) {s = s} stop n e g = given_counting n (omega (arith, e, counted-none stop)) (given_stop g refl)
@@ -142,6 +150,7 @@ stops_under (r ∷ rs) {s = s} stop n e g =
 means-ends : (names : List (List ℕ)) (f : Frame) (r : Rest) → Means names f r → ends_in f ≡ ends_of_rest r
 means-ends names (frames.Block b) r m = sym (ap ends_of_rest m.is)
 means-ends names (frames.Loop l) r m = sym (ap ends_of_rest m.is)
+means-ends names (frames.Call call) r m = sym (ap ends_of_rest m)
 means-ends names frames.End r m = sym (ap ends_of_rest m)
 means-ends names (frames.Left place) r m = sym (ap ends_of_rest m)
 means-ends names (frames.Refuses line) r m = sym (ap ends_of_rest m)
@@ -159,6 +168,7 @@ made_on {old = old} {new = new} {table = table} h m = record { front = front_of_
 means-on : (f : Frame) (r : Rest) {old new : List (List ℕ)} → IsFront old new → Means old f r → Means new f r
 means-on (frames.Block b) r h m = record { table = m.table; made = made_on h m.made; few = m.few; is = m.is }
 means-on (frames.Loop l) r h m = record { table = m.table; made = made_on h m.made; few = m.few; is = m.is }
+means-on (frames.Call call) r h m = m
 means-on frames.End r h m = m
 means-on (frames.Left place) r h m = m
 means-on (frames.Refuses line) r h m = m
@@ -281,6 +291,20 @@ moves_block few fs gs rs b table h is m l = record {
   };
 }
 
+-- so does a call
+pub moves_call : (fs gs : List Frame) (rs : List Rest) (call : PendingCall) {files : Files} {whole : Plan Flow} {s0 s : Stand}
+    → Stacked s.names fs rs → gs ≡ fs ++ frames.Call call ∷ []
+    → Leads files whole s0 (behind_all rs (call_for_effect call.line call.function (arguments_data call.arguments))) s → Moves files whole s0 (Ok Next) gs s
+moves_call fs gs rs call h is l =
+    let r : Rest = Calls call.line call.function (arguments_data call.arguments) in
+    record {
+      moves = record {
+        rests = rs ++ r ∷ [];
+        stacked = stacked_top fs gs rs (frames.Call call) r is h refl;
+        leads = leads_laid rs r {others = λ _. call_for_effect call.line call.function (arguments_data call.arguments)} refl l;
+      };
+    }
+
 abbrev pub rounds_rest : Bool → List (List ℕ) → LoopRest → Rest
 rounds_rest few table l = Rounds (bounds few l.left) l.head.line (name_at table l.head.first) (option_map (name_at table) l.head.second)
     (block_by table l.code.value (statements_of l.code.value l.head.body)) (rounds_left l)
@@ -299,18 +323,14 @@ moves_loop few fs gs rs r table h is m l = record {
 
 -- ---- the whole run
 
-stepped_then : {files : Files} {whole rest : Plan Flow} {s0 s1 s2 : Stand} (result : Result Flow Stop) {fs : List Frame} → Leads files whole s0 rest s1 → Stepped files rest s1 result fs s2 → Stepped files whole s0 result fs s2
-stepped_then (Ok flow) l m = record { steps = record { rests = m.steps.rests; stacked = m.steps.stacked; leads = leads_further l m.steps.leads } }
-stepped_then (Err stop) l m = record { steps = leads_end l m.steps }
-
 -- one step more
 pub step_then : {files : Files} {whole : Plan Flow} {s0 s1 s2 : Stand} (fs gs hs : List Frame) (f : Frame) (flow : Flow) (result : Result Flow Stop) → gs ≡ fs ++ f ∷ []
     → Moved files whole s0 flow gs s1
-    → ((rests : List Rest) (rest : Rest) → Stacked s1.names fs rests → Means s1.names f rest → Stepped files (behind_all rests (behind rest (give flow))) s1 result hs s2)
-    → Stepped files whole s0 result hs s2
+    → ((rests : List Rest) (rest : Rest) → Stacked s1.names fs rests → Means s1.names f rest → Moves files (behind_all rests (behind rest (give flow))) s1 result hs s2)
+    → Moves files whole s0 result hs s2
 step_then fs gs hs f flow result is m step =
     let p = popped fs gs f m.rests is m.stacked in
-    stepped_then result (leads_as (ap (λ l. behind_all l (give flow)) p.all ∙ behind_top p.below p.top (give flow)) m.leads) (step p.below p.top p.stacked p.means)
+    moves_then result (leads_as (ap (λ l. behind_all l (give flow)) p.all ∙ behind_top p.below p.top (give flow)) m.leads) (step p.below p.top p.stacked p.means)
 
 -- nothing is left on the stack
 run-ended : {files : Files} {whole : Plan Flow} {s0 s1 : Stand} (names : List (List ℕ)) (rs : List Rest) (flow : Flow) → Stacked names [] rs → Leads files whole s0 (behind_all rs (give flow)) s1 → Given (λ f. f) files whole s0 (Ok flow) s1
@@ -319,12 +339,6 @@ run-ended names (r ∷ rs) flow h l = absurd h.each
 
 pub run_ended : {files : Files} {whole : Plan Flow} {s0 s1 : Stand} (gs : List Frame) (flow : Flow) → gs ≡ [] → Moved files whole s0 flow gs s1 → Given (λ f. f) files whole s0 (Ok flow) s1
 run_ended {s1 = s1} gs flow is m = run-ended s1.names m.rests flow (subst (λ l. Stacked s1.names l m.rests) is m.stacked) m.leads
-
--- the stop of a step is handed on
-pub run_stopped : {files : Files} {whole : Plan Flow} {s0 s1 : Stand} {stop : Stop} {result : Result Flow Stop} → IsErrAnd result (λ e. e ≡ stop)
-    → Given {B = Flow} (λ f. f) files whole s0 (Err stop) s1 → Given (λ f. f) files whole s0 result s1
-run_stopped {result = Ok flow} is g = absurd is
-run_stopped {files = files} {whole = whole} {s0 = s0} {s1 = s1} {result = Err e} is g = subst (λ d. Given {B = Flow} (λ f. f) files whole s0 (Err d) s1) (sym is) g
 
 -- the run is given up
 pub run_none : {files : Files} {whole rest : Plan Flow} {s0 s1 : Stand} {result : Result Flow Stop} → Leads files whole s0 rest s1 → IsErrAnd result (λ e. e ≡ stops.Memory) → Given (λ f. f) files whole s0 result s1

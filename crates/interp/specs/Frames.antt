@@ -6,6 +6,8 @@ use Rattle.code.specs.Statements.{branch_at, name_at, statement_at}
 use Rattle.code.specs.declared.code.Code.{Code}
 use Rattle.code.specs.declared.node.BranchNode.{BranchNode}
 use Rattle.values.specs.View.{data_of}
+use Rattle.values.specs.declared.language_names.functions.Function.{Function}
+use Rattle.arguments.specs.Arguments.{ArgumentsData, arguments_data}
 use Rattle.support.specs.declared.faults.refusal.Refusal.TheVariants as refusals
 use Rattle.syntax.specs.Tree.{StatementTree, Statements, Branches, NoBranch, MoreBranches, branches}
 use Rattle.syntax.specs.ExpressionTree.{ExpressionTree}
@@ -42,6 +44,7 @@ use Rattle.interp.specs.Bounds.{Bounds, bounds}
 use Rattle.interp.specs.Folders.{folder}
 use Rattle.interp.specs.FolderEntries.{folder_in_expression}
 use Rattle.expressions.specs.Rounds.{rounds_in, Round}
+use Rattle.interp.specs.StatementCalls.{call_for_effect}
 use Rattle.interp.specs.Statements.{after_round, branches_of, do_all, does, on_next, rounds_of}
 use Rattle.expressions.specs.Assignments.{assignment_of_round}
 
@@ -53,6 +56,8 @@ pub data Rest : Type 0 where
   Others : Bounds → Statements → Rest
   -- The other iterations of a loop: its line, its names, its statements, and the iterations.
   Rounds : Bounds → ℕ → List ℕ → Option (List ℕ) → Statements → List Round → Rest
+  -- The call of a function, whose value is dropped: its line, the function and its arguments.
+  Calls : ℕ → Function → ArgumentsData → Rest
   -- The end of a rule.
   End : Rest
   -- The way back from a file to this file, its folder and this line.
@@ -77,6 +82,7 @@ abbrev pub behind : Rest → Plan Flow → Plan Flow
 behind (Others left ss) p = p >>= λ flow. on_next flow (do_all (folder left) left.few ss)
 behind (Rounds left line first second body rounds) p =
     p >>= λ flow. after_round flow (rounds_of (one_round left line first second body) rounds)
+behind (Calls line f a) p = p >>= λ _. call_for_effect line f a
 behind End p = ruled p
 behind (Left file folder line) p = p >>= gone_back file folder line
 behind (Refuses line) p = p >>= λ _. refuse line refusals.Type []
@@ -125,6 +131,7 @@ pub record MeansLoop (names : List (List ℕ)) (l : LoopRest) (rest : Rest) : Ty
 abbrev pub Means : List (List ℕ) → Frame → Rest → Type 0
 Means names (frames.Block b) rest = MeansBlock names b rest
 Means names (frames.Loop l) rest = MeansLoop names l rest
+Means names (frames.Call call) rest = rest ≡ Calls call.line call.function (arguments_data call.arguments)
 Means names frames.End rest = rest ≡ End
 Means names (frames.Left place) rest = rest ≡ Left (string_bytes place.file) (string_bytes place.folder) place.line
 Means names (frames.Refuses line) rest = rest ≡ Refuses line
@@ -146,6 +153,7 @@ pub record Stacked (names : List (List ℕ)) (fs : List Frame) (rs : List Rest) 
 abbrev pub ends_in : Frame → ℕ
 ends_in (frames.Block b) = 0
 ends_in (frames.Loop l) = 0
+ends_in (frames.Call call) = 0
 ends_in frames.End = 1
 ends_in (frames.Left place) = 0
 ends_in (frames.Refuses line) = 0
@@ -183,16 +191,6 @@ MovesTo files whole old (Err stop) fs now =
 pub record Moves (files : Files) (whole : Plan Flow) (old : Stand) (result : Result Flow Stop) (fs : List Frame)
     (now : Stand) : Type 0 where
   pub moves : MovesTo files whole old result fs now
-
--- Holds if the stack does the rest of the whole plan, or if the plan stopped.
-abbrev pub StepsTo : Files → Plan Flow → Stand → Result Flow Stop → List Frame → Stand → Type 0
-StepsTo files whole old (Ok flow) fs now = Moved files whole old flow fs now
-StepsTo files whole old (Err stop) fs now = Given {B = Flow} (λ f. f) files whole old (Err stop) now
-
--- The stack does the rest of the whole plan, or the plan stopped, after a whole step.
-pub record Stepped (files : Files) (whole : Plan Flow) (old : Stand) (result : Result Flow Stop) (fs : List Frame)
-    (now : Stand) : Type 0 where
-  pub steps : StepsTo files whole old result fs now
 
 -- The whole plan is to enter this folder, followed by what the stack still does.
 pub record Waits (files : Files) (left : Bounds) (whole : Plan Flow) (old : Stand) (entry : FolderEntry) (fs : List Frame) (now : Stand)
@@ -316,14 +314,6 @@ module _ {T O L : Type 0} where
       (files : Files) (rests : List Rest) (rest : Rest) → Holds (tree old.tree.now) files
       → Stacked old.store.now.names before rests → Means old.store.now.names frame rest
       → Moves files (behind_all rests (behind rest (give flow))) (stand_of tree out old) result after (stand_of tree out new)
-
-  -- Holds if the call does a whole step: what is left of a frame, on top of what is left of a stack.
-  abbrev pub Steps : (T → TreeState) → (O → OutputState) → Frame → Flow
-      → Context T O L → List Frame → Result Flow Stop → Context T O L → List Frame → Type 0
-  Steps tree out frame flow old before result new after =
-      (files : Files) (rests : List Rest) (rest : Rest) → Holds (tree old.tree.now) files
-      → Stacked old.store.now.names before rests → Means old.store.now.names frame rest
-      → Stepped files (behind_all rests (behind rest (give flow))) (stand_of tree out old) result after (stand_of tree out new)
 
   -- Holds if the call does what this plan does, unless it needs the stack.
   abbrev pub DoesHere : (T → TreeState) → (O → OutputState) → (List (List ℕ) → Bounds → Plan Flow) → Code

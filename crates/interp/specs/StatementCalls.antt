@@ -1,4 +1,4 @@
--- Defines what a call does that is a statement, up to the folder that it enters.
+-- Defines what a call does that is a statement.
 use Rattle.std.specs.Prelude.{ℕ, Bool, true, false, List, string_bytes}
 use Rattle.syntax.specs.ExpressionTree.{ArgumentTrees}
 use Rattle.arguments.specs.Arguments.{ArgumentsData, no_arguments}
@@ -14,7 +14,7 @@ use Rattle.interp.specs.declared.statement_calls.AfterCall.{AfterCall}
 use Rattle.interp.specs.declared.statement_calls.AfterCall.TheVariants as ways
 use Rattle.interp.specs.declared.flow.Flow.{Flow}
 use Rattle.interp.specs.declared.flow.Flow.TheVariants.{Next, Finished}
-use Rattle.interp.specs.Subdir.{AfterCallData, Ends, Enters, action_of, subdir_call}
+use Rattle.interp.specs.Subdir.{AfterCallData, Ends, Enters, action_of, on_call_end, subdir_call}
 use Rattle.expressions.specs.Forms.{check_at_line, function_at}
 use Rattle.interp.specs.Expressions.{arguments_of, plan_of_call}
 
@@ -24,31 +24,39 @@ after_call_view (ways.Ends flow) = Ends flow
 after_call_view (ways.Enters text) = Enters (string_bytes text)
 
 -- Does nothing if a disabler turns `subdir_done` off, and else ends the file.
-abbrev pub subdir_done_unless : Bool → ℕ → ArgumentsData → Plan AfterCallData
-subdir_done_unless true line a = give (Ends Next)
+abbrev pub subdir_done_unless : Bool → ℕ → ArgumentsData → Plan Flow
+subdir_done_unless true line a = give Next
 subdir_done_unless false line a = do
   _ ← check_at_line line (arguments_check (row_of functions.SubdirDone) a)
-  give (Ends Finished)
+  give Finished
 
 -- Runs `subdir_done`. A disabler among its arguments turns it off.
-abbrev pub subdir_done_call : ℕ → ArgumentsData → Plan AfterCallData
+abbrev pub subdir_done_call : ℕ → ArgumentsData → Plan Flow
 subdir_done_call line a = subdir_done_unless (gives_disabler a) line a
 
--- Runs a function as a statement, and drops the value of a function that is only called.
-abbrev pub call_by_action : Action → ℕ → Function → ArgumentsData → Plan AfterCallData
-call_by_action Enter line f a = subdir_call line a
-call_by_action Leave line f a = subdir_done_call line a
-call_by_action Call line f a = do
+-- Calls a function, and drops its value.
+abbrev pub call_for_effect : ℕ → Function → ArgumentsData → Plan Flow
+call_for_effect line f a = do
   _ ← plan_of_call line f a
-  give (Ends Next)
+  give Next
 
--- Runs a function as a statement, on evaluated arguments.
-abbrev pub call_statement : ℕ → Function → ArgumentsData → Plan AfterCallData
-call_statement line f a = call_by_action (action_of f) line f a
+-- `into` is what the run does to enter the folder that a text names.
+module _ (into : List ℕ → Plan Flow) where
+  -- Runs a function as a statement, by what it does as one.
+  abbrev pub call_by_action : Action → ℕ → Function → ArgumentsData → Plan Flow
+  call_by_action Enter line f a = do
+    way ← subdir_call line a
+    on_call_end into way
+  call_by_action Leave line f a = subdir_done_call line a
+  call_by_action Call line f a = call_for_effect line f a
 
--- Runs a call by its name. `into` is what the run does to enter the folder that a text names.
-abbrev pub named_call : (List ℕ → Plan Flow) → ℕ → List ℕ → ArgumentTrees → Plan AfterCallData
-named_call into line name es = do
-  f ← function_at line name
-  a ← arguments_of into no_arguments es
-  call_statement line f a
+  -- Runs a function as a statement, on evaluated arguments.
+  abbrev pub call_statement : ℕ → Function → ArgumentsData → Plan Flow
+  call_statement line f a = call_by_action (action_of f) line f a
+
+  -- Runs a call by its name.
+  abbrev pub named_call : ℕ → List ℕ → ArgumentTrees → Plan Flow
+  named_call line name es = do
+    f ← function_at line name
+    a ← arguments_of into no_arguments es
+    call_statement line f a

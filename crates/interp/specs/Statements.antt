@@ -15,7 +15,6 @@ use Rattle.expressions.specs.declared.conditions.Choice.TheVariants.{Body, Other
 use Rattle.interp.specs.declared.flow.Flow.{Flow}
 use Rattle.interp.specs.declared.flow.Flow.TheVariants.{Next, Continued, Broken, Finished}
 use Rattle.interp.specs.StatementCalls.{named_call}
-use Rattle.interp.specs.Subdir.{on_call_end}
 use Rattle.interp.specs.Expressions.{value_of, given_by}
 
 -- Continues after a statement.
@@ -64,7 +63,7 @@ by_choice Skip body others = give Next
 module _ (into : List ℕ → Plan Flow) where
   -- Runs an expression as a statement. A call may have no value.
   abbrev pub expression_statement : ExpressionTree → Plan Flow
-  expression_statement (FunctionTree name es line) = ruled (named_call into line name es >>= λ way. on_call_end into way)
+  expression_statement (FunctionTree name es line) = ruled (named_call into line name es)
   expression_statement e = do
     _ ← ruled (given_by into e)
     give Next

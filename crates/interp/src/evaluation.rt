@@ -1,28 +1,23 @@
 //! Runs a whole evaluation.
-ghost use Rattle.std.specs.Prelude.{Bool, ◌≡◌, ℕ, [], IfOk, length};
+ghost use Rattle.std.specs.Prelude.{◌≡◌, ℕ, [], IfOk};
 ghost use Rattle.std.specs.Rc.{rc_value};
 ghost use Rattle.machine_file.specs.View.{machine_in};
 ghost use Rattle.ports.specs.Endings.{HasRoom};
 ghost use Rattle.world.specs.Prelude.{Files, Holds, failures_after, settings_view};
 ghost use Rattle.world.specs.Trace.{seen_from_parts};
 ghost use Rattle.interp.specs.FirstStatement.{Reads, RootGives, Starts};
-ghost use Rattle.expressions.specs.Codes.{file_by};
 ghost use Rattle.interp.specs.Cost.{tree_cost};
 ghost use Rattle.interp.specs.Evaluated.{Evaluated, FailsOnce, Ticked};
-ghost use Rattle.interp.specs.Evaluation.{IsSaid, MachineSaid, plan_of_definitions, evaluated_files, root};
+ghost use Rattle.interp.specs.Evaluation.{IsSaid, MachineSaid, evaluated_files};
 
 use crate::evaluator::Evaluator;
-use crate::first_statement::line_before_project;
-use crate::flow::Flow;
 use arguments::no_arguments;
-use code::Code;
 use expressions::Context;
 use machine_file::Machine;
 use ports::{Outputs, Tree};
 use std::alloc::Global;
 use std::rc::Rc;
 use std::sync::ledger::Ledger;
-use support::faults::Refusal;
 use world::{Settings, Steps, Stop, Store, end_rule, ends_keep_up};
 
 /// Holds the inputs of an evaluation, apart from its devices.
@@ -31,39 +26,6 @@ pub struct Inputs<'a> {
     pub settings: &'a Settings,
     /// The bytes of the machine file, or none if there is no machine file.
     pub machine: &'a [u8],
-}
-
-impl<'a, T: Tree, O: Outputs, L: Ledger> Evaluator<'a, T, O, L> {
-    ghost use Rattle.expressions.specs.Contexts.{Answers, Fails, HasRoom as HasRooms, Same};
-
-    // Runs the statements of the root file, the first of which must be a call of `project`.
-    fn root_statements(&mut self, code: Code) -> Result<Flow, Stop>
-        requires known { code.names ≡ length self.old.context.store.now.names }
-        requires room { HasRooms T.seen O.seen self.old.context }
-        ensures same { Same self.old.context self.new.context }
-        ensures device { Fails T.seen O.seen self.old.context result self.new.context }
-        ensures gives { (few : Bool) → Answers T.seen O.seen (λ f. f) (root few (file_by self.old.context.store.now.names code))
-            self.old.context result self.new.context }
-    {
-        match line_before_project(&code) {
-            Some(line) => self.context.refuse(line, Refusal::ProjectCall, ""),
-            None => self.run(code),
-        }
-    }
-
-    // Runs the root file, before any folder is entered.
-    fn definitions(&mut self) -> Result<(), Stop>
-        requires new { self.old.context.store.now.entered ≡ [] }
-        requires room { HasRooms T.seen O.seen self.old.context }
-        ensures same { Same self.old.context self.new.context }
-        ensures device { Fails T.seen O.seen self.old.context result self.new.context }
-        ensures gives { (few : Bool) → Answers T.seen O.seen (λ u. u) (plan_of_definitions few) self.old.context result self.new.context }
-    {
-        let code = self.context.open("")?;
-        let answer = self.root_statements(code);
-        end_rule(answer, self.context.steps)?;
-        Ok(())
-    }
 }
 
 /// Evaluates the definitions of a tree, from its root file on, in a new world.
@@ -90,7 +52,10 @@ pub fn definitions<T: Tree, O: Outputs, L: Ledger>(
         context,
         room: &mut room,
     };
-    evaluator.definitions()
+    let code = evaluator.context.open("")?;
+    let answer = evaluator.run(code);
+    end_rule(answer, evaluator.context.steps)?;
+    Ok(())
 }
 
 /// Returns the machine file that these bytes spell. Fails with the fault of the machine file if they spell none; the tree was not looked at

@@ -14,6 +14,7 @@ use crate::flow::Flow;
 use crate::frames::Frame;
 use crate::halt::{FolderEntry, Halt};
 use crate::statement_calls::{Action, AfterCall, action_of};
+use crate::value_calls::call_function;
 use arguments::{Arguments, gives_disabler};
 use ports::{Outputs, Tree};
 use std::sync::ledger::Ledger;
@@ -60,7 +61,7 @@ impl<'a, T: Tree, O: Outputs, L: Ledger> Evaluator<'a, T, O, L> {
             (λ _. next (plan_of_call line function (arguments_data arguments.now)) (needed_value line))
             self.old.context result self.new.context }
     {
-        let answer = self.call_function(line, function, arguments)?;
+        let answer = call_function(&mut self.context, line, function, arguments)?;
         Ok(self.context.need(line, answer)?)
     }
 

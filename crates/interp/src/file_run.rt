@@ -3,19 +3,22 @@ ghost use Rattle.std.specs.Prelude.{Bool, ◌≡◌, Ok, length};
 ghost use Rattle.interp.specs.Bounds.{bounds};
 ghost use Rattle.expressions.specs.Codes.{file_by};
 ghost use Rattle.interp.specs.Blocks.{BeginsDeep};
+ghost use Rattle.interp.specs.Evaluation.{root};
 ghost use Rattle.interp.specs.Folders.{folder};
-ghost use Rattle.interp.specs.Frames.{Does, Steps, Turns, others_by, parts_by, round_by, rounds_left, walk_left};
+ghost use Rattle.interp.specs.Frames.{Does, Turns, others_by, parts_by, round_by, rounds_left, walk_left};
 ghost use Rattle.interp.specs.Statements.{after_round, do_all, on_next, rounds_of};
 
 use crate::block::Block;
 use crate::block_statements::BlockProgress;
 use crate::evaluator::Evaluator;
+use crate::first_statement::line_before_project;
 use crate::flow::Flow;
 use crate::frame_stack::push_frame;
-use crate::frames::{BlockRest, Frame, LoopRest};
+use crate::frames::{BlockRest, Frame, LoopRest, PendingCall};
 use crate::halt::Halt;
 use crate::loop_rounds::LoopProgress;
 use crate::unwinding::unwind;
+use crate::value_calls::call_function;
 use code::Code;
 use ports::{Outputs, Tree};
 use std::mem::forget;
@@ -27,15 +30,20 @@ use world::Stop;
 impl<'a, T: Tree, O: Outputs, L: Ledger> Evaluator<'a, T, O, L> {
     ghost use Rattle.expressions.specs.Contexts.{Answers, Fails, HasRoom, Same};
 
-    /// Runs the statements of the root file. Folders may be nested 63 deep below the root.
+    /// Runs the statements of the root file, the first of which must be a call of `project`. Folders may be nested 63 deep below the root.
+    /// A fault ends the rules that are left on the stack.
     pub fn run(&mut self, code: Code) -> Result<Flow, Stop>
         requires known { code.names ≡ length self.old.context.store.now.names }
         requires room { HasRoom T.seen O.seen self.old.context }
         ensures same { Same self.old.context self.new.context }
         ensures device { Fails T.seen O.seen self.old.context result self.new.context }
-        ensures gives { (few : Bool) → Answers T.seen O.seen (λ f. f)
-            (do_all (folder (bounds few 63)) few (file_by self.old.context.store.now.names code)) self.old.context result self.new.context }
+        ensures gives { (few : Bool) → Answers T.seen O.seen (λ f. f) (root few (file_by self.old.context.store.now.names code))
+            self.old.context result self.new.context }
     {
+        match line_before_project(&code) {
+            Some(line) => return self.context.refuse(line, Refusal::ProjectCall, ""),
+            None => {}
+        }
         let shared = Rc::new(self.context.alloc, code)?;
         // The code of the root file is needed to the end, and the process ends soon after it, so its parts are not dropped one by one.
         forget(shared.clone()?);
@@ -51,25 +59,15 @@ impl<'a, T: Tree, O: Outputs, L: Ledger> Evaluator<'a, T, O, L> {
             let Some(frame) = stack.pop() else {
                 return Ok(flow);
             };
-            flow = self.step(frame, flow, &mut stack)?;
+            match self.resume(frame, flow, &mut stack) {
+                Ok(next) => flow = next,
+                Err(stop) => return Err(unwind(stop, &stack, self.context.steps)),
+            }
         }
         Err(Stop::Memory)
     }
 
-    // Runs one frame that was taken from the stack. A fault ends the rules that are left on the stack.
-    fn step(&mut self, frame: Frame, flow: Flow, stack: &mut Vec<Frame>) -> Result<Flow, Stop>
-        requires room { HasRoom T.seen O.seen self.old.context }
-        ensures same { Same self.old.context self.new.context }
-        ensures device { Fails T.seen O.seen self.old.context result self.new.context }
-        ensures gives { Steps T.seen O.seen frame flow self.old.context stack.old.items result self.new.context stack.new.items }
-    {
-        match self.resume(frame, flow, stack) {
-            Ok(flow) => Ok(flow),
-            Err(stop) => Err(unwind(stop, stack, self.context.steps)),
-        }
-    }
-
-    // Runs one frame, before a fault ends the rules on the stack.
+    // Runs what is left of a frame that was taken from the stack.
     fn resume(&mut self, frame: Frame, flow: Flow, stack: &mut Vec<Frame>) -> Result<Flow, Stop>
         requires room { HasRoom T.seen O.seen self.old.context }
         ensures same { Same self.old.context self.new.context }
@@ -79,6 +77,17 @@ impl<'a, T: Tree, O: Outputs, L: Ledger> Evaluator<'a, T, O, L> {
         match frame {
             Frame::Block(rest) => self.continue_block(rest, flow, stack),
             Frame::Loop(rest) => self.continue_loop(rest, flow, stack),
+            Frame::Call(call) => {
+                let PendingCall {
+                    line,
+                    function,
+                    mut arguments,
+                } = call;
+                call_function(&mut self.context, line, function, &arguments)?;
+                arguments.clear();
+                *self.room = arguments;
+                Ok(Flow::Next)
+            }
             Frame::End => {
                 self.context.steps.tick();
                 Ok(flow)

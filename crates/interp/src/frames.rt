@@ -5,9 +5,11 @@ ghost use Rattle.expressions.specs.Rounds.{rounds_in};
 ghost use Rattle.world.specs.Prelude.{data_of};
 
 use crate::block::Block;
+use arguments::Arguments;
 use code::Code;
 use std::rc::Rc;
 use values::Value;
+use values::language_names::Function;
 use world::Place;
 
 /// Holds the statements of a block from an index on.
@@ -43,6 +45,14 @@ pub struct LoopRest {
     pub ghost second: { IsTrue (second_within code.value.names head.second) },
 }
 
+/// Holds a call that is a statement, with its evaluated arguments.
+#[derive(Drop)]
+pub struct PendingCall {
+    pub line: usize,
+    pub function: Function,
+    pub arguments: Arguments,
+}
+
 /// Names the work that follows once something has ended.
 #[derive(Drop)]
 pub enum Frame {
@@ -50,6 +60,8 @@ pub enum Frame {
     Block(BlockRest),
     /// The other iterations of a loop.
     Loop(LoopRest),
+    /// A function is called, and its value is dropped.
+    Call(PendingCall),
     /// A rule ends.
     End,
     /// A file is left for the place before.

@@ -3,7 +3,7 @@ ghost use Rattle.std.specs.Prelude.{◌≡◌, ◌&&◌, option_map};
 ghost use Rattle.arguments.specs.RowView.{row_data};
 ghost use Rattle.world.specs.Prelude.{Does, MayFail, arguments_data, data_of};
 ghost use Rattle.world.specs.Fit.{fit};
-ghost use Rattle.interp.specs.Functions.{call, does, has_unwanted_disabler, row_for, row_of, without_disabler};
+ghost use Rattle.interp.specs.Functions.{call, has_unwanted_disabler, row_for, row_of, without_disabler};
 
 use crate::project_functions::{project_function, project_function_row};
 use arguments::{ArgumentKind, Arguments, Row, any_values, gives_disabler, some_texts, values};
@@ -98,15 +98,19 @@ fn fit<T: Tree, O: Outputs>(
     caller.fit(&row_for(function, arguments), arguments)
 }
 
-// Runs a function on arguments that its row accepts.
-fn act<T: Tree, O: Outputs>(
+/// Calls a function on its arguments, after checking them against its row. Returns its value, or `None` if it has none.
+///
+/// A disabler among the arguments of `project` is E9, whatever its row says.
+pub fn call<T: Tree, O: Outputs>(
     caller: &mut Caller<'_, T, O>,
     function: Function,
     arguments: &Arguments,
 ) -> Result<Option<Value>, Stop>
     requires { MayFail T.seen O.seen caller.old }
-    ensures { Does T.seen O.seen (option_map data_of) (does function (arguments_data arguments.now)) caller.old result caller.new }
+    ensures { Does T.seen O.seen (option_map data_of) (call function (arguments_data arguments.now)) caller.old result caller.new }
 {
+    fit(caller, function, arguments)?;
+    refuse_disabler(caller, function, arguments)?;
     match function {
         Function::Assert => assert(caller, arguments),
         Function::Disabler => disabler(caller),
@@ -125,20 +129,4 @@ fn act<T: Tree, O: Outputs>(
         Function::UnsetVariable => unset_variable(caller, arguments),
         Function::Warning => warning(caller, arguments),
     }
-}
-
-/// Calls a function on its arguments, after checking them against its row. Returns its value, or `None` if it has none.
-///
-/// A disabler among the arguments of `project` is E9, whatever its row says.
-pub fn call<T: Tree, O: Outputs>(
-    caller: &mut Caller<'_, T, O>,
-    function: Function,
-    arguments: &Arguments,
-) -> Result<Option<Value>, Stop>
-    requires { MayFail T.seen O.seen caller.old }
-    ensures { Does T.seen O.seen (option_map data_of) (call function (arguments_data arguments.now)) caller.old result caller.new }
-{
-    fit(caller, function, arguments)?;
-    refuse_disabler(caller, function, arguments)?;
-    act(caller, function, arguments)
 }

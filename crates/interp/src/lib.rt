@@ -13,6 +13,9 @@
 //! than assignments, `break` and `continue`. Only then are the rest of the block and the other iterations put on the stack. A loop over
 //! plain statements puts nothing there.
 //!
+//! **A call waits on the stack.** A call that is a statement evaluates its arguments first. It is then put on the stack, and from there the
+//! function is called. So the work of a function has no frame below it of the statement that called it.
+//!
 //! **What an evaluation is given.** [`evaluate`] borrows the settings and the bytes of the machine file. Its world keeps settings of its
 //! own, so a run copies them once, and callers keep theirs.
 #![tactic(auto)]

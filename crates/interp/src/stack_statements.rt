@@ -19,9 +19,8 @@ ghost use Rattle.interp.specs.declared.flow.Flow.TheVariants.{Next};
 use crate::block::Block;
 use crate::evaluator::Evaluator;
 use crate::flow::Flow;
-use crate::frames::{BlockRest, Frame, LoopHead, LoopRest};
+use crate::frames::{BlockRest, Frame, LoopHead, LoopRest, PendingCall};
 use crate::halt::Halt;
-use crate::statement_calls::AfterCall;
 use code::Code;
 use code::node::{BranchNode, CallNode, ForeachNode, IfNode, Node, StatementNode};
 use expressions::{Choice, check_loop};
@@ -98,10 +97,14 @@ impl<'a, T: Tree, O: Outputs, L: Ledger> Evaluator<'a, T, O, L> {
         if let Node::Call { call, line } = &code.nodes[value] {
             let call: &CallNode = call;
             stack.push(Frame::End)?;
-            match self.call_named(code, *line, &call.name, &call.arguments)? {
-                AfterCall::Ends(flow) => Ok(flow),
-                AfterCall::Enters(text) => Ok(self.enter_folder(&text, left, stack)?),
-            }
+            let function = self.context.function_at(*line, &call.name)?;
+            let arguments = self.arguments(code, &call.arguments)?;
+            let call = PendingCall {
+                line: *line,
+                function,
+                arguments,
+            };
+            Ok(self.begin_call(call, left, stack)?)
         } else {
             self.eval_statement(code, value)?;
             Ok(Flow::Next)

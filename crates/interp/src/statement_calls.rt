@@ -1,24 +1,22 @@
 //! Runs calls that are statements.
-ghost use Rattle.std.specs.Prelude.{◌≡◌, ◌≤◌, ℕ, IfOk, length, map};
-ghost use Rattle.code.specs.Nodes.{argument_at};
-ghost use Rattle.syntax.specs.ExpressionTree.{arguments as argument_trees};
+ghost use Rattle.std.specs.Prelude.{◌≡◌, ℕ, Bool, IfOk};
 ghost use Rattle.world.specs.Prelude.{arguments_data, failures_after};
-ghost use Rattle.interp.specs.StatementCalls.{call_statement, subdir_done_call, named_call, after_call_view};
+ghost use Rattle.interp.specs.Bounds.{bounds};
+ghost use Rattle.interp.specs.Folders.{folder};
+ghost use Rattle.interp.specs.Frames.{Acts};
+ghost use Rattle.interp.specs.StatementCalls.{after_call_view, call_statement, subdir_done_call};
 ghost use Rattle.interp.specs.Subdir.{action_of, after_subdir, subdir_call, is_wanted};
 ghost use Rattle.interp.specs.declared.statement_calls.Action.TheVariants.{Call};
-ghost use Rattle.interp.specs.Parts.{above, above_argument};
 
 use crate::evaluator::Evaluator;
 use crate::flow::Flow;
+use crate::frames::{Frame, PendingCall};
 use crate::functions::row;
-use crate::halt::Halt;
 use arguments::{Arguments, are_found, check, gives_disabler};
-use code::Code;
-use code::node::ArgumentNode;
 use ports::{Outputs, Tree};
 use std::alloc::{AllocError, Global};
 use std::sync::ledger::Ledger;
-use values::language_names::{Function, FunctionName};
+use values::language_names::Function;
 use world::Stop;
 
 /// Says what a function does as a statement.
@@ -32,7 +30,7 @@ pub enum Action {
     Leave,
 }
 
-/// Says how a call that is a statement continues.
+/// Says how a call of `subdir` continues.
 #[derive(Drop)]
 pub enum AfterCall {
     /// The statement has ended.
@@ -70,7 +68,6 @@ fn after_subdir(alloc: Global, arguments: &Arguments) -> Result<AfterCall, Alloc
 
 impl<'a, T: Tree, O: Outputs, L: Ledger> Evaluator<'a, T, O, L> {
     ghost use Rattle.expressions.specs.Contexts.{Answers, Fails, HasRoom, Same};
-    ghost use Rattle.interp.specs.Evaluates.{Evaluates, FailsInside};
 
     /// Runs `subdir`, up to its folder (Meson reference manual, `subdir`).
     pub fn subdir(&mut self, line: usize, arguments: &Arguments) -> Result<AfterCall, Stop>
@@ -89,62 +86,47 @@ impl<'a, T: Tree, O: Outputs, L: Ledger> Evaluator<'a, T, O, L> {
     }
 
     // Runs `subdir_done` (Meson reference manual, `subdir_done`).
-    fn subdir_done(&self, line: usize, arguments: &Arguments) -> Result<AfterCall, Stop>
-        ensures gives { Answers T.seen O.seen after_call_view (subdir_done_call line (arguments_data arguments.now))
+    fn subdir_done(&self, line: usize, arguments: &Arguments) -> Result<Flow, Stop>
+        ensures gives { Answers T.seen O.seen (λ f. f) (subdir_done_call line (arguments_data arguments.now))
             self.now.context result self.now.context }
         ensures quiet { (n : ℕ) → failures_after n result ≡ n }
     {
         if gives_disabler(arguments) {
-            return Ok(AfterCall::Ends(Flow::Next));
+            return Ok(Flow::Next);
         }
         let fits = check(self.context.alloc, &row(Function::SubdirDone), arguments)?;
         self.context.fit(line, fits)?;
-        Ok(AfterCall::Ends(Flow::Finished))
+        Ok(Flow::Finished)
     }
 
-    // Runs a function as a statement, on evaluated arguments, and drops its value.
-    fn call_statement(
+    /// Begins a call that is a statement, on evaluated arguments: enters a folder, leaves the file, or puts the call of a function on the
+    /// stack. `left` is how many more folders may be nested.
+    pub fn begin_call(
         &mut self,
-        line: usize,
-        function: Function,
-        arguments: &Arguments,
-    ) -> Result<AfterCall, Stop>
+        call: PendingCall,
+        left: usize,
+        stack: &mut Vec<Frame>,
+    ) -> Result<Flow, Stop>
         requires room { HasRoom T.seen O.seen self.old.context }
         ensures same { Same self.old.context self.new.context }
         ensures device { Fails T.seen O.seen self.old.context result self.new.context }
-        ensures gives { Answers T.seen O.seen after_call_view (call_statement line function (arguments_data arguments.now))
-            self.old.context result self.new.context }
+        ensures gives { (few : Bool) → Acts T.seen O.seen
+            (call_statement (folder (bounds few left)) call.line call.function (arguments_data call.arguments))
+            self.old.context stack.old.items result self.new.context stack.new.items }
     {
-        match action_of(function) {
-            Action::Enter => self.subdir(line, arguments),
-            Action::Leave => self.subdir_done(line, arguments),
+        match action_of(call.function) {
+            Action::Enter => {
+                let after = self.subdir(call.line, &call.arguments)?;
+                match after {
+                    AfterCall::Ends(flow) => Ok(flow),
+                    AfterCall::Enters(text) => self.enter_folder(&text, left, stack),
+                }
+            }
+            Action::Leave => self.subdir_done(call.line, &call.arguments),
             Action::Call => {
-                self.call_function(line, function, arguments)?;
-                Ok(AfterCall::Ends(Flow::Next))
+                stack.push(Frame::Call(call))?;
+                Ok(Flow::Next)
             }
         }
-    }
-
-    /// Runs a call that is a statement, up to the folder that it enters.
-    pub fn call_named(
-        &mut self,
-        code: &Code,
-        line: usize,
-        name: &FunctionName,
-        arguments: &[ArgumentNode],
-    ) -> Result<AfterCall, Halt>
-        requires here { above above_argument arguments.now ≤ length code.now.nodes.items }
-        requires room { HasRoom T.seen O.seen self.old.context }
-        ensures same { Same self.old.context self.new.context }
-        ensures device { FailsInside T.seen O.seen self.old.context result self.new.context }
-        ensures gives { Evaluates T.seen O.seen after_call_view (λ into ts. named_call into line name.now (argument_trees
-            (map (argument_at ts) arguments.now))) code.now self.old.context result self.new.context }
-    {
-        let function = self.context.function_at(line, name)?;
-        let mut arguments = self.arguments(code, arguments)?;
-        let way = self.call_statement(line, function, &arguments)?;
-        arguments.clear();
-        *self.room = arguments;
-        Ok(way)
     }
 }

@@ -15,6 +15,7 @@ fn end_all<L: Ledger>(stack: &[Frame], steps: &mut Steps<L>)
             Frame::End => steps.tick(),
             Frame::Block(_) => {}
             Frame::Loop(_) => {}
+            Frame::Call(_) => {}
             Frame::Left(_) => {}
             Frame::Refuses(_) => {}
         }

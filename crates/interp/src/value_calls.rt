@@ -1,8 +1,8 @@
 //! Calls functions, and methods of values.
-ghost use Rattle.std.specs.Prelude.{◌≡◌, ℕ, false, option_map};
+ghost use Rattle.std.specs.Prelude.{◌≡◌, ℕ, option_map};
 ghost use Rattle.expressions.specs.Contexts.{Answers, Fails, HasRoom, Same};
 ghost use Rattle.world.specs.Prelude.{arguments_data, data_of, failures_after};
-ghost use Rattle.interp.specs.Expressions.{plan_of_call, called_by, method_at, method_called, object_method_at, object_method_called};
+ghost use Rattle.interp.specs.Expressions.{plan_of_call, method_at, method_called, object_method_at, object_method_called};
 
 use crate::evaluator::Evaluator;
 use crate::functions::call;
@@ -17,8 +17,8 @@ use values::language_names::{Function, MethodName};
 use values::{Object, Value};
 use world::{Caller, Stop};
 
-// Calls a function on its arguments, at a line.
-fn carry_out<T: Tree, O: Outputs, L: Ledger>(
+/// Calls a function on evaluated arguments. Returns its value, or `None` if it has none. A disabler among the arguments turns the call off.
+pub fn call_function<T: Tree, O: Outputs, L: Ledger>(
     context: &mut Context<'_, T, O, L>,
     line: usize,
     function: Function,
@@ -27,9 +27,12 @@ fn carry_out<T: Tree, O: Outputs, L: Ledger>(
     requires room { HasRoom T.seen O.seen context.old }
     ensures same { Same context.old context.new }
     ensures device { Fails T.seen O.seen context.old result context.new }
-    ensures gives { Answers T.seen O.seen (option_map data_of) (called_by false line function (arguments_data arguments.now))
+    ensures gives { Answers T.seen O.seen (option_map data_of) (plan_of_call line function (arguments_data arguments.now))
         context.old result context.new }
 {
+    if is_turned_off(function, arguments) {
+        return Ok(Some(Value::of_object(context.alloc, Object::Disabler)?));
+    }
     context.store.at(line);
     let mut caller = Caller {
         alloc: context.alloc,
@@ -65,25 +68,6 @@ fn object_method_of<T: Tree, O: Outputs, L: Ledger>(
 }
 
 impl<'a, T: Tree, O: Outputs, L: Ledger> Evaluator<'a, T, O, L> {
-    /// Calls a function on evaluated arguments. Returns its value, or `None` if it has none.
-    pub fn call_function(
-        &mut self,
-        line: usize,
-        function: Function,
-        arguments: &Arguments,
-    ) -> Result<Option<Value>, Stop>
-        requires room { HasRoom T.seen O.seen self.old.context }
-        ensures same { Same self.old.context self.new.context }
-        ensures device { Fails T.seen O.seen self.old.context result self.new.context }
-        ensures gives { Answers T.seen O.seen (option_map data_of) (plan_of_call line function (arguments_data arguments.now))
-            self.old.context result self.new.context }
-    {
-        if is_turned_off(function, arguments) {
-            return Ok(Some(Value::of_object(self.context.alloc, Object::Disabler)?));
-        }
-        carry_out(&mut self.context, line, function, arguments)
-    }
-
     // Refuses a name that no method of an object has, and an object that may not be queried yet.
     fn object_method_at(&self, line: usize, object: &Object, name: &MethodName) -> Result<(), Stop>
         ensures gives { Answers T.seen O.seen (λ u. u) (object_method_at line object.now name.now)

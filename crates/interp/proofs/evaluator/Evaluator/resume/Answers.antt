@@ -1,11 +1,12 @@
 use Rattle.std.proofs.Common.{Ok, sym, ap, refl, ◌≡◌, string_bytes}
+use Rattle.arguments.specs.Arguments.{arguments_data}
 use Rattle.world.specs.Plan.{give}
 use Rattle.interp.specs.Bounds.{bounds}
 use Rattle.interp.specs.Folders.{folder}
-use Rattle.interp.specs.Frames.{Rest, End, Left, Refuses, behind, behind_all, MeansBlock, MeansLoop, others_by, rounds_left, round_by}
+use Rattle.interp.specs.Frames.{Rest, Calls, End, Left, Refuses, behind, behind_all, MeansBlock, MeansLoop, others_by, rounds_left, round_by}
 use Rattle.interp.specs.Statements.{after_round, do_all, on_next, rounds_of}
 use Rattle.interp.specs.declared.flow.Flow.TheVariants as flows
-use Rattle.expressions.proofs.Evaluating.{given_change, given_give, given_refuse, given_rule, given_then}
+use Rattle.expressions.proofs.Evaluating.{given_change, given_give, given_refuse, given_rule, given_stop, given_then}
 use Rattle.interp.proofs.Stack.{means_as, moves_as, moves_given, moves_next}
 use Rattle.interp.proofs.evaluator.Evaluator.resume.Goals as goal
 
@@ -22,6 +23,23 @@ returns-in-Loop-clause-gives g c = λ files rests rest hold stacked means.
     moves_as (ap (λ (r : Rest). behind_all rests (behind r (give c.args.flow))) (sym m.is))
     (moves_next rests c.args.flow (λ flow. after_round flow (rounds_of (round_by m.table c.in-Loop.rest.code.value (bounds m.few c.in-Loop.rest.left) c.in-Loop.rest.head) (rounds_left c.in-Loop.rest))) c.continue_loop.result hold
     (c.continue_loop.ensures.gives m.few files rests m.table hold stacked m.made))
+
+pub returns-in_err-call_function-in-Call-clause-gives : goal.returns-in_err-call_function-in-Call-clause-gives
+returns-in_err-call_function-in-Call-clause-gives g c = λ files rests rest hold stacked means.
+    let call = c.in-Call.call in
+    let m : rest ≡ Calls call.line call.function (arguments_data call.arguments) = means_as c.args.self.now.context.store.now.names rest c.in-Call.is means in
+    moves_as (ap (λ (r : Rest). behind_all rests (behind r (give c.args.flow))) (sym m))
+    (moves_given c.args.stack.now.items rests c.from_residual.result stacked (given_then {view = λ f. f} {x = c.args.flow} (given_give hold refl)
+    (given_stop (c.in_err-call_function-in-Call.ensures.gives files hold) c.from_residual.ensures.1)))
+
+pub returns-in_ok-call_function-in-Call-clause-gives : goal.returns-in_ok-call_function-in-Call-clause-gives
+returns-in_ok-call_function-in-Call-clause-gives g c = λ files rests rest hold stacked means.
+    let call = c.in-Call.call in
+    let m : rest ≡ Calls call.line call.function (arguments_data call.arguments) = means_as c.args.self.now.context.store.now.names rest c.in-Call.is means in
+    let w = c.in_ok-call_function-in-Call.ensures.gives files hold in
+    moves_as (ap (λ (r : Rest). behind_all rests (behind r (give c.args.flow))) (sym m))
+    (moves_given c.args.stack.now.items rests (Ok flows.Next) stacked (given_then {view = λ f. f} {x = c.args.flow} (given_give hold refl)
+    (given_then w (given_give w.holds refl))))
 
 pub returns-in-End-clause-gives : goal.returns-in-End-clause-gives
 returns-in-End-clause-gives g c = λ files rests rest hold stacked means.

@@ -1,13 +1,23 @@
-use Rattle.std.proofs.Common.{◌-◌, ℕ, append-nil, take, Err, Ok, ap, refl, ◌∙◌, rules}
+use Rattle.std.proofs.Common.{◌-◌, ◌+◌, ℕ, List, append-nil, take, Err, None, Ok, Some, ap, refl, ◌∙◌, rules}
 use Rattle.code.specs.declared.code.Code.{Code}
+use Rattle.world.specs.Plan.{next}
 use Rattle.expressions.specs.Codes.{file_by}
 use Rattle.interp.specs.Bounds.{bounds}
 use Rattle.interp.specs.Folders.{folder}
+use Rattle.interp.specs.Frames.{unwound_rules}
 use Rattle.interp.specs.Statements.{do_all}
-use Rattle.interp.proofs.Ending.{moved_as, run_begun}
-use Rattle.expressions.proofs.Evaluating.{given_none}
-use Rattle.interp.proofs.Stack.{made_now, run_ended, run_none, run_stopped, step_then}
+use Rattle.interp.specs.declared.frames.Frame.{Frame}
+use Rattle.interp.proofs.Ending.{given_unwound, moved_as, run_begun}
+use Rattle.expressions.proofs.Evaluating.{given_as, given_give, given_none, given_refused, given_then}
+use Rattle.interp.proofs.Stack.{made_now, run_ended, run_none, step_then}
+use Rattle.interp.proofs.Starting.{begins_at}
 use Rattle.interp.proofs.evaluator.Evaluator.run.Goals as goal
+
+pub returns-in-Some-clause-gives : goal.returns-in-Some-clause-gives
+returns-in-Some-clause-gives g c = λ few files hold.
+    let body = file_by c.args.self.now.context.store.now.names c.args.code in
+    given_as (ap (λ p. next p (λ u. do_all (folder (bounds few 63)) few body)) (begins_at body (Some c.in-Some.line) (c.in-Some.ensures c.args.self.now.context.store.now.names)))
+    (given_refused c.refuse.result hold c.refuse.ensures)
 
 pub returns-in_err-shared-clause-gives : goal.returns-in_err-shared-clause-gives
 returns-in_err-shared-clause-gives g c = λ few files hold. given_none hold c.from_residual.ensures.1
@@ -35,21 +45,33 @@ loop-step-preserved g c = record {
   out = search rules;
   done = λ few files hold.
       let m = c.loop-step.invariant.done few files hold in
-      (step_then c.pop.new.self.items c.loop-step.stack.items c.step.new.stack.items c.in-Some.frame c.loop-step.flow (Ok c.in_ok-flow.flow) c.in-Some.ensures.items m
-      (λ rests rest s t. c.in_ok-flow.ensures.gives files rests rest m.leads.holds s t)).steps;
+      (step_then c.pop.new.self.items c.loop-step.stack.items c.resume.new.stack.items c.in-Some-pop.frame c.loop-step.flow (Ok c.in-Ok.next) c.in-Some-pop.ensures.items m
+      (λ rests rest s t. c.in-Ok.ensures.gives files rests rest m.leads.holds s t)).moves;
 }
 
-pub returns-in_err-flow-clause-gives : goal.returns-in_err-flow-clause-gives
-returns-in_err-flow-clause-gives g c = λ few files hold.
+pub returns-in-Err-clause-gives : goal.returns-in-Err-clause-gives
+returns-in-Err-clause-gives g c = λ few files hold.
+    let body = file_by c.args.self.now.context.store.now.names c.args.code in
     let m = c.loop-step.invariant.done few files hold in
-    run_stopped c.from_residual-in_err-flow.ensures.1
-    (step_then c.pop.new.self.items c.loop-step.stack.items c.step.new.stack.items c.in-Some.frame c.loop-step.flow (Err c.in_err-flow.field-0.0) c.in-Some.ensures.items m
-    (λ rests rest s t. c.in_err-flow.ensures.gives files rests rest m.leads.holds s t)).steps
+    given_as (ap (λ p. next p (λ u. do_all (folder (bounds few 63)) few body)) (begins_at body None (c.in-None.ensures c.args.self.now.context.store.now.names)))
+    (given_then {view = λ (u : Unit {0}). u} {x = tt} (given_give hold refl)
+    (given_unwound c.unwind.result c.unwind.new.steps c.unwind.ensures.same
+    (c.unwind.ensures.ticks ∙ ap (λ (fs : List Frame). c.resume.new.self.context.steps.now + unwound_rules c.in-Err.stop fs) c.deref.ensures.value)
+    (step_then c.pop.new.self.items c.loop-step.stack.items c.resume.new.stack.items c.in-Some-pop.frame c.loop-step.flow (Err c.in-Err.stop) c.in-Some-pop.ensures.items m
+    (λ rests rest s t. c.in-Err.ensures.gives files rests rest m.leads.holds s t))))
 
 pub returns-in_default-clause-gives : goal.returns-in_default-clause-gives
-returns-in_default-clause-gives g c = λ few files hold. run_ended c.loop-step.stack.items c.loop-step.flow
+returns-in_default-clause-gives g c = λ few files hold.
+    let body = file_by c.args.self.now.context.store.now.names c.args.code in
+    given_as (ap (λ p. next p (λ u. do_all (folder (bounds few 63)) few body)) (begins_at body None (c.in-None.ensures c.args.self.now.context.store.now.names)))
+    (given_then {view = λ (u : Unit {0}). u} {x = tt} (given_give hold refl)
+    (run_ended c.loop-step.stack.items c.loop-step.flow
     (c.in_default.ensures.items ∙ append-nil c.pop.new.self.items ∙ c.in_default.ensures.rest ∙ ap (λ (n : ℕ). take (n - 1) c.loop-step.stack.items) c.in_default.ensures.cases.0)
-    (c.loop-step.invariant.done few files hold)
+    (c.loop-step.invariant.done few files hold)))
 
 pub returns-clause-gives : goal.returns-clause-gives
-returns-clause-gives g c = λ few files hold. run_none (c.loop-step.invariant.done few files hold).leads refl
+returns-clause-gives g c = λ few files hold.
+    let body = file_by c.args.self.now.context.store.now.names c.args.code in
+    given_as (ap (λ p. next p (λ u. do_all (folder (bounds few 63)) few body)) (begins_at body None (c.in-None.ensures c.args.self.now.context.store.now.names)))
+    (given_then {view = λ (u : Unit {0}). u} {x = tt} (given_give hold refl)
+    (run_none (c.loop-step.invariant.done few files hold).leads refl))
