@@ -20,6 +20,7 @@ if TYPE_CHECKING:
 PLACE = "meson-private/words"
 MACHINE_FILE = "meson-private/machine.ini"  # the one that `meson configure` makes
 MOST_BYTES, MOST_WORDS = 1 << 23, 1 << 16  # of the arguments of a command, with the two lines before them
+SHORT = 1 << 20  # bytes of a file that the command reads
 UNREADABLE = 125  # the status of the command `meson` if it leaves it to these scripts to read the arguments
 FORMS = ("words-1", "words-of-lines-1")
 MESON = os.path.join(os.path.dirname(os.path.dirname(os.path.realpath(__file__))), "meson")
@@ -119,7 +120,8 @@ def configure_again(folder: str, otherwise: str, failed: int | None = None, show
         raise Stop(f"{folder}: its machine file was {machine}, which can't be read again: run `meson setup` again, with a file", failed)
     variables, status = {**os.environ, "HAWKOTTOMAN_CALLED": CALLED}, UNREADABLE
     if "\n" not in "".join([setup.sources, *setup.words]):
-        status = call([MESON, ":again", folder], variables, shows_log)
+        is_short = os.path.getsize(os.path.join(folder, PLACE)) <= SHORT
+        status = call([MESON, ":again", folder, *["short"] * is_short], variables, shows_log)
     if status == UNREADABLE:
         status = call([MESON, "setup", *setup.words], variables, shows_log, cwd=setup.sources)
     if status != 0:

@@ -15,7 +15,6 @@ message.
 """
 from __future__ import annotations
 
-import collections
 import math
 import os
 import re
@@ -25,6 +24,7 @@ import sys
 import threading
 import time
 
+from tools import records as dataclasses
 from tools.command_line import Parser, check_folder, meant
 from tools.document import Document, read_document
 from tools.ending import Stop, one_line, run_script, show, write
@@ -50,7 +50,15 @@ BAD = ("FAIL", "ERROR", "UNEXPECTEDPASS", "TIMEOUT", "INTERRUPT")
 SHOWN, PIECE = 1 << 20, 1 << 16
 # The suite whose tests run alone.
 SERIAL = "serial"
-Result = collections.namedtuple("Result", "test verdict why seconds")
+
+
+@dataclasses.dataclass(frozen=True)
+class Result:
+    """Holds how a test has ended, why, and after how many seconds."""
+    test: Test
+    verdict: str
+    why: str
+    seconds: float
 
 
 def arguments() -> Given:
@@ -157,7 +165,7 @@ class Report:
     """Shows each result, and writes the log."""
 
     def __init__(self, folder: str, tests: list[Test], rounds: int, shown: tuple[str, ...]) -> None:
-        self.total, self.done, self.counts = len(tests) * rounds, 0, collections.Counter()
+        self.total, self.done, self.counts = len(tests) * rounds, 0, dict.fromkeys(COUNTED, 0)
         self.width = max((len(title(test)) for test in tests), default=0)
         self.shown, self.lock = shown, threading.Lock()
         self.path, self.log = log_path(folder, "testlog.txt"), new_log(folder, "testlog.txt")
